@@ -1,0 +1,3 @@
+-- What the code of areas answers, and its laws.
+pub mod Area
+pub mod Laws

@@ -1,0 +1,8 @@
+-- What each call answers, in reading order. Document 01, "Numbers of refusal" and "Calls".
+pub mod Image
+pub mod Areas
+pub mod Refusal
+pub mod Mount
+pub mod Report
+pub mod Lookup
+pub mod Read

@@ -1,0 +1,3 @@
+-- The laws that only this crate's functions cite. Assumes nothing.
+pub mod Word
+pub mod Steps

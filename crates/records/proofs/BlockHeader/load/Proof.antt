@@ -1,0 +1,20 @@
+-- `records::BlockHeader::load` meets its contract.
+use Rattle.records.specs.Headers.{blockHeader}
+use borrow.Author.Needs.{needs}
+use Rattle.records.proofs.BlockHeader.load.Statement.{statement}
+use Rattle.records.proofs.BlockHeader.load.Tie as tie
+
+returns : tie.Need-returns
+unfolding blockHeader
+returns c = cc
+
+pub load-spec : {M : Type 1} → statement M
+load-spec =
+    tie.close
+    (tie.spec
+    (λ c κs. search needs)
+    (λ c κs. search needs)
+    (λ c κs. search needs)
+    (λ c κs. search needs)
+    (λ c κs. search needs)
+    returns)

@@ -1,0 +1,2 @@
+-- What the header types hold.
+pub mod Headers

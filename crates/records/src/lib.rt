@@ -1,0 +1,258 @@
+// Inode and block records: their header types, and the acceptable record at the front of some bytes.
+ghost use mathlib.Core.Path.{_≡_};
+ghost use Prim.Native.Nat.{_+_, _≤_};
+ghost use mathlib.Core.Bool.{cond};
+ghost use lib.ListN.{length, take, drop};
+ghost use lib.Dec.{eqb};
+ghost use Rattle.format.specs.Bytes.{le16, le32};
+ghost use Rattle.format.specs.Crc.{check};
+ghost use Rattle.format.specs.Ids.{isDirectoryId, isFileId, isBlockId};
+ghost use Rattle.format.specs.Record.{
+  inode,
+  block,
+  inodeRule,
+  blockRule,
+  previousRule,
+  nameGood,
+  inodeRules,
+  blockRules,
+  acceptable,
+  declaredSize,
+  recordSize,
+};
+ghost use Rattle.records.specs.Headers.{inodeHeader, blockHeader};
+use crc16::check;
+use fields::load16;
+use fields::load32;
+use fields::wide;
+
+// The id of nothing: no parent, no block before this one.
+pub const NONE: u32 = 0xffffffff;
+// The longest data that a block may hold.
+pub const LONGEST_DATA: u32 = 2048;
+
+const FIRST_FILE_ID: u32 = 0x10000000;
+
+const FIRST_BLOCK_ID: u32 = 0x80000000;
+
+pub struct InodeHeader {
+    pub id: u32,
+    pub sequence: u32,
+    pub parent: u32,
+    // of the name
+    pub length: u32,
+}
+
+pub struct BlockHeader {
+    pub id: u32,
+    pub sequence: u32,
+    pub owner: u32,
+    pub previous: u32,
+    // of the data
+    pub length: u32,
+}
+
+pub fn is_directory_id(id: u32) -> bool
+    ensures { λ r. ⌜ r ≡ isDirectoryId id ⌝ }
+{
+    id < FIRST_FILE_ID
+}
+
+pub fn is_file_id(id: u32) -> bool
+    ensures { λ r. ⌜ r ≡ isFileId id ⌝ }
+{
+    FIRST_FILE_ID <= id && id < FIRST_BLOCK_ID
+}
+
+pub fn is_block_id(id: u32) -> bool
+    ensures { λ r. ⌜ r ≡ isBlockId id ⌝ }
+{
+    FIRST_BLOCK_ID <= id && id < NONE
+}
+
+impl InodeHeader {
+    pub const MAGIC: u32 = 0x925f8bc0;
+
+    pub const SIZE: usize = 20;
+
+    pub const CHECK_OFFSET: usize = 18;
+
+    // The header at the front of `b`.
+    pub fn load(b: &[u8]) -> InodeHeader
+        requires { ⌜ 20 ≤ length (now b) ⌝ }
+        ensures { λ r. ⌜ r ≡ inodeHeader (now (b .entry)) ⌝ }
+    {
+        InodeHeader {
+            id: load32(b, 4),
+            sequence: load32(b, 8),
+            parent: load32(b, 12),
+            length: wide(b[17]),
+        }
+    }
+
+    // Whether id, parent and name length go together.
+    pub fn rule(self) -> bool
+        ensures { λ r. ⌜ r ≡ inodeRule (self .id) (self .parent) (self .length) ⌝ }
+    {
+        if FIRST_BLOCK_ID <= self.id {
+            return false;
+        }
+        if self.id == 0 {
+            return self.parent == NONE && self.length == 0;
+        }
+        if self.parent == NONE {
+            return true;
+        }
+        self.parent < FIRST_FILE_ID && 0 < self.length
+    }
+}
+
+// Whether a block of the id `id` may name `previous` as the one before it.
+fn previous_rule(id: u32, previous: u32) -> bool
+    ensures { λ r. ⌜ r ≡ previousRule id previous ⌝ }
+{
+    if previous == NONE {
+        return true;
+    }
+    if previous == id {
+        return false;
+    }
+    is_block_id(previous)
+}
+
+impl BlockHeader {
+    pub const MAGIC: u32 = 0x53ba23b9;
+
+    pub const SIZE: usize = 24;
+
+    pub const CHECK_OFFSET: usize = 22;
+
+    // The header at the front of `b`.
+    pub fn load(b: &[u8]) -> BlockHeader
+        requires { ⌜ 24 ≤ length (now b) ⌝ }
+        ensures { λ r. ⌜ r ≡ blockHeader (now (b .entry)) ⌝ }
+    {
+        BlockHeader {
+            id: load32(b, 4),
+            sequence: load32(b, 8),
+            owner: load32(b, 12),
+            previous: load32(b, 16),
+            length: load16(b, 20),
+        }
+    }
+
+    // Whether id, owner, previous and data length go together.
+    pub fn rule(self) -> bool
+        ensures { λ r. ⌜ r ≡ blockRule (self .id) (self .owner) (self .previous) (self .length) ⌝ }
+    {
+        if is_block_id(self.id) {} else {
+            return false;
+        }
+        if is_file_id(self.owner) {} else {
+            return false;
+        }
+        if previous_rule(self.id, self.previous) {} else {
+            return false;
+        }
+        0 < self.length && self.length <= LONGEST_DATA
+    }
+}
+
+// Whether a name has no '/' and no NUL.
+pub fn name_good(s: &[u8]) -> bool
+    ensures { λ r. ⌜ r ≡ nameGood (now (s .entry)) ⌝ }
+{
+    let mut i = 0;
+    while i < s.len() {
+        let b = s[i];
+        if b == 0 {
+            return false;
+        }
+        if b == b'/' {
+            return false;
+        }
+        i += 1;
+    }
+    true
+}
+
+// Whether the check field at `offset`, the last of a header of `size` bytes, is right for the record `b`.
+fn check_right(b: &[u8], offset: usize, size: usize) -> bool
+    requires { ⌜ (offset + 2 ≤ length (now b)) × (size ≤ length (now b)) ⌝ }
+    ensures { λ r. ⌜ r ≡ eqb (le16 (now (b .entry)) offset) (check (take offset (now (b .entry))) (drop size (now (b .entry)))) ⌝ }
+{
+    load16(b, offset) == check(&b[..offset], &b[size..]) as u32
+}
+
+fn inode_rules(b: &[u8]) -> bool
+    requires { ⌜ 20 ≤ length (now b) ⌝ }
+    ensures { λ r. ⌜ r ≡ inodeRules (now (b .entry)) ⌝ }
+{
+    if InodeHeader::load(b).rule() {} else {
+        return false;
+    }
+    name_good(&b[InodeHeader::SIZE..])
+}
+
+fn block_rules(b: &[u8]) -> bool
+    requires { ⌜ 24 ≤ length (now b) ⌝ }
+    ensures { λ r. ⌜ r ≡ blockRules (now (b .entry)) ⌝ }
+{
+    BlockHeader::load(b).rule()
+}
+
+// The size of the inode at the front of `t`, which has the magic of one; 0 if it is not acceptable.
+fn inode_size(t: &[u8]) -> usize
+    requires { ⌜ (20 ≤ length (now t)) × (le32 (now t) 0 ≡ inode .magic) ⌝ }
+    ensures { λ r. ⌜ r ≡ recordSize (now (t .entry)) ⌝ }
+{
+    let end = InodeHeader::SIZE + wide(t[17]) as usize;
+    if t.len() < end {
+        return 0;
+    }
+    if inode_rules(&t[..end]) {} else {
+        return 0;
+    }
+    if check_right(&t[..end], InodeHeader::CHECK_OFFSET, InodeHeader::SIZE) {
+        return end;
+    }
+    0
+}
+
+// The same for a block.
+fn block_size(t: &[u8]) -> usize
+    requires { ⌜ (24 ≤ length (now t)) × (le32 (now t) 0 ≡ block .magic) ⌝ }
+    ensures { λ r. ⌜ r ≡ recordSize (now (t .entry)) ⌝ }
+{
+    let end = BlockHeader::SIZE + load16(t, 20) as usize;
+    if t.len() < end {
+        return 0;
+    }
+    if block_rules(&t[..end]) {} else {
+        return 0;
+    }
+    if check_right(&t[..end], BlockHeader::CHECK_OFFSET, BlockHeader::SIZE) {
+        return end;
+    }
+    0
+}
+
+// The size of the acceptable record at the front of `t`, 0 where there is none.
+pub fn record_size(t: &[u8]) -> usize
+    ensures { λ r. ⌜ r ≡ recordSize (now (t .entry)) ⌝ }
+{
+    if t.len() < InodeHeader::SIZE {
+        return 0;
+    }
+    let magic = load32(t, 0);
+    if magic == InodeHeader::MAGIC {
+        return inode_size(t);
+    }
+    if magic != BlockHeader::MAGIC {
+        return 0;
+    }
+    if t.len() < BlockHeader::SIZE {
+        return 0;
+    }
+    block_size(t)
+}

@@ -1,0 +1,1 @@
+// Definitions only, in specs/: what the records of a volume mean.
