@@ -1,0 +1,34 @@
+//! Document 01's program: "reads standard input, cut into areas of 4,096 (2 to
+//! 8, no rest; else `mount 1`)".
+
+#![forbid(unsafe_code)]
+
+use std::io::{self, Read, Write};
+
+const AREA: usize = 4096;
+
+fn main() -> io::Result<()> {
+    let mut image = Vec::new();
+    io::stdin().lock().read_to_end(&mut image)?;
+    io::stdout().lock().write_all(answer(&image).as_bytes())
+}
+
+fn answer(image: &[u8]) -> String {
+    let Some(areas) = areas(image) else { return "mount 1\n".to_string() };
+    let report = nffs_model::report(image, &areas);
+    if report.number != 0 {
+        return format!("mount {}\n", report.number);
+    }
+    format!(
+        "mount 0\ninodes {} live {} stretches {} skipped {}\n",
+        report.inodes, report.live, report.stretches, report.skipped
+    )
+}
+
+fn areas(image: &[u8]) -> Option<Vec<u32>> {
+    let count = image.len() / AREA;
+    if !image.len().is_multiple_of(AREA) || !(2..=nffs_model::mount::DESCRIPTORS).contains(&count) {
+        return None;
+    }
+    Some((0..count).flat_map(|i| [(i * AREA) as u32, AREA as u32]).collect())
+}

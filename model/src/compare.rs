@@ -1,0 +1,410 @@
+//! Two engines on their own copies of one image: answer, whole image, whole
+//! buffer and handle are compared after each call.
+
+use std::collections::BTreeMap;
+use std::fmt::Write;
+use std::ops::Range;
+
+use crate::fault::Fault;
+pub use crate::shrink::shrink;
+use crate::{generate, Create, Handle, Lookup, Open, Read, Report};
+
+/// The calls of document 01.
+pub trait Engine {
+    fn format(&self, image: &mut [u8], areas: &[u32]) -> u32;
+    fn report(&self, image: &[u8], areas: &[u32]) -> Report;
+    fn lookup(&self, image: &[u8], areas: &[u32], base: &[u8], path: &[u8]) -> Lookup;
+    fn open(&self, image: &[u8], areas: &[u32], base: &[u8], path: &[u8]) -> Open;
+    fn read_at(
+        &self,
+        image: &[u8],
+        areas: &[u32],
+        id: u32,
+        position: u32,
+        buffer: &mut [u8],
+    ) -> Read;
+    fn read(&self, image: &[u8], areas: &[u32], handle: &mut Handle, buffer: &mut [u8]) -> Read;
+    fn create(
+        &self,
+        image: &mut [u8],
+        areas: &[u32],
+        base: &[u8],
+        path: &[u8],
+        kind: u32,
+    ) -> Create;
+    fn append(&self, image: &mut [u8], areas: &[u32], base: &[u8], path: &[u8], data: &[u8])
+        -> u32;
+    fn unlink(&self, image: &mut [u8], areas: &[u32], base: &[u8], path: &[u8]) -> u32;
+    fn collect(&self, image: &mut [u8], areas: &[u32]) -> u32;
+}
+
+/// The model; with a fault, a mutant of it.
+#[derive(Clone, Copy, Debug, Default)]
+pub struct Model(#[doc(hidden)] pub Fault);
+
+impl Engine for Model {
+    fn format(&self, image: &mut [u8], areas: &[u32]) -> u32 {
+        crate::write::format(image, areas)
+    }
+    fn report(&self, image: &[u8], areas: &[u32]) -> Report {
+        crate::mount::report(image, areas, self.0)
+    }
+    fn lookup(&self, image: &[u8], areas: &[u32], base: &[u8], path: &[u8]) -> Lookup {
+        crate::lookup::lookup(image, areas, self.0, base, path)
+    }
+    fn open(&self, image: &[u8], areas: &[u32], base: &[u8], path: &[u8]) -> Open {
+        crate::file::open(image, areas, self.0, base, path)
+    }
+    fn read_at(
+        &self,
+        image: &[u8],
+        areas: &[u32],
+        id: u32,
+        position: u32,
+        buffer: &mut [u8],
+    ) -> Read {
+        crate::file::read_at(image, areas, self.0, id, position, buffer)
+    }
+    fn read(&self, image: &[u8], areas: &[u32], handle: &mut Handle, buffer: &mut [u8]) -> Read {
+        crate::file::read(image, areas, self.0, handle, buffer)
+    }
+    fn create(
+        &self,
+        image: &mut [u8],
+        areas: &[u32],
+        base: &[u8],
+        path: &[u8],
+        kind: u32,
+    ) -> Create {
+        crate::write::create(image, areas, self.0, base, path, kind)
+    }
+    fn append(
+        &self,
+        image: &mut [u8],
+        areas: &[u32],
+        base: &[u8],
+        path: &[u8],
+        data: &[u8],
+    ) -> u32 {
+        crate::write::append(image, areas, self.0, base, path, data)
+    }
+    fn unlink(&self, image: &mut [u8], areas: &[u32], base: &[u8], path: &[u8]) -> u32 {
+        crate::write::unlink(image, areas, self.0, base, path)
+    }
+    fn collect(&self, image: &mut [u8], areas: &[u32]) -> u32 {
+        crate::collect::collect(image, areas, self.0)
+    }
+}
+
+/// One step of a case. The first three are no calls: they change what the
+/// calls after them are given.
+#[derive(Clone, Debug, PartialEq, Eq)]
+pub enum Call {
+    /// The area list from here on.
+    Areas(Vec<u32>),
+    /// Bytes of the image overwritten from outside, as far as it reaches.
+    Damage {
+        offset: usize,
+        bytes: Vec<u8>,
+    },
+    /// The handle from here on.
+    Handle {
+        id: u32,
+        position: u32,
+    },
+    Format,
+    Report,
+    Lookup {
+        base: Vec<u8>,
+        path: Vec<u8>,
+    },
+    /// An accepted open also sets the handle.
+    Open {
+        base: Vec<u8>,
+        path: Vec<u8>,
+    },
+    ReadAt {
+        id: u32,
+        position: u32,
+        length: usize,
+    },
+    /// A read of the handle.
+    Read {
+        length: usize,
+    },
+    Create {
+        base: Vec<u8>,
+        path: Vec<u8>,
+        kind: u32,
+    },
+    Append {
+        base: Vec<u8>,
+        path: Vec<u8>,
+        data: Vec<u8>,
+    },
+    Unlink {
+        base: Vec<u8>,
+        path: Vec<u8>,
+    },
+    Collect,
+}
+
+impl Call {
+    pub fn name(&self) -> &'static str {
+        match self {
+            Call::Areas(_) => "Areas",
+            Call::Damage { .. } => "Damage",
+            Call::Handle { .. } => "Handle",
+            Call::Format => "Format",
+            Call::Report => "Report",
+            Call::Lookup { .. } => "Lookup",
+            Call::Open { .. } => "Open",
+            Call::ReadAt { .. } => "ReadAt",
+            Call::Read { .. } => "Read",
+            Call::Create { .. } => "Create",
+            Call::Append { .. } => "Append",
+            Call::Unlink { .. } => "Unlink",
+            Call::Collect => "Collect",
+        }
+    }
+
+    fn is_call(&self) -> bool {
+        !matches!(self, Call::Areas(_) | Call::Damage { .. } | Call::Handle { .. })
+    }
+}
+
+#[derive(Clone, Debug, PartialEq, Eq)]
+pub struct Case {
+    pub image: Vec<u8>,
+    pub areas: Vec<u32>,
+    pub calls: Vec<Call>,
+}
+
+/// An answer's numbers in order, the refusal number first.
+pub type Answer = Vec<u32>;
+
+/// What one engine works on.
+#[derive(Clone, Debug)]
+pub struct Side {
+    pub image: Vec<u8>,
+    pub areas: Vec<u32>,
+    pub handle: Handle,
+    pub buffer: Vec<u8>,
+}
+
+impl Side {
+    pub fn new(case: &Case) -> Side {
+        let (image, areas) = (case.image.clone(), case.areas.clone());
+        Side { image, areas, handle: Handle::default(), buffer: Vec::new() }
+    }
+
+    /// A buffer whose every byte is known, so that a touched one is seen.
+    fn lend(&mut self, length: usize) {
+        self.buffer = (0..length).map(|i| (i * 7 + 13) as u8).collect();
+    }
+
+    pub fn perform(&mut self, engine: &dyn Engine, call: &Call) -> Answer {
+        let Side { image, areas, .. } = self;
+        match call {
+            Call::Areas(list) => areas.clone_from(list),
+            Call::Damage { offset, bytes } => {
+                image.iter_mut().skip(*offset).zip(bytes).for_each(|(old, new)| *old = *new);
+            }
+            Call::Handle { id, position } => self.handle = Handle { id: *id, position: *position },
+            Call::Format => return vec![engine.format(image, areas)],
+            Call::Report => {
+                let r = engine.report(image, areas);
+                return vec![r.number, r.inodes, r.live, r.stretches, r.skipped];
+            }
+            Call::Lookup { base, path } => {
+                let found = engine.lookup(image, areas, base, path);
+                return vec![found.number, found.id, found.kind];
+            }
+            Call::Open { base, path } => {
+                let opened = engine.open(image, areas, base, path);
+                if opened.number == 0 {
+                    self.handle = Handle { id: opened.id, position: opened.position };
+                }
+                return vec![opened.number, opened.id, opened.position];
+            }
+            Call::ReadAt { id, position, length } => {
+                return self.read_at(engine, *id, *position, *length)
+            }
+            Call::Read { length } => return self.read(engine, *length),
+            Call::Create { base, path, kind } => {
+                let created = engine.create(image, areas, base, path, *kind);
+                return vec![created.number, created.id];
+            }
+            Call::Append { base, path, data } => {
+                return vec![engine.append(image, areas, base, path, data)]
+            }
+            Call::Unlink { base, path } => return vec![engine.unlink(image, areas, base, path)],
+            Call::Collect => return vec![engine.collect(image, areas)],
+        }
+        Vec::new()
+    }
+
+    fn read_at(&mut self, engine: &dyn Engine, id: u32, position: u32, length: usize) -> Answer {
+        self.lend(length);
+        let read = engine.read_at(&self.image, &self.areas, id, position, &mut self.buffer);
+        vec![read.number, read.given, read.headers]
+    }
+
+    fn read(&mut self, engine: &dyn Engine, length: usize) -> Answer {
+        self.lend(length);
+        let read = engine.read(&self.image, &self.areas, &mut self.handle, &mut self.buffer);
+        vec![read.number, read.given, read.headers]
+    }
+}
+
+/// How many calls were made, and which numbers each kind of call answered.
+#[derive(Clone, Debug, Default)]
+pub struct Tally {
+    pub calls: u64,
+    pub answers: BTreeMap<(&'static str, u32), u64>,
+}
+
+impl Tally {
+    fn count(&mut self, call: &Call, answer: &Answer) {
+        if call.is_call() {
+            self.calls += 1;
+            *self.answers.entry((call.name(), answer[0])).or_default() += 1;
+        }
+    }
+}
+
+#[derive(Clone, Debug)]
+pub struct Difference {
+    /// Which of the case's calls.
+    pub call: usize,
+    pub what: String,
+}
+
+/// Runs one case on both engines up to the first difference.
+pub fn run(
+    case: &Case,
+    left: &dyn Engine,
+    right: &dyn Engine,
+    tally: &mut Tally,
+) -> Option<Difference> {
+    let (mut a, mut b) = (Side::new(case), Side::new(case));
+    for (call, step) in case.calls.iter().enumerate() {
+        let answers = (a.perform(left, step), b.perform(right, step));
+        tally.count(step, &answers.0);
+        if let Some(what) = difference(&answers, &a, &b) {
+            return Some(Difference { call, what });
+        }
+    }
+    None
+}
+
+fn difference(answers: &(Answer, Answer), a: &Side, b: &Side) -> Option<String> {
+    if answers.0 != answers.1 {
+        return Some(format!("answers {:?} and {:?}", answers.0, answers.1));
+    }
+    if a.handle != b.handle {
+        return Some(format!("handles {:?} and {:?}", a.handle, b.handle));
+    }
+    bytes_differ("image", &a.image, &b.image)
+        .or_else(|| bytes_differ("buffer", &a.buffer, &b.buffer))
+}
+
+fn bytes_differ(what: &str, a: &[u8], b: &[u8]) -> Option<String> {
+    if a == b {
+        return None;
+    }
+    if a.len() != b.len() {
+        return Some(format!("{what} lengths {} and {}", a.len(), b.len()));
+    }
+    let at = (0..a.len()).find(|i| a[*i] != b[*i])?;
+    Some(format!("{what} byte {at}: {:02x} and {:02x}", a[at], b[at]))
+}
+
+/// Runs the generated cases of these seeds. On a difference the answer is the
+/// shrunk case as text, ready to be pasted into a test.
+pub fn compare(seeds: Range<u64>, left: &dyn Engine, right: &dyn Engine) -> Result<Tally, String> {
+    let mut tally = Tally::default();
+    for seed in seeds {
+        let case = generate::case(seed);
+        if run(&case, left, right, &mut tally).is_some() {
+            return Err(format!(
+                "// seed {seed}\n{}",
+                show(&shrink(case, left, right), left, right)
+            ));
+        }
+    }
+    Ok(tally)
+}
+
+/// The first of these seeds whose case tells the engines apart.
+pub fn first_difference(seeds: Range<u64>, left: &dyn Engine, right: &dyn Engine) -> Option<u64> {
+    let differs =
+        |seed: &u64| run(&generate::case(*seed), left, right, &mut Tally::default()).is_some();
+    seeds.into_iter().find(differs)
+}
+
+/// The case as Rust text, with what differs.
+pub fn show(case: &Case, left: &dyn Engine, right: &dyn Engine) -> String {
+    let found = run(case, left, right, &mut Tally::default());
+    let mut text = String::new();
+    if let Some(found) = found {
+        let _ = writeln!(text, "// call {}: {}", found.call, found.what);
+    }
+    let _ = writeln!(text, "Case {{\n    image: bytes(\"{}\"),", hex(&case.image));
+    let _ = writeln!(text, "    areas: vec!{:?},\n    calls: vec![", case.areas);
+    for call in &case.calls {
+        let _ = writeln!(text, "        {},", show_call(call));
+    }
+    text + "    ],\n}\n"
+}
+
+fn show_call(call: &Call) -> String {
+    let text = |bytes: &[u8]| format!("bytes(\"{}\")", hex(bytes));
+    let two = |base: &[u8], path: &[u8]| format!("base: {}, path: {}", text(base), text(path));
+    match call {
+        Call::Areas(list) => format!("Call::Areas(vec!{list:?})"),
+        Call::Damage { offset, bytes } => {
+            format!("Call::Damage {{ offset: {offset}, bytes: {} }}", text(bytes))
+        }
+        Call::Lookup { base, path } => format!("Call::Lookup {{ {} }}", two(base, path)),
+        Call::Open { base, path } => format!("Call::Open {{ {} }}", two(base, path)),
+        Call::Unlink { base, path } => format!("Call::Unlink {{ {} }}", two(base, path)),
+        Call::Create { base, path, kind } => {
+            format!("Call::Create {{ {}, kind: {kind} }}", two(base, path))
+        }
+        Call::Append { base, path, data } => {
+            format!("Call::Append {{ {}, data: {} }}", two(base, path), text(data))
+        }
+        plain => format!("Call::{plain:?}"),
+    }
+}
+
+/// Bytes as hex, a run of 8 or more equal bytes as `ff*100`.
+pub fn hex(bytes: &[u8]) -> String {
+    let mut text = String::new();
+    let mut at = 0;
+    while at < bytes.len() {
+        let run = bytes[at..].iter().take_while(|byte| **byte == bytes[at]).count();
+        if run >= 8 {
+            let _ = write!(text, " {:02x}*{run} ", bytes[at]);
+            at += run;
+        } else {
+            let _ = write!(text, "{:02x}", bytes[at]);
+            at += 1;
+        }
+    }
+    text.trim().to_string()
+}
+
+/// The bytes that `hex` shows. What isn't hex is left out.
+pub fn bytes(text: &str) -> Vec<u8> {
+    text.split_whitespace().flat_map(token).collect()
+}
+
+fn token(token: &str) -> Vec<u8> {
+    let (digits, times) = token.split_once('*').unwrap_or((token, "1"));
+    let values: Vec<u8> =
+        digits.bytes().filter_map(|c| (c as char).to_digit(16)).map(|d| d as u8).collect();
+    let once: Vec<u8> = values.chunks_exact(2).map(|pair| pair[0] << 4 | pair[1]).collect();
+    once.repeat(times.parse().unwrap_or(0))
+}

@@ -1,0 +1,357 @@
+//! The calls of a case. The maker keeps its own copy of the image and runs the
+//! model on it, so that paths often hit and damage has targets.
+
+use super::paths::{name, spell};
+use super::random::Random;
+use super::{FILES, NAMES, SEQUENCES};
+use crate::compare::{Call, Case, Model, Side};
+use crate::fault::Fault;
+use crate::layout::{is_file, Block, Inode, Record, FIRST_BLOCK, FIRST_FILE, NONE, ROOT};
+use crate::mount::{mount, Fate, FileSystem};
+
+/// Makes the calls of a case, running the model along.
+pub struct Maker {
+    r: Random,
+    pub case: Case,
+    side: Side,
+    /// What the image mounts as, if it does.
+    mounted: Option<FileSystem>,
+    /// The good list, when a bad one is in force.
+    good: Vec<u32>,
+    /// An earlier image, whose pages may come back.
+    stale: Vec<u8>,
+}
+
+impl Maker {
+    pub fn new(r: Random, image: Vec<u8>, areas: Vec<u32>) -> Maker {
+        let case = Case { image: image.clone(), areas: areas.clone(), calls: Vec::new() };
+        let side = Side::new(&case);
+        let mounted = mount(&image, &areas, Fault::None).ok();
+        Maker { r, case, side, mounted, good: areas, stale: image }
+    }
+
+    fn push(&mut self, call: Call) {
+        let before = (self.side.image.clone(), self.side.areas.clone());
+        self.side.perform(&Model(Fault::None), &call);
+        self.case.calls.push(call);
+        if before != (self.side.image.clone(), self.side.areas.clone()) {
+            self.mount();
+        }
+    }
+
+    pub fn make(&mut self) {
+        self.start_list();
+        self.populate();
+        let count = self.r.between(4, 24);
+        let harm = if self.r.chance(40) { 12 } else { 0 };
+        for _ in 0..count {
+            if self.r.chance(harm) {
+                self.damage();
+            }
+            if self.r.chance(10) {
+                self.stale = self.side.image.clone();
+            }
+            if self.r.chance(2) {
+                self.change_list();
+            }
+            self.call();
+        }
+        self.push(Call::Report);
+    }
+
+    /// A bare file system gets some files first.
+    fn populate(&mut self) {
+        if self.live().len() == 1 {
+            for _ in 0..self.r.between(2, 6) {
+                let call = self.create();
+                self.push(call);
+                let call = self.append();
+                self.push(call);
+            }
+        }
+    }
+
+    /// The list of the case, sometimes with a tail that isn't looked at.
+    fn start_list(&mut self) {
+        let mut list = self.good.clone();
+        match self.r.below(20) {
+            0 => list.extend([7, 0]),
+            1 => list.extend([0, 0, 3, 4, 5]),
+            2 => list.push(9),
+            _ => {}
+        }
+        if self.r.chance(3) {
+            list = bad_list(&mut self.r, &list, self.side.image.len());
+        }
+        self.case.areas.clone_from(&list);
+        self.side.areas = list;
+        self.mount();
+    }
+
+    /// Another order, fewer entries, a bad list, or the good one again.
+    fn change_list(&mut self) {
+        let mut pairs: Vec<Vec<u32>> = self.good.chunks(2).map(<[u32]>::to_vec).collect();
+        match self.r.below(4) {
+            0 => self.r.shuffle(&mut pairs),
+            1 => {
+                pairs.pop();
+            }
+            2 => {
+                let list = bad_list(&mut self.r, &self.good, self.side.image.len());
+                return self.push(Call::Areas(list));
+            }
+            _ => {}
+        }
+        self.push(Call::Areas(pairs.concat()));
+    }
+
+    fn mount(&mut self) {
+        self.mounted = mount(&self.side.image, &self.side.areas, Fault::None).ok();
+    }
+
+    fn call(&mut self) {
+        if self.side.areas != self.good && self.r.chance(15) {
+            self.push(Call::Areas(self.good.clone()));
+        }
+        let call = match self.r.below(100) {
+            0..=5 => Call::Report,
+            6..=13 => self.lookup(),
+            14..=21 => self.open(),
+            22..=33 => self.read(),
+            34..=43 => self.read_at(),
+            44..=60 => self.create(),
+            61..=77 => self.append(),
+            78..=88 => self.unlink(),
+            89..=98 => Call::Collect,
+            _ => Call::Format,
+        };
+        self.push(call);
+    }
+
+    fn lookup(&mut self) -> Call {
+        let (base, path) = self.some_path(60);
+        Call::Lookup { base, path }
+    }
+
+    fn open(&mut self) -> Call {
+        let (base, path) = self.some_path(85);
+        Call::Open { base, path }
+    }
+
+    fn create(&mut self) -> Call {
+        let mut names = self.live_names(20);
+        if self.r.chance(85) {
+            names.push(name(&mut self.r));
+        }
+        let (base, path) = spell(&mut self.r, &names);
+        let kind = self.r.pick(&[0, 1, 1, 1, 2, u32::MAX]);
+        Call::Create { base, path, kind }
+    }
+
+    fn append(&mut self) -> Call {
+        let (base, path) = self.some_path(90);
+        let data = self.data();
+        Call::Append { base, path, data }
+    }
+
+    fn unlink(&mut self) -> Call {
+        let (base, path) = self.some_path(70);
+        Call::Unlink { base, path }
+    }
+
+    /// Data of an interesting length; sometimes it reads as records itself.
+    fn data(&mut self) -> Vec<u8> {
+        let block = self.mounted.as_ref().map_or(40, FileSystem::greatest_block);
+        let r = &mut self.r;
+        let length = match r.below(20) {
+            0 => 0,
+            1 => 8192,
+            2 => 8193,
+            3 => r.pick(&[block - 1, block, block + 1]),
+            4 => 2 * block + r.below(3) - 1,
+            5 => r.between(1, 4 * block),
+            _ => r.between(1, 30),
+        };
+        if r.chance(12) {
+            let inode = Inode::new(r.pick(&FILES), r.pick(&SEQUENCES), ROOT, r.pick(&NAMES));
+            let block = Block::new(FIRST_BLOCK + 9, 0, r.pick(&FILES), NONE, b"within");
+            return [inode.bytes(), block.bytes()].concat();
+        }
+        if r.chance(10) {
+            return vec![0xff; length];
+        }
+        r.bytes(length)
+    }
+
+    /// The handle is set anew now and then.
+    fn read(&mut self) -> Call {
+        if self.r.chance(25) {
+            let (id, position) = self.id_and_position();
+            self.push(Call::Handle { id, position });
+        }
+        if !is_file(self.side.handle.id) && self.r.chance(80) {
+            let call = self.open();
+            self.push(call);
+        }
+        let length = self.buffer_length(self.side.handle.id);
+        Call::Read { length }
+    }
+
+    fn read_at(&mut self) -> Call {
+        let (id, position) = self.id_and_position();
+        let length = self.buffer_length(id);
+        Call::ReadAt { id, position, length }
+    }
+
+    fn size(&self, id: u32) -> usize {
+        let Some(fs) = &self.mounted else { return 0 };
+        crate::file::contents(fs, id)
+            .map_or(3, |blocks| blocks.iter().map(|block| block.data.len()).sum())
+    }
+
+    fn buffer_length(&mut self, id: u32) -> usize {
+        let size = self.size(id);
+        match self.r.below(5) {
+            0 => self.r.below(3),
+            1 => size,
+            2 => size + 1,
+            _ => self.r.below(size + 20),
+        }
+    }
+
+    fn id_and_position(&mut self) -> (u32, u32) {
+        let live: Vec<u32> = self.live().into_iter().filter(|id| is_file(*id)).collect();
+        let r = &mut self.r;
+        let id = if !live.is_empty() && r.chance(85) {
+            r.pick(&live)
+        } else {
+            r.pick(&[ROOT, 1, FIRST_FILE, FIRST_FILE + 1, 0x7fff_ffff, FIRST_BLOCK, NONE])
+        };
+        let size = self.size(id);
+        let position = match self.r.below(10) {
+            0 => size,
+            1 => size + 1,
+            2 => u32::MAX as usize,
+            3 => 0,
+            _ => self.r.below(size + 1),
+        };
+        (id, position as u32)
+    }
+
+    fn live(&self) -> Vec<u32> {
+        let Some(fs) = &self.mounted else { return Vec::new() };
+        fs.inodes().map(|inode| inode.id).filter(|id| fs.fate(*id) == Fate::Live).collect()
+    }
+
+    /// The names of a live inode's path; `files` is the share of files.
+    fn live_names(&mut self, files: usize) -> Vec<Vec<u8>> {
+        let live = self.live();
+        let Some(fs) = &self.mounted else { return vec![name(&mut self.r)] };
+        let wants_file = self.r.chance(files);
+        let of_kind: Vec<u32> =
+            live.iter().copied().filter(|id| is_file(*id) == wants_file).collect();
+        let mut at = if of_kind.is_empty() { self.r.pick(&live) } else { self.r.pick(&of_kind) };
+        let mut names = Vec::new();
+        while at != ROOT {
+            let Some(inode) = fs.inode(at) else { break };
+            names.insert(0, inode.name.clone());
+            at = inode.parent;
+        }
+        names
+    }
+
+    /// Mostly the path of something live, sometimes of nothing, sometimes bad.
+    fn some_path(&mut self, files: usize) -> (Vec<u8>, Vec<u8>) {
+        let mut names = self.live_names(files);
+        if self.r.chance(10) {
+            names.push(name(&mut self.r));
+        }
+        if self.r.chance(6) {
+            names = (0..self.r.between(0, 3)).map(|_| name(&mut self.r)).collect();
+        }
+        spell(&mut self.r, &names)
+    }
+
+    /// Bytes overwritten: inside a record, a header, free space, the scratch
+    /// area or anywhere; or an earlier page comes back.
+    fn damage(&mut self) {
+        let length = self.side.image.len();
+        if length == 0 {
+            return;
+        }
+        if self.r.chance(15) {
+            let offset = self.r.below(length);
+            let end = (offset + self.r.between(1, 64)).min(length);
+            let bytes = self.stale[offset..end].to_vec();
+            return self.push(Call::Damage { offset, bytes });
+        }
+        let offset = self.target().min(length - 1);
+        let old = self.side.image[offset];
+        let bytes = match self.r.below(4) {
+            0 => vec![old ^ 1 << self.r.below(8)],
+            1 => vec![self.r.draw() as u8],
+            2 => {
+                let length = self.r.between(1, 24);
+                self.r.bytes(length)
+            }
+            _ => vec![self.r.pick(&[0, 0xff]); self.r.between(1, 24)],
+        };
+        self.push(Call::Damage { offset, bytes });
+    }
+
+    fn target(&mut self) -> usize {
+        let length = self.side.image.len();
+        let Some(fs) = self.mounted.clone() else { return self.r.below(length) };
+        let area = self.r.pick(&fs.file_areas);
+        let start = area.at.start;
+        match self.r.below(20) {
+            0 => start + self.r.below(24),
+            1 => fs.scratch.at.start + self.r.below(fs.scratch.at.len()),
+            2 => self.r.below(length),
+            3 => start + area.reading.free + self.r.below(2),
+            4 => start + area.reading.free + self.r.below(40),
+            _ if area.reading.records.is_empty() => self.r.below(length),
+            _ => {
+                let taken = self.r.pick(&area.reading.records);
+                start + taken.offset + self.inside(&taken.record)
+            }
+        }
+    }
+
+    /// An offset in a record: its length field, its check, or anywhere.
+    fn inside(&mut self, record: &Record) -> usize {
+        let (length_at, check) = match record {
+            Record::Inode(_) => (17, Inode::CHECK),
+            Record::Block(_) => (20, Block::CHECK),
+        };
+        match self.r.below(5) {
+            0 | 1 => length_at,
+            2 => check,
+            _ => self.r.below(record.size()),
+        }
+    }
+}
+
+/// A list that isn't good, or a strange one that is.
+fn bad_list(r: &mut Random, good: &[u32], image: usize) -> Vec<u32> {
+    let mut list = good.to_vec();
+    if list.len() < 4 {
+        return r.pick(&[vec![], vec![0, 128], vec![0, 0], vec![0], vec![0, image as u32]]);
+    }
+    let i = 2 * r.below(list.len() / 2);
+    match r.below(12) {
+        0 => list[i + 1] = 127,
+        1 => list[i + 1] = 65_537,
+        2 => list[i] = (image as u32).wrapping_sub(list[i + 1]) + 1,
+        3 => list[i] = u32::MAX - r.below(200) as u32,
+        4 => list[i] = list[(i + 2) % list.len()],
+        5 => list[i] += 1,
+        6 => list[i + 1] = 0,
+        7 => list.clear(),
+        8 => list.truncate(2),
+        9 => list[i + 1] = u32::MAX,
+        10 => list = (0..9).flat_map(|k| [k * 128, 128]).collect(),
+        _ => list[i + 1] = list[i + 1].wrapping_sub(1),
+    }
+    list
+}

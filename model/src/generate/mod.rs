@@ -1,0 +1,38 @@
+//! Seeded cases for the comparison.
+
+mod calls;
+mod images;
+mod paths;
+mod random;
+
+pub use random::Random;
+
+use crate::compare::Case;
+use crate::mount::IMAGE;
+use calls::Maker;
+
+const SEQUENCES: [u32; 8] = [0, 0, 1, 2, 5, 7, 0xffff_fffe, 0xffff_ffff];
+const DIRECTORIES: [u32; 6] = [1, 2, 3, 4, 9, 0x0fff_ffff];
+const FILES: [u32; 6] =
+    [0x1000_0000, 0x1000_0001, 0x1000_0002, 0x1000_0003, 0x1000_0009, 0x7fff_ffff];
+const NAMES: [&[u8]; 8] = [b"a", b"b", b"c", b"ab", b".", b"..", b"\xff", b"dose table"];
+
+/// The case of a seed.
+pub fn case(seed: u64) -> Case {
+    let mut r = Random::new(seed);
+    let flash = match r.below(100) {
+        0..=37 => images::life(&mut r),
+        38..=90 => images::tree(&mut r),
+        91..=92 => images::tables(&mut r),
+        93..=95 => images::junk(&mut r),
+        _ => images::headers(&mut r),
+    };
+    let mut image = flash.image;
+    if r.below(200) == 0 {
+        // At the limit of the image's length, or one byte over it.
+        image.resize(r.between(IMAGE, IMAGE + 1), 0xff);
+    }
+    let mut maker = Maker::new(r, image, flash.areas);
+    maker.make();
+    maker.case
+}

@@ -1,0 +1,55 @@
+//! Names, and paths with their bases, good and bad.
+
+use super::random::Random;
+use super::NAMES;
+
+pub fn name(r: &mut Random) -> Vec<u8> {
+    match r.below(40) {
+        0 => vec![b'n'; 255],
+        1 => {
+            let length = r.between(1, 60);
+            vec![b'm'; length]
+        }
+        _ => r.pick(&NAMES).to_vec(),
+    }
+}
+
+/// Base and path that spell these names, mostly.
+pub fn spell(r: &mut Random, names: &[Vec<u8>]) -> (Vec<u8>, Vec<u8>) {
+    let junk_base: [&[u8]; 5] = [b"", b"/", b"/a", b"a", b"//"];
+    if r.chance(8) {
+        return misspell(r, names);
+    }
+    if names.is_empty() || r.chance(60) {
+        return (r.pick(&junk_base).to_vec(), absolute(names));
+    }
+    let at = r.below(names.len());
+    (absolute(&names[..at]), names[at..].join(&b'/'))
+}
+
+fn absolute(names: &[Vec<u8>]) -> Vec<u8> {
+    [b"/".to_vec(), names.join(&b'/')].concat()
+}
+
+/// A bad path or base, or one near the limits.
+fn misspell(r: &mut Random, names: &[Vec<u8>]) -> (Vec<u8>, Vec<u8>) {
+    let good = absolute(names);
+    let relative = good[1..].to_vec();
+    let long = |length: usize, times: usize| absolute(&vec![b"n".repeat(length); times]);
+    match r.below(14) {
+        0 => (b"/".to_vec(), [&good[..], b"/"].concat()),
+        1 => (b"/".to_vec(), [b"/", &good[..]].concat()),
+        2 => (b"/".to_vec(), [&good[..], b"/\0"].concat()),
+        3 => (b"/".to_vec(), Vec::new()),
+        4 => (b"a".to_vec(), relative),
+        5 => (b"".to_vec(), relative),
+        6 => (b"/a/".to_vec(), relative),
+        7 => (b"/a\0".to_vec(), relative),
+        8 => (b"//".to_vec(), good),
+        9 => (b"/".to_vec(), long(255, 1)),
+        10 => (b"/".to_vec(), long(256, 1)),
+        11 => (b"/".to_vec(), long(255, 4)),
+        12 => (long(255, 4), [b"n/", &relative[..]].concat()),
+        _ => (b"/".to_vec(), [long(254, 4), b"n/nnn".to_vec()].concat()),
+    }
+}

@@ -1,0 +1,112 @@
+//! An ordinary Rust model of document 01 (NFFS version 0 over a lent image),
+//! written from the documents alone, to be compared with the implementation.
+//!
+//! Every call answers from the bytes alone, as if the image were mounted anew.
+//! `areas` holds offset and length in turn. `number` is 0 or a refusal; a
+//! refused answer's other numbers are 0.
+
+#![forbid(unsafe_code)]
+
+pub mod area;
+pub mod collect;
+pub mod compare;
+pub mod crc;
+#[doc(hidden)]
+pub mod fault;
+pub mod file;
+pub mod forge;
+pub mod generate;
+pub mod layout;
+pub mod lookup;
+pub mod mount;
+pub mod path;
+pub mod refusal;
+mod shrink;
+pub mod write;
+
+use fault::Fault;
+
+#[derive(Clone, Copy, Debug, Default, PartialEq, Eq)]
+pub struct Report {
+    pub number: u32,
+    pub inodes: u32,
+    pub live: u32,
+    pub stretches: u32,
+    pub skipped: u32,
+}
+
+/// `kind` is 0 for a directory and 1 for a file.
+#[derive(Clone, Copy, Debug, Default, PartialEq, Eq)]
+pub struct Lookup {
+    pub number: u32,
+    pub id: u32,
+    pub kind: u32,
+}
+
+#[derive(Clone, Copy, Debug, Default, PartialEq, Eq)]
+pub struct Open {
+    pub number: u32,
+    pub id: u32,
+    pub position: u32,
+}
+
+#[derive(Clone, Copy, Debug, Default, PartialEq, Eq)]
+pub struct Read {
+    pub number: u32,
+    pub given: u32,
+    pub headers: u32,
+}
+
+#[derive(Clone, Copy, Debug, Default, PartialEq, Eq)]
+pub struct Create {
+    pub number: u32,
+    pub id: u32,
+}
+
+/// "a file handle holds an id and a position".
+#[derive(Clone, Copy, Debug, Default, PartialEq, Eq)]
+pub struct Handle {
+    pub id: u32,
+    pub position: u32,
+}
+
+pub fn format(image: &mut [u8], areas: &[u32]) -> u32 {
+    write::format(image, areas)
+}
+
+pub fn report(image: &[u8], areas: &[u32]) -> Report {
+    mount::report(image, areas, Fault::None)
+}
+
+pub fn lookup(image: &[u8], areas: &[u32], base: &[u8], path: &[u8]) -> Lookup {
+    lookup::lookup(image, areas, Fault::None, base, path)
+}
+
+pub fn open(image: &[u8], areas: &[u32], base: &[u8], path: &[u8]) -> Open {
+    file::open(image, areas, Fault::None, base, path)
+}
+
+pub fn read_at(image: &[u8], areas: &[u32], id: u32, position: u32, buffer: &mut [u8]) -> Read {
+    file::read_at(image, areas, Fault::None, id, position, buffer)
+}
+
+pub fn read(image: &[u8], areas: &[u32], handle: &mut Handle, buffer: &mut [u8]) -> Read {
+    file::read(image, areas, Fault::None, handle, buffer)
+}
+
+/// `kind` 0 creates a directory, every other number a file.
+pub fn create(image: &mut [u8], areas: &[u32], base: &[u8], path: &[u8], kind: u32) -> Create {
+    write::create(image, areas, Fault::None, base, path, kind)
+}
+
+pub fn append(image: &mut [u8], areas: &[u32], base: &[u8], path: &[u8], data: &[u8]) -> u32 {
+    write::append(image, areas, Fault::None, base, path, data)
+}
+
+pub fn unlink(image: &mut [u8], areas: &[u32], base: &[u8], path: &[u8]) -> u32 {
+    write::unlink(image, areas, Fault::None, base, path)
+}
+
+pub fn collect(image: &mut [u8], areas: &[u32]) -> u32 {
+    collect::collect(image, areas, Fault::None)
+}

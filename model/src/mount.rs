@@ -1,0 +1,299 @@
+//! "What a call is given", checks 1 to 7, "What counts" and the report.
+
+use std::collections::{BTreeMap, BTreeSet};
+use std::ops::Range;
+
+use crate::area::{self, Reading};
+use crate::fault::Fault;
+use crate::layout::{is_block, AreaHeader, Block, Inode, Record, ROOT};
+use crate::refusal::Refusal;
+use crate::Report;
+
+/// "An image: 0 to 65,536 bytes".
+pub const IMAGE: usize = 65_536;
+/// "1 to 8 entries".
+pub const DESCRIPTORS: usize = 8;
+/// "each length 128 to 65,536".
+pub const SHORTEST_AREA: u64 = 128;
+pub const LONGEST_AREA: u64 = 65_536;
+/// "tables of 64 and 256 places".
+pub const INODES: usize = 64;
+pub const BLOCKS: usize = 256;
+
+/// A good descriptor: the bytes of the image that it describes.
+pub type Descriptor = Range<usize>;
+
+/// "The list ends at the first length 0 or at its end; later entries aren't
+/// looked at." An odd last number isn't looked at either.
+fn entries(areas: &[u32]) -> Vec<(u64, u64)> {
+    areas
+        .chunks_exact(2)
+        .map(|pair| (u64::from(pair[0]), u64::from(pair[1])))
+        .take_while(|(_, length)| *length != 0)
+        .collect()
+}
+
+/// Check 1: "Good: 1 to 8 entries, each length 128 to 65,536, each wholly
+/// inside the image, no two overlapping."
+pub fn descriptors(image: &[u8], areas: &[u32]) -> Result<Vec<Descriptor>, Refusal> {
+    let entries = entries(areas);
+    let count = (1..=DESCRIPTORS).contains(&entries.len());
+    let each = entries.iter().all(|(offset, length)| {
+        (SHORTEST_AREA..=LONGEST_AREA).contains(length) && offset + length <= image.len() as u64
+    });
+    if image.len() > IMAGE || !count || !each || overlap(&entries) {
+        return Err(Refusal::Descriptors);
+    }
+    Ok(entries
+        .iter()
+        .map(|(offset, length)| *offset as usize..(offset + length) as usize)
+        .collect())
+}
+
+fn overlap(entries: &[(u64, u64)]) -> bool {
+    entries.iter().enumerate().any(|(i, (a, a_length))| {
+        entries[..i].iter().any(|(b, b_length)| *a < b + b_length && *b < a + a_length)
+    })
+}
+
+/// A descriptor with a valid header.
+#[derive(Clone, Debug)]
+pub struct Area {
+    pub at: Descriptor,
+    pub header: AreaHeader,
+}
+
+/// A file area as it reads.
+#[derive(Clone, Debug)]
+pub struct FileArea {
+    pub at: Descriptor,
+    pub header: AreaHeader,
+    pub reading: Reading,
+}
+
+/// An inode "is live when ... lead to the root", "dead when that chain meets a
+/// deletion record", "Otherwise it is an orphan."
+#[derive(Clone, Copy, Debug, PartialEq, Eq)]
+pub enum Fate {
+    Live,
+    Dead,
+    Orphan,
+}
+
+/// A mounted file system: what checks 1 to 7 found, and the records that count.
+#[derive(Clone, Debug)]
+pub struct FileSystem {
+    /// In descriptor order.
+    pub file_areas: Vec<FileArea>,
+    pub scratch: Area,
+    /// For each id "the one with the greatest sequence among all records in
+    /// file areas".
+    counting: BTreeMap<u32, Record>,
+    pub fault: Fault,
+}
+
+/// Checks 1 to 7, in order.
+pub fn mount(image: &[u8], areas: &[u32], fault: Fault) -> Result<FileSystem, Refusal> {
+    let descriptors = descriptors(image, areas)?;
+    let valid = valid_areas(image, &descriptors);
+    let (scratches, files): (Vec<Area>, Vec<Area>) =
+        valid.into_iter().partition(|area| area.header.is_scratch());
+    no_shared_id(&files)?;
+    let [scratch] = &scratches[..] else { return Err(Refusal::Areas) };
+    if files.is_empty() {
+        return Err(Refusal::Areas);
+    }
+    if files.iter().any(|file| file.at.len() > scratch.at.len()) {
+        return Err(Refusal::ShortScratch);
+    }
+    let mut file_areas: Vec<FileArea> = files.iter().map(|area| read(image, area, fault)).collect();
+    if fault == Fault::ScratchRead {
+        file_areas.push(read(image, scratch, fault));
+    }
+    let counting = counting(&file_areas, fault)?;
+    if fault == Fault::ScratchRead {
+        file_areas.pop();
+    }
+    Ok(FileSystem { file_areas, scratch: scratch.clone(), counting, fault })
+}
+
+/// "A descriptor without a valid header is passed over."
+fn valid_areas(image: &[u8], descriptors: &[Descriptor]) -> Vec<Area> {
+    let area = |at: &Descriptor| {
+        let header = AreaHeader::valid(&image[at.clone()])?;
+        Some(Area { at: at.clone(), header })
+    };
+    descriptors.iter().filter_map(area).collect()
+}
+
+/// Check 2.
+fn no_shared_id(files: &[Area]) -> Result<(), Refusal> {
+    let ids: BTreeSet<u8> = files.iter().map(|area| area.header.id).collect();
+    if ids.len() < files.len() {
+        return Err(Refusal::SharedAreaId);
+    }
+    Ok(())
+}
+
+fn read(image: &[u8], area: &Area, fault: Fault) -> FileArea {
+    let reading = area::read(&image[area.at.clone()], fault);
+    FileArea { at: area.at.clone(), header: area.header, reading }
+}
+
+fn accepted(file_areas: &[FileArea]) -> impl Iterator<Item = &Record> {
+    file_areas.iter().flat_map(|area| area.reading.records.iter().map(|taken| &taken.record))
+}
+
+/// Checks 5 to 7, and the record that counts for each id.
+fn counting(file_areas: &[FileArea], fault: Fault) -> Result<BTreeMap<u32, Record>, Refusal> {
+    let ids: BTreeSet<u32> = accepted(file_areas).map(Record::id).collect();
+    if fault == Fault::SixBeforeFive {
+        no_clash(file_areas, fault)?;
+    }
+    tables_hold(&ids, 0, 0, fault)?;
+    no_clash(file_areas, fault)?;
+    if !ids.contains(&ROOT) {
+        return Err(Refusal::NoRoot);
+    }
+    Ok(greatest(file_areas, fault))
+}
+
+/// Check 5, also for a write, "with the new records counted in".
+fn tables_hold(
+    ids: &BTreeSet<u32>,
+    new_inodes: usize,
+    new_blocks: usize,
+    fault: Fault,
+) -> Result<(), Refusal> {
+    let inode_places = INODES + usize::from(fault == Fault::OneInodeMore);
+    let block_places = BLOCKS + usize::from(fault == Fault::OneBlockMore);
+    let blocks = ids.iter().filter(|id| is_block(**id)).count();
+    let inodes = ids.len() - blocks;
+    if inodes + new_inodes > inode_places || blocks + new_blocks > block_places {
+        return Err(Refusal::Tables);
+    }
+    Ok(())
+}
+
+/// Check 6, about any two versions, the counting ones and the others. The
+/// fields of accepted records are equal just when all their bytes are.
+fn no_clash(file_areas: &[FileArea], fault: Fault) -> Result<(), Refusal> {
+    let mut versions: BTreeMap<(u32, u32), &Record> = BTreeMap::new();
+    for record in accepted(file_areas) {
+        let (id, sequence) = (record.id(), record.sequence());
+        if fault == Fault::ClashWithGreatestOnly {
+            versions.retain(|(other, old), _| *other != id || *old >= sequence);
+        }
+        let first = *versions.entry((id, sequence)).or_insert(record);
+        if first != record
+            && !(fault == Fault::ClashWithoutReserved && only_reserved(first, record))
+        {
+            return Err(Refusal::Clash);
+        }
+    }
+    Ok(())
+}
+
+/// Whether two inodes differ in nothing but the reserved byte.
+fn only_reserved(a: &Record, b: &Record) -> bool {
+    let plain = |inode: &Inode| Inode { reserved: 0, ..inode.clone() };
+    a.inode().is_some() && a.inode().map(plain) == b.inode().map(plain)
+}
+
+/// "The record that counts for an id is the one with the greatest sequence".
+/// Where two have it, they are equal by check 6.
+fn greatest(file_areas: &[FileArea], fault: Fault) -> BTreeMap<u32, Record> {
+    let mut counting: BTreeMap<u32, Record> = BTreeMap::new();
+    for record in accepted(file_areas) {
+        let old = counting.get(&record.id());
+        let newer = old.is_none_or(|old| old.sequence() < record.sequence());
+        if newer || fault == Fault::LastRead {
+            counting.insert(record.id(), record.clone());
+        }
+    }
+    counting
+}
+
+impl FileSystem {
+    /// All accepted records, whichever version, in order of area and place.
+    pub fn accepted(&self) -> impl Iterator<Item = &Record> {
+        accepted(&self.file_areas)
+    }
+
+    pub fn counting(&self, id: u32) -> Option<&Record> {
+        self.counting.get(&id)
+    }
+
+    /// The counting inode records, by id.
+    pub fn inodes(&self) -> impl Iterator<Item = &Inode> {
+        self.counting.values().filter_map(Record::inode)
+    }
+
+    /// The counting block records, by id.
+    pub fn blocks(&self) -> impl Iterator<Item = &Block> {
+        self.counting.values().filter_map(Record::block)
+    }
+
+    pub fn inode(&self, id: u32) -> Option<&Inode> {
+        self.counting(id).and_then(Record::inode)
+    }
+
+    /// Follows the counting records of the inode and its parents.
+    pub fn fate(&self, id: u32) -> Fate {
+        let orphan = if self.fault == Fault::OrphanIsDead { Fate::Dead } else { Fate::Orphan };
+        let mut seen = BTreeSet::new();
+        let mut at = id;
+        loop {
+            let Some(inode) = self.inode(at) else { return orphan };
+            if at == ROOT {
+                return Fate::Live;
+            }
+            if inode.is_deletion() {
+                let own = at == id || self.fault != Fault::DeathNotInherited;
+                return if own { Fate::Dead } else { Fate::Live };
+            }
+            if !seen.insert(at) {
+                return orphan;
+            }
+            at = inode.parent;
+        }
+    }
+
+    /// 5 "tested again ... with the new records counted in".
+    pub fn tables_hold(&self, new_inodes: usize, new_blocks: usize) -> Result<(), Refusal> {
+        let ids = self.counting.keys().copied().collect();
+        tables_hold(&ids, new_inodes, new_blocks, self.fault)
+    }
+
+    /// "The greatest block size is the smaller of 2,048 and half the shortest
+    /// file area's length, rounded down, less 24."
+    pub fn greatest_block(&self) -> usize {
+        let shortest = self.file_areas.iter().map(|area| area.at.len()).min().unwrap_or(0);
+        if self.fault == Fault::SmallerBlocks {
+            return greatest_block(shortest - AreaHeader::SIZE);
+        }
+        greatest_block(shortest)
+    }
+}
+
+/// The greatest block size by the shortest area's length, 128 or more.
+pub fn greatest_block(shortest: usize) -> usize {
+    (shortest / 2 - Block::HEADER).min(crate::layout::BLOCK_DATA)
+}
+
+/// "report: distinct inode ids, live ones, damage stretches, damage bytes over
+/// file areas."
+pub fn report(image: &[u8], areas: &[u32], fault: Fault) -> Report {
+    match mount(image, areas, fault) {
+        Ok(fs) => Report {
+            number: 0,
+            inodes: fs.inodes().count() as u32,
+            live: fs.inodes().filter(|inode| fs.fate(inode.id) == Fate::Live).count() as u32,
+            stretches: fs.file_areas.iter().map(|area| area.reading.damage.len()).sum::<usize>()
+                as u32,
+            skipped: fs.file_areas.iter().map(|area| area.reading.damage_bytes()).sum::<usize>()
+                as u32,
+        },
+        Err(refusal) => Report { number: refusal.number(), ..Report::default() },
+    }
+}

@@ -1,0 +1,51 @@
+//! "Numbers of refusal, in order of check". Success is 0.
+
+#[derive(Clone, Copy, Debug, PartialEq, Eq)]
+pub enum Refusal {
+    /// image over 65,536 bytes or descriptors not good
+    Descriptors = 1,
+    /// two file areas have one id
+    SharedAreaId = 2,
+    /// no file area, or not exactly one scratch area
+    Areas = 3,
+    /// scratch shorter than a file area
+    ShortScratch = 4,
+    /// more than 64 inode ids or 256 block ids in accepted records
+    Tables = 5,
+    /// two records of one id, same sequence, different bytes
+    Clash = 6,
+    /// no record of id 0
+    NoRoot = 7,
+    /// bad path or name; over 8,192 bytes to append; creating or unlinking the
+    /// root
+    BadRequest = 8,
+    /// no such child, or a handle's id isn't live
+    Absent = 9,
+    /// two or more live children of that name
+    Ambiguous = 10,
+    /// a file where a directory is needed, or the reverse
+    WrongKind = 11,
+    /// create: the name is there (once or oftener)
+    NameTaken = 12,
+    /// read or append of a broken file
+    Broken = 13,
+    /// read begins after the end
+    AfterEnd = 14,
+    /// a record fits in no clean file area
+    NoRoom = 15,
+    /// unlink: sequence is ffffffff
+    LastSequence = 16,
+    /// collect: no file area is as long as the scratch area
+    NoSource = 17,
+}
+
+impl Refusal {
+    pub fn number(self) -> u32 {
+        self as u32
+    }
+}
+
+/// The number of a call that answers nothing else.
+pub fn number(result: Result<(), Refusal>) -> u32 {
+    result.map_or_else(Refusal::number, |()| 0)
+}

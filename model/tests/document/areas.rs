@@ -1,0 +1,173 @@
+//! "Acceptable record" and "How an area is read".
+
+use nffs_model::area::{read, Reading, Stretch};
+use nffs_model::fault::Fault;
+use nffs_model::layout::{AreaHeader, Block, Inode, Record, NONE, ROOT};
+
+use crate::common::*;
+
+fn accepted(record: Vec<u8>) -> bool {
+    Record::acceptable(&record).is_some()
+}
+
+fn inode(id: u32, parent: u32, name: &[u8]) -> bool {
+    accepted(Inode::new(id, 3, parent, name).bytes())
+}
+
+fn block(id: u32, owner: u32, previous: u32) -> bool {
+    accepted(Block::new(id, 3, owner, previous, b"data").bytes())
+}
+
+#[test]
+fn acceptable_inodes() {
+    assert!(inode(0, NONE, b""));
+    assert!(!inode(0, NONE, b"x") && !inode(0, 0, b"x") && !inode(0, 1, b""));
+    assert!(inode(1, 0, b"x") && inode(0x0fff_ffff, 0x0fff_ffff, b"x"));
+    assert!(inode(0x7fff_ffff, 0x0fff_ffff, b"x") && !inode(0x8000_0000, 0, b"x"));
+    assert!(!inode(NONE, 0, b"x") && !inode(NONE, NONE, b""));
+    assert!(!inode(1, 0x1000_0000, b"x") && !inode(1, 0x8000_0000, b"x"));
+    assert!(!inode(1, 0, b"x/y") && !inode(1, 0, b"\0") && !inode(1, 0, b""));
+    assert!(inode(1, 0, b".") && inode(1, 0, b"\xff\n"));
+}
+
+#[test]
+fn acceptable_deletion_records() {
+    assert!(inode(1, NONE, b"") && inode(A, NONE, b"name") && inode(A, NONE, &[b'n'; 255]));
+    assert!(!inode(A, NONE, b"a/b") && !inode(A, NONE, b"a\0"));
+}
+
+#[test]
+fn acceptable_blocks() {
+    assert!(block(BLOCK, A, NONE) && block(0xffff_fffe, 0x7fff_ffff, BLOCK));
+    assert!(!block(0x7fff_ffff, A, NONE) && !block(NONE, A, NONE));
+    assert!(
+        !block(BLOCK, 0x0fff_ffff, NONE) && !block(BLOCK, BLOCK, NONE) && !block(BLOCK, NONE, NONE)
+    );
+    assert!(!block(BLOCK, A, BLOCK) && !block(BLOCK, A, 0x7fff_ffff) && !block(BLOCK, A, 0));
+}
+
+/// "Reserved bytes may hold anything".
+#[test]
+fn reserved_bytes() {
+    let inode = Inode { reserved: 0xee, ..Inode::new(A, 0, ROOT, b"a") };
+    assert!(accepted(inode.bytes()));
+    let mut flash = rooted(128);
+    flash.head(0, 0, 9, 255);
+    flash.head(1, 0, 8, 0);
+    assert_eq!(mount(&flash), 0);
+}
+
+/// Magic, check and the end of the area.
+#[test]
+fn header_and_body_lie_inside_the_area() {
+    for record in
+        [Inode::new(A, 0, ROOT, b"abc").bytes(), Block::new(BLOCK, 0, A, NONE, b"abc").bytes()]
+    {
+        assert!(accepted(record.clone()));
+        for end in 0..record.len() {
+            assert!(!accepted(record[..end].to_vec()));
+        }
+        for i in 0..record.len() {
+            let mut other = record.clone();
+            other[i] ^= 4;
+            assert!(!accepted(other));
+        }
+    }
+}
+
+/// An area's bytes: a header and what follows, FF to the length.
+fn area_of(length: usize, parts: &[&[u8]]) -> Vec<u8> {
+    let header = AreaHeader { length: length as u32, count: 0, reserved: 0, id: 0 };
+    let mut area = header.bytes();
+    area.extend(parts.concat());
+    area.resize(length, 0xff);
+    area
+}
+
+fn places(reading: &Reading) -> Vec<usize> {
+    reading.records.iter().map(|taken| taken.offset).collect()
+}
+
+fn damage(reading: &Reading) -> Vec<(usize, usize)> {
+    reading.damage.iter().map(|Stretch { offset, length }| (*offset, *length)).collect()
+}
+
+fn root() -> Vec<u8> {
+    Inode::new(ROOT, 0, NONE, b"").bytes()
+}
+
+#[test]
+fn an_empty_area_is_clean() {
+    let reading = read(&area_of(128, &[]), Fault::None);
+    assert_eq!((places(&reading), damage(&reading), reading.free), (vec![], vec![], 24));
+    assert!(reading.is_clean());
+}
+
+#[test]
+fn stretches_between_records_and_at_the_end() {
+    let reading =
+        read(&area_of(128, &[b"xyz", &root(), b"\xff\xff", &root(), b"\xffq"]), Fault::None);
+    assert_eq!(places(&reading), vec![27, 49]);
+    assert_eq!(damage(&reading), vec![(24, 3), (47, 2), (69, 2)]);
+    assert_eq!((reading.free, reading.damage_bytes()), (71, 7));
+    assert!(!reading.is_clean());
+}
+
+/// FF bytes before a record that ends the area are damage; free space is
+/// empty. A record may end exactly at the area's end.
+#[test]
+fn ff_before_a_record_that_ends_the_area() {
+    let reading = read(&area_of(128, &[&root(), &[0xff; 64], &root()]), Fault::None);
+    assert_eq!((places(&reading), damage(&reading)), (vec![24, 108], vec![(44, 64)]));
+    assert_eq!(reading.free, 128);
+}
+
+#[test]
+fn a_record_of_ff_bytes_that_ends_the_area() {
+    let block = Block::new(BLOCK, 0, A, NONE, &[0xff; 80]).bytes();
+    let reading = read(&area_of(128, &[&block]), Fault::None);
+    assert_eq!((places(&reading), damage(&reading), reading.free), (vec![24], vec![], 128));
+}
+
+/// "The declared length of a record that isn't acceptable is never believed."
+#[test]
+fn a_bad_record_does_not_hide_the_next() {
+    let mut bad = Inode::new(A, 0, ROOT, b"a").bytes();
+    bad[17] = 40;
+    let reading = read(&area_of(200, &[&bad, &root()]), Fault::None);
+    assert_eq!((places(&reading), damage(&reading)), (vec![45], vec![(24, 21)]));
+}
+
+/// A record inside a damaged block's data is read; inside a good block's, not.
+#[test]
+fn a_record_inside_a_block() {
+    let block = Block::new(BLOCK, 0, A, NONE, &root()).bytes();
+    assert_eq!(places(&read(&area_of(128, &[&block]), Fault::None)), vec![24]);
+    let mut torn = block;
+    torn[5] ^= 1;
+    let reading = read(&area_of(128, &[&torn]), Fault::None);
+    assert_eq!((places(&reading), damage(&reading)), (vec![48], vec![(24, 24)]));
+}
+
+#[test]
+fn zero_bytes_are_damage() {
+    let reading = read(&area_of(128, &[&[0; 104]]), Fault::None);
+    assert_eq!((damage(&reading), reading.free), (vec![(24, 104)], 128));
+}
+
+#[test]
+fn valid_area_headers() {
+    let area = area_of(128, &[]);
+    assert!(AreaHeader::valid(&area).is_some());
+    for i in 0..21 {
+        let mut other = area.clone();
+        other[i] ^= 1;
+        assert!(AreaHeader::valid(&other).is_none(), "byte {i}");
+    }
+    for i in 21..24 {
+        let mut other = area.clone();
+        other[i] ^= 1;
+        assert!(AreaHeader::valid(&other).is_some(), "byte {i}");
+    }
+    assert!(AreaHeader::valid(&area_of(128, &[])[..127]).is_none());
+}

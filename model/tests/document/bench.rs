@@ -1,0 +1,128 @@
+//! "Measured on the bench".
+
+use nffs_model::compare::bytes;
+use nffs_model::crc::crc16;
+use nffs_model::layout::{is_block, is_directory, is_file, Block, Inode, Record, NONE};
+use nffs_model::mount::greatest_block;
+use nffs_model::path;
+
+use crate::common::*;
+
+#[test]
+fn the_published_check_value() {
+    assert_eq!(crc16(*b"123456789"), 0x31c3);
+    assert_eq!(crc16([]), 0);
+}
+
+#[test]
+fn greatest_block_size_by_shortest_area() {
+    assert_eq!(greatest_block(128), 40);
+    assert_eq!(greatest_block(4096), 2024);
+    assert_eq!(greatest_block(4142), 2047);
+    assert_eq!(greatest_block(4144), 2048);
+    assert_eq!(greatest_block(4145), 2048);
+    assert_eq!(greatest_block(65_536), 2048);
+}
+
+fn accepted(record: Vec<u8>) -> bool {
+    Record::acceptable(&record).is_some()
+}
+
+#[test]
+fn name_and_data_lengths() {
+    assert!(accepted(Inode::new(A, 0, 0, &[b'n'; 255]).bytes()));
+    assert!(!accepted(Inode::new(A, 0, 0, b"").bytes()));
+    let block = |n: usize| Block::new(BLOCK, 0, A, NONE, &vec![0; n]).bytes();
+    assert!(accepted(block(2048)));
+    assert!(accepted(block(1)));
+    assert!(!accepted(block(2049)));
+    assert!(!accepted(block(0)));
+}
+
+#[test]
+fn id_ranges() {
+    assert!(is_directory(0) && is_directory(0x0fff_ffff) && !is_directory(0x1000_0000));
+    assert!(!is_file(0x0fff_ffff) && is_file(0x1000_0000) && is_file(0x7fff_ffff));
+    assert!(!is_file(0x8000_0000) && is_block(0x8000_0000) && is_block(0xffff_fffe));
+    assert!(!is_block(0x7fff_ffff) && !is_block(NONE) && !is_file(NONE) && !is_directory(NONE));
+}
+
+#[test]
+fn the_named_paths() {
+    assert_eq!(path::names(b"", b"/"), Ok(vec![]));
+    assert_eq!(path::names(b"", b"/a"), Ok(vec![b"a".to_vec()]));
+    for bad in [&b""[..], b"//a", b"/a/"] {
+        assert!(path::names(b"/", bad).is_err());
+    }
+}
+
+#[test]
+fn position_equal_to_size() {
+    let flash = bench();
+    assert_eq!(read(&flash, A, 15, 10).0, nffs_model::Read { number: 0, given: 0, headers: 0 });
+    assert_eq!(read(&flash, A, 16, 10).0.number, 14);
+}
+
+#[test]
+fn the_area_undamaged() {
+    let flash = bench();
+    let r = report(&flash);
+    assert_eq!((r.number, r.inodes, r.live, r.stretches, r.skipped), (0, 2, 2, 0, 0));
+    assert_eq!(contents(&flash, "/a"), Ok(vec![0x41; 15]));
+}
+
+#[test]
+fn each_bit_of_byte_70() {
+    for bit in 0..8 {
+        let mut flash = bench();
+        flash.image[4096 + 70] ^= 1 << bit;
+        let r = report(&flash);
+        assert_eq!((r.number, r.inodes, r.live, r.stretches, r.skipped), (0, 2, 2, 1, 34));
+        assert_eq!(contents(&flash, "/a"), Err(13));
+    }
+}
+
+#[test]
+fn each_bit_of_byte_103() {
+    for bit in 0..8 {
+        let mut flash = bench();
+        flash.image[4096 + 103] ^= 1 << bit;
+        let r = report(&flash);
+        assert_eq!((r.number, r.inodes, r.live, r.stretches, r.skipped), (0, 2, 2, 1, 29));
+        assert_eq!(contents(&flash, "/a"), Ok(vec![0x41; 10]));
+    }
+}
+
+/// The same image with every byte written out; the checks were worked out by
+/// another program.
+#[test]
+fn the_bytes_of_the_bench_area() {
+    let area = bytes(
+        "e2318ab98c42b07f5382e0ac8efc85b1 0010000000000000
+         c08b5f920000000000000000ffffffff00001751
+         c08b5f920000001000000000000000000001f0c561
+         b923ba53000000800000000000000010ffffffff0a00fa49 41*10
+         b923ba5301000080000000000000001000000080050026634141414141
+         ff*3968",
+    );
+    assert_eq!(area.len(), 4096);
+    assert_eq!(&bench().image[4096..], &area[..]);
+}
+
+/// The calls write these very bytes.
+#[test]
+fn the_bytes_that_the_calls_write() {
+    let mut flash = nffs_model::forge::Flash::over(vec![0; 8192], vec![0, 4096, 4096, 4096]);
+    assert_eq!(nffs_model::format(&mut flash.image, &flash.areas), 0);
+    assert_eq!(create(&mut flash, "/a", 1), Ok(A));
+    assert_eq!(append(&mut flash, "/a", &[0x41; 10]), 0);
+    assert_eq!(append(&mut flash, "/a", &[0x41; 5]), 0);
+    assert_eq!(flash.image, bench().image);
+    assert_eq!(create(&mut flash, "/d", 0), Ok(1));
+    assert_eq!(unlink(&mut flash, "/a"), 0);
+    let written = bytes(
+        "c08b5f920100000000000000000000000001f90c64
+         c08b5f920000001001000000ffffffff00006f6b",
+    );
+    assert_eq!(&flash.image[4096 + 128..4096 + 128 + 41], &written[..]);
+}

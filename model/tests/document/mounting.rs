@@ -1,0 +1,326 @@
+//! "What a call is given", refusals 1 to 7 and their order, what counts, the
+//! report.
+
+use nffs_model::forge::Flash;
+use nffs_model::layout::{Inode, NONE, ROOT};
+use nffs_model::report as bare_report;
+
+use crate::common::*;
+
+fn with_list(list: &[u32]) -> u32 {
+    bare_report(&rooted(128).image, list).number
+}
+
+#[test]
+fn one_good_lists() {
+    assert_eq!(with_list(&[0, 128, 128, 128]), 0);
+    assert_eq!(with_list(&[128, 128, 0, 128]), 0);
+    assert_eq!(with_list(&[0, 128, 128, 128, 9]), 0);
+    assert_eq!(with_list(&[0, 128, 128, 128, 9, 0, 1, 1]), 0);
+}
+
+#[test]
+fn one_bad_lists() {
+    assert_eq!(with_list(&[]), 1);
+    assert_eq!(with_list(&[0]), 1);
+    assert_eq!(with_list(&[0, 0, 0, 128, 128, 128]), 1);
+    assert_eq!(with_list(&[0, 127, 128, 128]), 1);
+    assert_eq!(with_list(&[0, 128, 127, 128]), 1);
+    assert_eq!(with_list(&[0, 128, 0, 128]), 1);
+    assert_eq!(with_list(&[0, 128, 129, 128]), 1);
+    assert_eq!(with_list(&[0, 128, 256, 128]), 1);
+    assert_eq!(with_list(&[0, 128, 0xffff_ff80, 128]), 1);
+    assert_eq!(with_list(&[0, 128, 128, 0xffff_ff80]), 1);
+    assert_eq!(with_list(&[0, 128, 128, 65_537]), 1);
+}
+
+#[test]
+fn one_more_than_eight_entries() {
+    let mut image = vec![0; 9 * 128];
+    let list: Vec<u32> = (0..9).flat_map(|i| [128 * i, 128]).collect();
+    assert_eq!(nffs_model::format(&mut image, &list), 1);
+    assert_eq!(nffs_model::format(&mut image, &list[..16]), 0);
+    assert_eq!(bare_report(&image, &list).number, 1);
+    assert_eq!(bare_report(&image, &list[..16]).number, 0);
+    let mut ended = list;
+    ended[17] = 0;
+    assert_eq!(bare_report(&image, &ended).number, 0);
+}
+
+#[test]
+fn one_image_too_long() {
+    let mut flash = rooted(128);
+    flash.image.resize(65_536, 0);
+    assert_eq!(mount(&flash), 0);
+    flash.image.push(0);
+    assert_eq!(mount(&flash), 1);
+    assert_eq!(nffs_model::format(&mut flash.image, &flash.areas), 1);
+    assert_eq!(bare_report(&[], &[0, 128]).number, 1);
+}
+
+#[test]
+fn the_longest_area() {
+    let mut image = vec![0; 65_536];
+    assert_eq!(nffs_model::format(&mut image, &[0, 65_536]), 3);
+    assert_eq!(nffs_model::format(&mut image, &[0, 128, 128, 65_408]), 0);
+}
+
+#[test]
+fn one_before_three() {
+    assert_eq!(bare_report(&[0; 256], &[0, 128, 64, 128]).number, 1);
+    assert_eq!(bare_report(&[0; 256], &[0, 128, 128, 128]).number, 3);
+    assert_eq!(nffs_model::format(&mut [0; 256], &[0, 127]), 1);
+    assert_eq!(nffs_model::format(&mut [0; 256], &[0, 128]), 3);
+    assert_eq!(nffs_model::format(&mut [0; 256], &[]), 1);
+}
+
+#[test]
+fn two_alone_and_before_three_and_four() {
+    let mut flash = Flash::of(&[128, 128, 128]);
+    flash.root(1);
+    flash.head(2, 5, 0, 0);
+    assert_eq!(mount(&flash), 2);
+    flash.head(0, 0, 0, 7);
+    assert_eq!(mount(&flash), 2);
+    let mut short = Flash::of(&[128, 200, 200]);
+    short.head(2, 0, 0, 0);
+    assert_eq!(mount(&short), 2);
+}
+
+#[test]
+fn three_alone_and_before_four() {
+    let mut flash = rooted(128);
+    flash.head(0, 0, 0, 1);
+    assert_eq!(mount(&flash), 3);
+    flash.head(0, 0, 0, 255);
+    flash.head(1, 0, 0, 255);
+    assert_eq!(mount(&flash), 3);
+    let mut scratches = Flash::of(&[128, 200, 128]);
+    scratches.head(2, 0, 0, 255);
+    assert_eq!(mount(&scratches), 3);
+}
+
+/// "A descriptor without a valid header is passed over."
+#[test]
+fn a_descriptor_passed_over() {
+    let mut flash = Flash::of(&[128, 128, 4096]);
+    flash.root(1);
+    assert_eq!(mount(&flash), 4);
+    let version = flash.offset(2) + 20;
+    flash.image[version] = 1;
+    assert_eq!(mount(&flash), 0);
+    flash.inode(2, A, 0, ROOT, b"unseen");
+    assert_eq!(report(&flash).inodes, 1);
+}
+
+#[test]
+fn four_alone_and_before_five_and_seven() {
+    let mut flash = Flash::of(&[128, 129]);
+    assert_eq!(mount(&flash), 4);
+    flash.root(1);
+    assert_eq!(mount(&flash), 4);
+    let mut full = Flash::of(&[4095, 4096]);
+    full.root(1);
+    inodes_up_to(&mut full, 1, 65);
+    assert_eq!(mount(&full), 4);
+}
+
+#[test]
+fn five_for_inodes() {
+    let mut flash = rooted(4096);
+    inodes_up_to(&mut flash, 1, 64);
+    assert_eq!((mount(&flash), report(&flash).inodes), (0, 64));
+    inodes_up_to(&mut flash, 64, 65);
+    assert_eq!(mount(&flash), 5);
+}
+
+#[test]
+fn five_for_blocks() {
+    let mut flash = rooted(8192);
+    blocks_up_to(&mut flash, A, 0, 256);
+    assert_eq!(mount(&flash), 0);
+    blocks_up_to(&mut flash, A, 256, 257);
+    assert_eq!(mount(&flash), 5);
+}
+
+/// Only ids that records bear are counted, versions once.
+#[test]
+fn five_counts_own_ids() {
+    let mut flash = rooted(4096);
+    inodes_up_to(&mut flash, 1, 63);
+    flash.inode(1, A, 0, 77, b"parent without a record");
+    flash.inode(1, A, 1, 78, b"another one");
+    flash.block(1, BLOCK, 0, B, BLOCK + 1, b"owner and previous without one");
+    assert_eq!((mount(&flash), report(&flash).inodes), (0, 64));
+}
+
+/// 5 comes before 6, even where the clash is met first.
+#[test]
+fn five_before_six() {
+    let mut flash = rooted(4096);
+    flash.inode(1, A, 0, ROOT, b"x");
+    flash.inode(1, A, 0, ROOT, b"y");
+    assert_eq!(mount(&flash), 6);
+    inodes_up_to(&mut flash, 2, 64);
+    assert_eq!(mount(&flash), 6);
+    inodes_up_to(&mut flash, 64, 65);
+    assert_eq!(mount(&flash), 5);
+}
+
+#[test]
+fn five_before_seven() {
+    let mut flash = Flash::of(&[4096, 4096]);
+    inodes_up_to(&mut flash, 1, 66);
+    assert_eq!(mount(&flash), 5);
+}
+
+/// About any two versions of one id and sequence, in any order.
+#[test]
+fn six_about_versions_that_do_not_count() {
+    let orders = [[5, 7, 5], [5, 5, 7], [7, 5, 5]];
+    for sequences in orders {
+        let mut flash = rooted(4096);
+        for (i, sequence) in sequences.into_iter().enumerate() {
+            flash.inode(1, A, sequence, ROOT, &[b'a' + i as u8]);
+        }
+        assert_eq!(mount(&flash), 6, "{sequences:?}");
+    }
+}
+
+#[test]
+fn six_about_all_bytes() {
+    let mut flash = rooted(4096);
+    let inode = Inode::new(A, 0, ROOT, b"a");
+    flash.put(1, &inode.bytes());
+    flash.put(1, &inode.bytes());
+    assert_eq!(mount(&flash), 0);
+    flash.put(1, &Inode { reserved: 1, ..inode }.bytes());
+    assert_eq!(mount(&flash), 6);
+}
+
+#[test]
+fn six_across_areas_and_of_blocks() {
+    let mut flash = Flash::of(&[256, 256, 256]);
+    flash.root(1);
+    flash.root(2);
+    flash.block(1, BLOCK, 4, A, NONE, b"one");
+    flash.block(2, BLOCK, 5, A, NONE, b"two");
+    assert_eq!(mount(&flash), 0);
+    flash.block(2, BLOCK, 4, A, NONE, b"six");
+    assert_eq!(mount(&flash), 6);
+}
+
+#[test]
+fn six_before_seven_alone() {
+    let mut flash = Flash::of(&[128, 128]);
+    assert_eq!(mount(&flash), 7);
+    flash.inode(1, A, 0, ROOT, b"x");
+    assert_eq!(mount(&flash), 7);
+    flash.inode(1, A, 0, ROOT, b"y");
+    assert_eq!(mount(&flash), 6);
+}
+
+#[test]
+fn seven_before_eight_and_seventeen() {
+    let mut flash = Flash::of(&[256, 128]);
+    assert_eq!(find(&flash, ""), Err(7));
+    assert_eq!(collect(&mut flash), 7);
+    assert_eq!(append(&mut flash, "/a", &[0; 9000]), 7);
+    assert_eq!(create(&mut flash, "/", 1), Err(7));
+    assert_eq!(unlink(&mut flash, "/"), 7);
+    assert_eq!(read(&flash, A, 0, 4).0.number, 7);
+}
+
+/// Scratch is never read: not for 5, 6, 7, the report or contents.
+#[test]
+fn scratch_is_never_read() {
+    let mut flash = rooted(4096);
+    flash.inode(1, A, 0, ROOT, b"a");
+    for i in 0..70 {
+        flash.inode(0, A + i, 0, ROOT, b"scratch");
+    }
+    let r = report(&flash);
+    assert_eq!((r.number, r.inodes, r.live, r.stretches, r.skipped), (0, 2, 2, 0, 0));
+    let mut rootless = Flash::of(&[128, 128]);
+    rootless.root(0);
+    assert_eq!(mount(&rootless), 7);
+}
+
+/// "the one with the greatest sequence among all records in file areas",
+/// wherever it lies.
+#[test]
+fn the_greatest_sequence_counts() {
+    for (first, second) in [(1, 2), (2, 1)] {
+        let mut flash = Flash::of(&[256, 256, 256]);
+        flash.root(1);
+        flash.inode(first, A, 9, ROOT, b"new");
+        flash.inode(second, A, 8, ROOT, b"old");
+        assert_eq!(find(&flash, "/new"), Ok(A));
+        assert_eq!(find(&flash, "/old"), Err(9));
+    }
+    let mut flash = rooted(256);
+    flash.inode(1, A, LAST, ROOT, b"last");
+    flash.inode(1, A, 0, ROOT, b"first");
+    assert_eq!(find(&flash, "/last"), Ok(A));
+}
+
+/// Live, dead and orphan inodes in the report.
+#[test]
+fn fates() {
+    let mut flash = rooted(4096);
+    flash.inode(1, 1, 0, ROOT, b"live");
+    flash.inode(1, A, 0, 1, b"live too");
+    flash.inode(1, 2, 0, ROOT, b"dies");
+    flash.delete(1, 2, 1);
+    flash.inode(1, B, 0, 2, b"dead with it");
+    flash.inode(1, 3, 0, 99, b"missing parent");
+    flash.inode(1, 4, 0, 5, b"loop");
+    flash.inode(1, 5, 0, 4, b"loop");
+    flash.inode(1, 6, 0, 6, b"own parent");
+    flash.inode(1, 7, 0, 4, b"into the loop");
+    let r = report(&flash);
+    assert_eq!((r.number, r.inodes, r.live), (0, 10, 3));
+}
+
+/// "Id 0: parent NONE" is no deletion record.
+#[test]
+fn the_root_is_live_in_every_version() {
+    let mut flash = rooted(256);
+    flash.inode(1, ROOT, 7, NONE, b"");
+    assert_eq!(find(&flash, "/"), Ok(ROOT));
+    assert_eq!((report(&flash).inodes, report(&flash).live), (1, 1));
+}
+
+/// A deletion record may carry a name, which means nothing.
+#[test]
+fn a_deletion_record_with_a_name() {
+    let mut flash = rooted(256);
+    flash.inode(1, A, 0, ROOT, b"a");
+    flash.inode(1, A, 1, NONE, b"a");
+    assert_eq!(find(&flash, "/a"), Err(9));
+    assert_eq!((report(&flash).inodes, report(&flash).live), (2, 1));
+}
+
+/// An older record after the deletion record brings nothing back.
+#[test]
+fn an_old_record_read_last() {
+    let mut flash = rooted(256);
+    flash.delete(1, A, 1);
+    flash.inode(1, A, 0, ROOT, b"a");
+    assert_eq!(find(&flash, "/a"), Err(9));
+    flash.inode(1, A, 2, ROOT, b"a");
+    assert_eq!(find(&flash, "/a"), Ok(A));
+}
+
+#[test]
+fn damage_over_file_areas() {
+    let mut flash = Flash::of(&[256, 256, 256]);
+    flash.root(1);
+    flash.put(1, b"xx");
+    flash.inode(1, A, 0, ROOT, b"a");
+    flash.put(1, b"yyy");
+    flash.put(2, b"zzzz");
+    flash.put(0, b"scratch");
+    let r = report(&flash);
+    assert_eq!((r.stretches, r.skipped), (3, 9));
+}

@@ -1,0 +1,53 @@
+//! "A program reads standard input, cut into areas of 4,096".
+
+use std::io::Write;
+use std::process::{Command, Stdio};
+
+use crate::common::*;
+
+fn program(input: &[u8]) -> String {
+    let mut child = Command::new(env!("CARGO_BIN_EXE_report"))
+        .stdin(Stdio::piped())
+        .stdout(Stdio::piped())
+        .spawn()
+        .expect("the program starts");
+    child.stdin.take().expect("a pipe").write_all(input).expect("it reads all");
+    let output = child.wait_with_output().expect("it ends");
+    assert!(output.status.success());
+    String::from_utf8(output.stdout).expect("text")
+}
+
+fn formatted(count: usize) -> Vec<u8> {
+    let mut image = vec![0; 4096 * count];
+    let areas: Vec<u32> = (0..count as u32).flat_map(|i| [4096 * i, 4096]).collect();
+    assert_eq!(nffs_model::format(&mut image, &areas), 0);
+    image
+}
+
+#[test]
+fn a_freshly_formatted_pair() {
+    let text = "mount 0\ninodes 1 live 1 stretches 0 skipped 0\n";
+    assert_eq!(program(&formatted(2)), text);
+    assert_eq!(program(&formatted(8)), text);
+}
+
+#[test]
+fn the_bench_area_and_its_damage() {
+    let mut flash = bench();
+    assert_eq!(program(&flash.image), "mount 0\ninodes 2 live 2 stretches 0 skipped 0\n");
+    flash.image[4096 + 70] ^= 1;
+    assert_eq!(program(&flash.image), "mount 0\ninodes 2 live 2 stretches 1 skipped 34\n");
+}
+
+#[test]
+fn refused_input() {
+    assert_eq!(program(b""), "mount 1\n");
+    assert_eq!(program(&[0xff; 4096]), "mount 1\n");
+    assert_eq!(program(&formatted(2)[..8191]), "mount 1\n");
+    assert_eq!(program(&[0xff; 9 * 4096]), "mount 1\n");
+    assert_eq!(program(&[0xff; 65_537]), "mount 1\n");
+    assert_eq!(program(&[0xff; 8192]), "mount 3\n");
+    let mut image = formatted(2);
+    image[4096 + 30] ^= 1;
+    assert_eq!(program(&image), "mount 7\n");
+}

@@ -1,0 +1,263 @@
+//! The demands as properties of the model over generated cases.
+
+use std::collections::BTreeMap;
+
+use nffs_model::area::Taken;
+use nffs_model::compare::{Answer, Call, Model, Side};
+use nffs_model::fault::Fault;
+use nffs_model::file::contents;
+use nffs_model::generate::{self, Random};
+use nffs_model::layout::{is_file, Inode, Record};
+use nffs_model::mount::{mount, Fate, FileSystem};
+
+const CASES: u64 = if cfg!(debug_assertions) { 500 } else { 3000 };
+
+/// What can be reached by path: each live inode and its contents, if it is a
+/// file that isn't broken.
+type View = BTreeMap<u32, (Inode, Option<Vec<u8>>)>;
+
+fn view(side: &Side) -> Option<View> {
+    let fs = mount(&side.image, &side.areas, Fault::None).ok()?;
+    Some(view_of(&fs))
+}
+
+fn view_of(fs: &FileSystem) -> View {
+    let live = fs.inodes().filter(|inode| fs.fate(inode.id) == Fate::Live);
+    live.map(|inode| (inode.id, (inode.clone(), bytes_of(fs, inode.id)))).collect()
+}
+
+fn bytes_of(fs: &FileSystem, id: u32) -> Option<Vec<u8>> {
+    if !is_file(id) {
+        return None;
+    }
+    let blocks = contents(fs, id).ok()?;
+    Some(blocks.into_iter().flat_map(|block| block.data).collect())
+}
+
+/// Runs a case, handing each call's side before and after to `check`.
+fn each_call(seed: u64, check: &mut dyn FnMut(&Side, &Call, &Answer, &Side)) {
+    let case = generate::case(seed);
+    let mut side = Side::new(&case);
+    for call in &case.calls {
+        let before = side.clone();
+        let answer = side.perform(&Model::default(), call);
+        if !answer.is_empty() {
+            check(&before, call, &answer, &side);
+        }
+    }
+}
+
+/// Demand 1: "A refused call changes no byte of the image, of an output buffer
+/// or of a file handle." "A refused answer's other numbers are 0."
+#[test]
+fn refused_calls_change_nothing() {
+    let untouched =
+        |buffer: &[u8]| buffer.iter().enumerate().all(|(i, b)| *b == (i * 7 + 13) as u8);
+    for seed in 0..CASES {
+        each_call(seed, &mut |before, call, answer, after| {
+            if answer[0] != 0 {
+                assert_eq!((&before.image, before.handle), (&after.image, after.handle));
+                assert!(answer[1..].iter().all(|number| *number == 0));
+                if matches!(call, Call::Read { .. } | Call::ReadAt { .. }) {
+                    assert!(untouched(&after.buffer));
+                }
+            }
+        });
+    }
+}
+
+/// "over FF bytes only".
+#[test]
+fn records_are_written_over_ff() {
+    for seed in 0..CASES {
+        each_call(seed, &mut |before, call, _, after| {
+            if matches!(call, Call::Create { .. } | Call::Append { .. } | Call::Unlink { .. }) {
+                let mut pairs = before.image.iter().zip(&after.image);
+                assert!(pairs.all(|(old, new)| old == new || *old == 0xff));
+            }
+        });
+    }
+}
+
+/// Demand 2: what each accepted write does to what can be reached.
+#[test]
+fn writes_do_what_is_written() {
+    for seed in 0..CASES {
+        each_call(seed, &mut |before, call, answer, after| {
+            if answer[0] == 0 {
+                written(before, call, answer, after);
+            }
+        });
+    }
+}
+
+fn written(before: &Side, call: &Call, answer: &Answer, after: &Side) {
+    let Some(old) = view(before) else { return };
+    let new = view(after).expect("it mounts after a write");
+    let find = |side: &Side, base: &[u8], path: &[u8]| {
+        nffs_model::lookup(&side.image, &side.areas, base, path)
+    };
+    match call {
+        Call::Create { base, path, kind } => {
+            let found = find(after, base, path);
+            assert_eq!((found.number, found.id), (0, answer[1]));
+            assert_eq!(found.kind, (*kind).min(1));
+            let mut rest = new.clone();
+            let (_, bytes) = rest.remove(&found.id).expect("it is live");
+            assert_eq!(bytes.unwrap_or_default(), b"");
+            assert_eq!(rest, old);
+        }
+        Call::Append { base, path, data } => {
+            let id = find(before, base, path).id;
+            let mut expected = old.clone();
+            let file = expected.get_mut(&id).expect("it is live");
+            file.1.as_mut().expect("it isn't broken").extend(data);
+            assert_eq!(new, expected);
+        }
+        Call::Unlink { base, path } => {
+            let id = find(before, base, path).id;
+            assert_eq!(new, without(&old, id));
+        }
+        Call::Collect => assert_eq!(new, old),
+        _ => {}
+    }
+}
+
+/// The view without an inode and all that lies below it.
+fn without(view: &View, id: u32) -> View {
+    let below = |mut at: u32| loop {
+        if at == id {
+            return true;
+        }
+        match view.get(&at) {
+            Some((inode, _)) if at != 0 => at = inode.parent,
+            _ => return false,
+        }
+    };
+    view.iter().filter(|(at, _)| !below(**at)).map(|(at, entry)| (*at, entry.clone())).collect()
+}
+
+/// Demand 3: damage inside records of a mounted image with clean file areas.
+#[test]
+fn damage_leaves_the_untouched_alone() {
+    let (mut damaged, mut files) = (0, 0);
+    for seed in 0..CASES {
+        let case = generate::case(seed);
+        let mut side = Side::new(&case);
+        case.calls.iter().for_each(|call| {
+            side.perform(&Model::default(), call);
+        });
+        let Ok(before) = mount(&side.image, &side.areas, Fault::None) else { continue };
+        if !before.file_areas.iter().all(|area| area.reading.is_clean()) {
+            continue;
+        }
+        let mut r = Random::new(seed ^ 0x5eed);
+        let Some(touched) = overwrite(&mut r, &before, &mut side.image) else { continue };
+        damaged += 1;
+        areas_read_as_untouched(&before, &side.image, &touched);
+        files += files_stay(&before, &side, &touched);
+    }
+    println!("{damaged} damaged images, {files} files looked at");
+    assert!(damaged > CASES / 10 && files > CASES / 10);
+}
+
+type Touched = Vec<(usize, Taken)>;
+
+/// Overwrites bytes in some records. The records touched, or none if an
+/// acceptable record then starts inside one.
+fn overwrite(r: &mut Random, fs: &FileSystem, image: &mut [u8]) -> Option<Touched> {
+    let mut touched = Vec::new();
+    for (i, area) in fs.file_areas.iter().enumerate() {
+        for taken in &area.reading.records {
+            if !r.chance(10) {
+                continue;
+            }
+            let start = area.at.start + taken.offset;
+            let size = taken.record.size();
+            for _ in 0..r.between(1, 4) {
+                image[start + r.below(size)] ^= 1 << r.below(8);
+            }
+            if image[start..start + size] != taken.record.bytes() {
+                touched.push((i, taken.clone()));
+            }
+        }
+    }
+    let inside = |(i, taken): &(usize, Taken)| {
+        let area = &image[fs.file_areas[*i].at.clone()];
+        (taken.offset..taken.offset + taken.record.size())
+            .any(|at| Record::acceptable(&area[at..]).is_some())
+    };
+    (!touched.iter().any(inside)).then_some(touched)
+}
+
+/// "each file area reads as exactly its untouched records, in order, at their
+/// old places."
+fn areas_read_as_untouched(before: &FileSystem, image: &[u8], touched: &Touched) {
+    for (i, area) in before.file_areas.iter().enumerate() {
+        let now = nffs_model::area::read(&image[area.at.clone()], Fault::None).records;
+        let untouched = |taken: &&Taken| !touched.contains(&(i, (*taken).clone()));
+        let kept: Vec<Taken> = area.reading.records.iter().filter(untouched).cloned().collect();
+        assert_eq!(now, kept);
+    }
+}
+
+/// Each live file of which no record was touched keeps number, parent, name,
+/// contents, reads and path. How many there were.
+fn files_stay(before: &FileSystem, side: &Side, touched: &Touched) -> u64 {
+    let old = view_of(before);
+    let own: Vec<u32> = touched.iter().map(|(_, taken)| taken.record.id()).collect();
+    let is_spared = |id: u32| {
+        let chain = ancestors(&old, id);
+        let blocks = before.accepted().filter_map(Record::block).filter(|block| block.owner == id);
+        let blocks: Vec<u32> = blocks.map(|block| block.id).collect();
+        !own.iter().any(|id| chain.contains(id) || blocks.contains(id))
+    };
+    let spared: Vec<u32> =
+        old.keys().copied().filter(|id| is_file(*id) && is_spared(*id)).collect();
+    if spared.is_empty() {
+        return 0;
+    }
+    let now = mount(&side.image, &side.areas, Fault::None).expect("the root wasn't touched");
+    let new = view_of(&now);
+    for id in &spared {
+        assert_eq!(old.get(id), new.get(id));
+        path_is_found(&old, &new, side, *id);
+    }
+    spared.len() as u64
+}
+
+/// The inode and its ancestors, itself first.
+fn ancestors(view: &View, id: u32) -> Vec<u32> {
+    let mut chain = vec![id];
+    while let Some((inode, _)) = view.get(&chain[chain.len() - 1]) {
+        if inode.id == 0 {
+            break;
+        }
+        chain.push(inode.parent);
+    }
+    chain
+}
+
+/// "refused as ambiguous exactly when ... a name on it belongs to two or more
+/// live children of the directory in which it is looked for."
+fn path_is_found(old: &View, new: &View, side: &Side, id: u32) {
+    let chain = ancestors(old, id);
+    let mut path = Vec::new();
+    let mut ambiguous = false;
+    for at in chain.iter().rev().skip(1) {
+        let (inode, _) = &old[at];
+        path.extend([b"/", &inode.name[..]].concat());
+        let same = new.values().filter(|(other, _)| {
+            other.id != 0 && other.parent == inode.parent && other.name == inode.name
+        });
+        ambiguous |= same.count() > 1;
+    }
+    if path.len() > 1024 {
+        return;
+    }
+    let found = nffs_model::lookup(&side.image, &side.areas, b"", &path);
+    let opened = nffs_model::open(&side.image, &side.areas, b"", &path);
+    let expected = if ambiguous { (10, 0) } else { (0, id) };
+    assert_eq!((found.number, found.id), expected);
+    assert_eq!((opened.number, opened.id), expected);
+}
