@@ -1,0 +1,192 @@
+// Document 01, "Measured on the bench": the check's published value, and the area of 4,096 bytes, as it is and with each named flip.
+use areas::HEADER_SIZE;
+use areas::next_record;
+use areas::read_area;
+use crc16::check;
+
+// The area's header, the root at 24, the file "a" at 44, its block of 10 at 65 and its block of 5 at 99; FF follows.
+const BENCH: [u8; 128] = [
+    0xe2,
+    0x31,
+    0x8a,
+    0xb9,
+    0x8c,
+    0x42,
+    0xb0,
+    0x7f,
+    0x53,
+    0x82,
+    0xe0,
+    0xac,
+    0x8e,
+    0xfc,
+    0x85,
+    0xb1,
+    0x00,
+    0x10,
+    0x00,
+    0x00,
+    0x00,
+    0x00,
+    0x00,
+    0x00,
+    0xc0,
+    0x8b,
+    0x5f,
+    0x92,
+    0x00,
+    0x00,
+    0x00,
+    0x00,
+    0x00,
+    0x00,
+    0x00,
+    0x00,
+    0xff,
+    0xff,
+    0xff,
+    0xff,
+    0x00,
+    0x00,
+    0x17,
+    0x51,
+    0xc0,
+    0x8b,
+    0x5f,
+    0x92,
+    0x00,
+    0x00,
+    0x00,
+    0x10,
+    0x00,
+    0x00,
+    0x00,
+    0x00,
+    0x00,
+    0x00,
+    0x00,
+    0x00,
+    0x00,
+    0x01,
+    0xf0,
+    0xc5,
+    0x61,
+    0xb9,
+    0x23,
+    0xba,
+    0x53,
+    0x00,
+    0x00,
+    0x00,
+    0x80,
+    0x00,
+    0x00,
+    0x00,
+    0x00,
+    0x00,
+    0x00,
+    0x00,
+    0x10,
+    0xff,
+    0xff,
+    0xff,
+    0xff,
+    0x0a,
+    0x00,
+    0xfa,
+    0x49,
+    0x41,
+    0x41,
+    0x41,
+    0x41,
+    0x41,
+    0x41,
+    0x41,
+    0x41,
+    0x41,
+    0x41,
+    0xb9,
+    0x23,
+    0xba,
+    0x53,
+    0x01,
+    0x00,
+    0x00,
+    0x80,
+    0x00,
+    0x00,
+    0x00,
+    0x00,
+    0x00,
+    0x00,
+    0x00,
+    0x10,
+    0x00,
+    0x00,
+    0x00,
+    0x80,
+    0x05,
+    0x00,
+    0x26,
+    0x63,
+    0x41,
+    0x41,
+    0x41,
+    0x41,
+    0x41,
+];
+
+const DIGITS: [u8; 9] = [0x31, 0x32, 0x33, 0x34, 0x35, 0x36, 0x37, 0x38, 0x39];
+
+fn show(word: &[u8], n: usize) {
+    io::write_all(1, word);
+    io::print_decimal(1, n as u64);
+}
+
+// The record found at `at`, and where the next one is sought.
+fn show_record(at: usize, size: usize) -> usize {
+    show(b"record ", at);
+    show(b"+", size);
+    io::write_all(1, b"\n");
+    if at < 65536 {
+        if size < 65536 {
+            return at + size;
+        }
+    }
+    65536
+}
+
+// The first records of an area, then what its reading comes to.
+fn show_area(area: &[u8]) {
+    let mut at = HEADER_SIZE;
+    let mut left: usize = 8;
+    while 0 < left {
+        let next = next_record(area, at);
+        if next.size != 0 {
+            at = show_record(next.at, next.size);
+        }
+        left -= 1;
+    }
+    let reading = read_area(area);
+    show(b"stretches ", reading.stretches);
+    show(b" skipped ", reading.skipped);
+    show(b" free ", reading.free);
+    io::write_all(1, b"\n");
+}
+
+fn main() {
+    io::print_hex(1, check(&DIGITS, b"") as u64, 4);
+    io::write_all(1, b"\n");
+    let mut area = [0xffu8; 4096];
+    let mut i = 0;
+    while i < 128 {
+        area[i] = BENCH[i];
+        i += 1;
+    }
+    show_area(&area);
+    area[70] = area[70] ^ 1;
+    show_area(&area);
+    area[70] = area[70] ^ 1;
+    area[103] = area[103] ^ 1;
+    show_area(&area);
+}

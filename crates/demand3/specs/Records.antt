@@ -1,0 +1,74 @@
+-- The records of an image's file areas, by membership: each is acceptable, so that the volume they make is sound.
+use Prim.Native.Nat.{_<_}
+use mathlib.Core.Path.{_≡_, refl, sym}
+use mathlib.Core.Logic.{inl, inr, ⊎-elim}
+use mathlib.Core.List.{List, [], _∷_, List·Memᴰ, List·Memᴰ·head, List·Memᴰ·tail, List·Memᴰ·append-cases, List·Memᴰ·not-nil}
+use mathlib.Core.List.{Memᴰ·append-left, Memᴰ·append-right, Memᴰ·map, Memᴰ·of-map, Memᴰ·cast}
+use native.Mathlib.Omega.{arith}
+use lib.ListN.{take, drop}
+use Rattle.format.specs.Bytes.{Bytes}
+use Rattle.format.specs.AreaHeader.{areaHeaderSize}
+use Rattle.format.specs.Record.{inode, block, recordSize}
+use Rattle.format.specs.Reading.{Placed}
+use Rattle.format_laws.specs.Record.{kind-formed, Stands, an-inode, a-block, nothing, stands}
+use Rattle.format_laws.specs.Reading.{records-lawful}
+use Rattle.volume.specs.View.{byBytes}
+use Rattle.volume_laws.specs.Tests.{true→T}
+use Rattle.volume_laws.specs.Sound.{Sound, Acceptable, sound}
+use Rattle.calls.specs.Areas.{areaBytes, fileAreas}
+use Rattle.calls.specs.Mount.{bytesOf, recordsIn, acceptedRecords, volume}
+use Rattle.calls.specs.declared.Descriptor.{Descriptor}
+use Rattle.demand3.specs.Words.{recordsOf}
+use Rattle.demand3.specs.Area.{records-from, from-each}
+
+-- a record of an image, by its bytes: the area where it is taken, and the record there
+pub record Stored (image : Bytes) (fs : List Descriptor) (b : Bytes) : Type 0 where
+  pub area : Descriptor
+  pub listed : List·Memᴰ area fs
+  pub one : Placed
+  pub taken-there : List·Memᴰ one (recordsOf image area)
+  pub bytes-are : one .bytes ≡ b
+
+pub stored : (image : Bytes) (fs : List Descriptor) (b : Bytes) → List·Memᴰ b (recordsIn image fs) → Stored image fs b
+unfolding recordsIn
+stored image [] b m = absurd (List·Memᴰ·not-nil m)
+stored image (d ∷ fs) b m = ⊎-elim here (λ n. there (stored image fs b n)) (List·Memᴰ·append-cases (bytesOf (recordsOf image d)) m)
+  where
+    here : List·Memᴰ b (bytesOf (recordsOf image d)) → Stored image (d ∷ fs) b
+    here n =
+        let r = Memᴰ·of-map (λ (p : Placed). p .bytes) (recordsOf image d) n in
+        record { area = d; listed = List·Memᴰ·head refl; one = r .0; taken-there = r .1; bytes-are = r .2 }
+
+    there : Stored image fs b → Stored image (d ∷ fs) b
+    there s = record { area = s .area; listed = List·Memᴰ·tail (s .listed); one = s .one; taken-there = s .taken-there; bytes-are = s .bytes-are }
+
+pub stored-mem : (image : Bytes) (fs : List Descriptor) (b : Bytes) → Stored image fs b → List·Memᴰ b (recordsIn image fs)
+unfolding recordsIn
+stored-mem image fs b s = go fs (s .listed)
+  where
+    go : (l : List Descriptor) → List·Memᴰ (s .area) l → List·Memᴰ b (recordsIn image l)
+    go (d ∷ l) (List·Memᴰ·head e) =
+        let m : List·Memᴰ (s .one) (recordsOf image d) = rw e at (s .taken-there) in
+        Memᴰ·append-left (recordsIn image l) (Memᴰ·cast (sym (s .bytes-are)) (Memᴰ·map (λ (p : Placed). p .bytes) m))
+    go (d ∷ l) (List·Memᴰ·tail m) = Memᴰ·append-right (bytesOf (recordsOf image d)) (go l m)
+
+-- the bytes at which a record is taken are acceptable
+front-acceptable : (t : Bytes) → 0 < recordSize t → Acceptable (take (recordSize t) t)
+front-acceptable t h = go (stands t)
+  where
+    go : Stands t → Acceptable (take (recordSize t) t)
+    go (an-inode a e) = inl (rw e (true→T (kind-formed inode t a)))
+    go (a-block a e) = inr (rw e (true→T (kind-formed block t a)))
+    go (nothing e) = absurd (omega arith)
+
+pub accepted : (image : Bytes) (ds : List Descriptor) (b : Bytes) → List·Memᴰ b (acceptedRecords image ds) → Acceptable b
+unfolding acceptedRecords
+accepted image ds b m =
+    let s = stored image (fileAreas image ds) b m in
+    let k = rw (records-from recordSize (areaBytes image (s .area))) at (s .taken-there) in
+    let t = from-each recordSize records-lawful (areaBytes image (s .area)) areaHeaderSize (s .one) k in
+    rw (← s .bytes-are, t .is) (front-acceptable (drop (s .one .place) (areaBytes image (s .area))) (t .accepted))
+
+pub volume-sound : (image : Bytes) (ds : List Descriptor) → Sound byBytes (volume image ds)
+unfolding volume
+volume-sound image ds = sound (acceptedRecords image ds) (accepted image ds)

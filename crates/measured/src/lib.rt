@@ -1,0 +1,1 @@
+// Theorems only, in specs/: the cases that document 01 marks (P).

@@ -1,0 +1,3 @@
+-- Records held by their places in an image.
+pub mod Place
+pub mod Laws

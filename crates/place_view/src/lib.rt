@@ -1,0 +1,1 @@
+// Definitions and theorems only, in specs/: records held by their places in an image, as the code holds them.

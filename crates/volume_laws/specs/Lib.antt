@@ -1,0 +1,10 @@
+-- Laws of what the records of a volume mean, for any view of records, in reading order.
+pub mod Tests
+pub mod Lists
+pub mod Once
+pub mod Counting
+pub mod Climb
+pub mod Tree
+pub mod Contents
+pub mod Map
+pub mod Sound

@@ -1,0 +1,1 @@
+// Theorems only, in specs/: what the definitions of the crate volume give.
