@@ -7,29 +7,16 @@ use mathlib.Core.List.{List, [], _∷_, _++_}
 use native.Mathlib.Omega.{arith}
 use native.Mathlib.Numerals.{add-one}
 use native.Mathlib.Nat.{sub-zero}
-use lib.ListN.{length, getD, take, drop, length-append, length-take, length-drop, drop-of-length-le}
+use lib.ListN.{length, take, drop, length-append, length-drop, drop-of-length-le}
 use lib.Seq.{drop-cons, drop-drop, take-suc, take-all, length-take-le}
 use lib.Dec.{eqb, eqb·suc-suc, eqb·zero-suc}
-use borrow.Author.Tests.{eq-eqb, ne-eqb, eqb-true}
+use borrow.Author.Tests.{eq-eqb, ne-eqb}
 use Rattle.format.specs.Bytes.{Bytes, byteAt}
 use Rattle.format.specs.Record.{recordSize}
 use Rattle.format.specs.AreaHeader.{areaHeaderSize}
-use Rattle.format.specs.Reading.{
-  ERASED,
-  Part,
-  taken,
-  parts,
-  Stretch,
-  erasedEnd,
-  freeSize,
-  damagedBytes,
-  damaged,
-  totalSize,
-  areaParts,
-  areaDamage,
-  areaFree,
-}
-use Rattle.format_laws.specs.Record.{record-inside}
+use Rattle.format.specs.Reading.{ERASED, taken, parts, Stretch, erasedEnd, freeSize, damagedBytes, damaged, totalSize, areaParts, areaDamage, areaFree, placed}
+use Rattle.format_laws.specs.Record.{record-inside, record-least}
+use Rattle.format_laws.specs.Taken.{recordsFrom, recordAt}
 use Rattle.format_laws.specs.Reading.{
   passed,
   parts-none,
@@ -42,10 +29,12 @@ use Rattle.format_laws.specs.Reading.{
   erased-end-le,
   total-append,
   total-damaged,
+  placed-passed,
+  placed-none,
+  placed-taken,
 }
 use Rattle.areas.specs.Area.{search, nextRecord, readingOf}
 use Rattle.areas.specs.declared.Found.{Found}
-use Rattle.areas.specs.declared.Reading.{Reading}
 
 -- ---- the loop of the next record
 
@@ -246,3 +235,54 @@ too-short-area area h =
 
 pub erased-fits : (area : Bytes) (at free : ℕ) → free ≡ erasedEnd (drop at area) → free ≤ length area - at
 erased-fits area at free e = omega (arith, erased-end-le (drop at area), length-drop at area)
+
+-- ---- the records from a place on, by the next one
+
+pub record Nexts (area : Bytes) (at : ℕ) (f : Found) : Type 0 where
+  pub none : f .size ≡ 0 → recordsFrom recordSize area at ≡ []
+  pub some : f .size ≢ 0 → recordsFrom recordSize area at ≡ recordAt area (f .at) (f .size) ∷ recordsFrom recordSize area (f .at + f .size)
+  pub after : at ≤ f .at
+  pub room : f .at + f .size ≤ length area
+  pub least : f .size ≢ 0 → 20 ≤ f .size
+
+size-found : (t : Bytes) (p : ℕ) → search t p .size ≢ 0 → 20 ≤ search t p .size
+unfolding search
+size-found [] p z = absurd (z refl)
+size-found (b ∷ t) p z = go (recordSize (b ∷ t)) refl (size-found t (suc p)) z
+  where
+    go : (n : ℕ) → recordSize (b ∷ t) ≡ n → (search t (suc p) .size ≢ 0 → 20 ≤ search t (suc p) .size)
+        → search (b ∷ t) p .size ≢ 0 → 20 ≤ search (b ∷ t) p .size
+    go zero e ih z = rw (search, e) (ih (rw (search, e) at z))
+    go (suc n) e ih z = rw (search, e) (rw e at (record-least (b ∷ t) (λ q. omega arith)))
+
+pub next-law : (area : Bytes) (at : ℕ) (f : Found) → at ≤ length area → f ≡ nextRecord area at → Nexts area at f
+unfolding nextRecord
+next-law area at f h e = record {
+  none = λ z. ap (placed at) (s .none z .1) ∙ placed-passed at t [] ∙ placed-none (at + length t);
+  some = λ z. ap (placed at) (s .some z) ∙ placed-passed at (take (s .gap) t) _ ∙ placed-taken _ (take (f .size) (drop (s .gap) t)) _ ∙ moved z;
+  after = omega (arith, s .at-gap);
+  room = omega (arith, s .at-gap, s .within, long);
+  least = rw e (size-found t at);
+}
+  where
+    t : Bytes
+    t = drop at area
+
+    long : length (drop at area) ≡ length area - at
+    long = length-drop at area
+
+    s : Searched (drop at area) at f
+    s = rw e (searched (drop at area) at)
+
+    moved : f .size ≢ 0
+        → record { place = at + length (take (s .gap) t); bytes = take (f .size) (drop (s .gap) t) }
+        ∷ placed (at + length (take (s .gap) t) + length (take (f .size) (drop (s .gap) t))) (parts recordSize (drop (s .gap + f .size) t) 0)
+        ≡ recordAt area (f .at) (f .size) ∷ recordsFrom recordSize area (f .at + f .size)
+    moved z =
+        let g : length (take (s .gap) t) ≡ s .gap = length-take-le (s .gap) t (omega (arith, s .within)) in
+        let n : length (take (f .size) (drop (s .gap) t)) ≡ f .size =
+        length-take-le (f .size) (drop (s .gap) t) (omega (arith, s .within, length-drop (s .gap) t)) in
+        let a : drop (s .gap) t ≡ drop (f .at) area = drop-drop (s .gap) at area ∙ rw (s .at-gap) in
+        let b : drop (s .gap + f .size) t ≡ drop (f .at + f .size) area =
+        drop-drop (s .gap + f .size) at area ∙ (let x : at + (s .gap + f .size) ≡ f .at + f .size = omega (arith, s .at-gap) in rw x) in
+        rw (n, g, b, a, ← s .at-gap)

@@ -1,6 +1,6 @@
 -- What is stored into an image.
 use Prim.Native.Nat.{ℕ, _+_}
-use mathlib.Core.List.{List, _++_}
+use mathlib.Core.List.{_++_}
 use lib.ListN.{length, take, drop, replicate}
 use Rattle.format.specs.Bytes.{Bytes}
 use Rattle.format.specs.Reading.{ERASED}

@@ -1,7 +1,7 @@
 -- Lookup and open. Document 01, "Paths", "Calls" and refusals 8 to 11.
 use Prim.Native.Nat.{ℕ}
 use mathlib.Core.List.{List}
-use mathlib.Core.Bool.{Bool, true, false, cond, not}
+use mathlib.Core.Bool.{cond}
 use lib.Dec.{eqb}
 use Rattle.format.specs.Bytes.{Bytes}
 use Rattle.format.specs.Ids.{isDirectoryId}

@@ -1,8 +1,7 @@
 -- Mounting: checks 1 to 7, and the records of a volume. Document 01, "Numbers of refusal" and "What counts".
 use Prim.Native.Nat.{ℕ}
 use mathlib.Core.List.{List, [], _∷_, _++_, map}
-use mathlib.Core.Bool.{Bool, true, false, not, _&&_, _||_}
-use mathlib.Core.Option.{Option}
+use mathlib.Core.Bool.{Bool, true, not, _||_}
 use lib.ListN.{length}
 use lib.Dec.{leb, ltb, eqb}
 use Rattle.format.specs.Bytes.{Bytes}
@@ -10,21 +9,25 @@ use Rattle.format.specs.Ids.{rootId}
 use Rattle.format.specs.Record.{recordSize}
 use Rattle.format.specs.AreaHeader.{areaId}
 use Rattle.format.specs.Reading.{Placed, areaRecords}
-use Rattle.volume.specs.Lists.{keep, all, once, has}
+use Rattle.volume.specs.Lists.{all, once, has}
 use Rattle.volume.specs.View.{byBytes}
-use Rattle.volume.specs.Counting.{Volume, volumeOf, counting, allAgree, inodeOf, inodeIds, blockIds}
+use Rattle.volume.specs.Counting.{Volume, volumeOf, allAgree, inodeOf, inodeIds, blockIds}
 use Rattle.calls.specs.Refusal.{Check, _refused-by_, firstRefusal}
 use Rattle.calls.specs.Areas.{largestImage, goodAreas, areaBytes, fileAreas, scratchAreas}
 use Rattle.calls.specs.declared.Descriptor.{Descriptor}
 
--- the records that an area reads as, each by its bytes
+-- "An area reads as the list of records taken, each with place and bytes"
+abbrev pub recordsOf : Bytes → Descriptor → List Placed
+recordsOf image d = areaRecords recordSize (areaBytes image d)
+
+-- records by their bytes alone
 abbrev pub bytesOf : List Placed → List Bytes
 bytesOf = map (λ p. p .bytes)
 
 -- the records taken in areas, area after area
 unfoldable pub recordsIn : Bytes → List Descriptor → List Bytes
 recordsIn image [] = []
-recordsIn image (d ∷ ds) = bytesOf (areaRecords recordSize (areaBytes image d)) ++ recordsIn image ds
+recordsIn image (d ∷ ds) = bytesOf (recordsOf image d) ++ recordsIn image ds
 
 -- "all records in file areas", in descriptor order
 unfoldable pub acceptedRecords : Bytes → List Descriptor → List Bytes

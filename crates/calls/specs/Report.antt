@@ -8,7 +8,7 @@ use Rattle.format.specs.Bytes.{Bytes}
 use Rattle.format.specs.Record.{recordSize}
 use Rattle.format.specs.Reading.{areaDamage, totalSize}
 use Rattle.volume.specs.View.{byBytes}
-use Rattle.volume.specs.Counting.{Volume, inodeIds}
+use Rattle.volume.specs.Counting.{inodeIds}
 use Rattle.volume.specs.Fate.{liveIds}
 use Rattle.calls.specs.Areas.{areaBytes, fileAreas}
 use Rattle.calls.specs.Mount.{volume, mountNumber}

@@ -19,9 +19,9 @@ use Rattle.volume_laws.specs.Tests.{true→T, T→true, not-T→false, not-is-f
 use Rattle.volume_laws.specs.Lists.{all-mem, not-all}
 use Rattle.volume_laws.specs.Climb.{is-live}
 use Rattle.calls.specs.Areas.{areaBytes, fileAreas}
-use Rattle.calls.specs.Mount.{volume, mountNumber}
+use Rattle.calls.specs.Mount.{recordsOf, volume, mountNumber}
 use Rattle.calls.specs.declared.Descriptor.{Descriptor}
-use Rattle.demand3.specs.Words.{recordsOf, IsRecord, Within, InRecord, touched, Damage, Spared, Unharmed}
+use Rattle.demand3.specs.Words.{IsRecord, Within, InRecord, touched, Damage, Spared, Unharmed}
 
 -- the numbers below n
 unfoldable pub below : ℕ → List ℕ

@@ -20,7 +20,7 @@ use Rattle.calls.specs.declared.Descriptor.{Descriptor}
 use Rattle.calls.specs.declared.Handle.{Handle}
 use Rattle.demand3.specs.Words.{Damage, Spared, Unharmed, ambiguous, PathOf, FileKept, Demand3, readBy, CallsKept}
 use Rattle.demand3.specs.Image.{areas-kept}
-use Rattle.demand3.specs.Records.{volume-sound}
+use Rattle.calls_laws.specs.Records.{volume-sound}
 use Rattle.demand3.specs.Path.{live-found}
 use Rattle.demand3.specs.Loss.{inode-kept, still-live, lineage-kept, names-kept, steps-kept, contents-kept, still-mounts}
 

@@ -19,9 +19,11 @@ use Rattle.volume_laws.specs.Tests.{stable}
 use Rattle.volume_laws.specs.Lists.{keep-cong, keep-mem}
 use Rattle.calls.specs.Areas.{areaEnd, areaBytes, fileAreas, scratchAreas}
 use Rattle.calls.specs.declared.Descriptor.{Descriptor}
-use Rattle.demand3.specs.Words.{recordsOf, IsRecord, Within, Inside, touched, Damage, AreasKept}
-use Rattle.demand3.specs.Area.{recordsFrom, records-from, lies, stood, Overwritten, area-kept}
-use Rattle.demand3.specs.Checks.{InArea, passes, area-fits, areas-apart, header-file, header-scratch}
+use Rattle.calls.specs.Mount.{recordsOf}
+use Rattle.demand3.specs.Words.{IsRecord, Within, Inside, touched, Damage, AreasKept}
+use Rattle.demand3.specs.Area.{stood, Overwritten, area-kept}
+use Rattle.format_laws.specs.Taken.{recordsFrom, records-from, lies}
+use Rattle.calls_laws.specs.Checks.{InArea, passes, area-fits, areas-apart, header-file, header-scratch}
 
 -- a byte of an area is the image's at its place there
 area-byte : (image : Bytes) (d : Descriptor) (i : ℕ) → i < d .length → byteAt (areaBytes image d) i ≡ byteAt image (d .offset + i)

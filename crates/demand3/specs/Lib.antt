@@ -2,9 +2,7 @@
 pub mod Words
 pub mod Touched
 pub mod Area
-pub mod Checks
 pub mod Image
-pub mod Records
 pub mod Path
 pub mod Loss
 pub mod Demand3

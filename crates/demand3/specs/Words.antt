@@ -9,7 +9,7 @@ use lib.Dec.{leb}
 use Rattle.format.specs.Bytes.{Bytes, byteAt}
 use Rattle.format.specs.Ids.{isFileId}
 use Rattle.format.specs.Record.{recordId, recordSize}
-use Rattle.format.specs.Reading.{Placed, areaRecords, areaClean}
+use Rattle.format.specs.Reading.{Placed, areaClean}
 use Rattle.volume.specs.Lists.{keep, all, same}
 use Rattle.volume.specs.View.{byBytes}
 use Rattle.volume.specs.Counting.{Volume, inodeOf}
@@ -18,15 +18,11 @@ use Rattle.volume.specs.Path.{goodPath, pathNames}
 use Rattle.volume.specs.Tree.{found, absent, children}
 use Rattle.volume.specs.Contents.{fileBlocks}
 use Rattle.calls.specs.Areas.{areaBytes, fileAreas}
-use Rattle.calls.specs.Mount.{volume, mountNumber}
+use Rattle.calls.specs.Mount.{recordsOf, volume, mountNumber}
 use Rattle.calls.specs.Lookup.{resolve, lookupOf, openOf}
 use Rattle.calls.specs.Read.{Given, give, readGiven, readAnswer, bufferAfter, handleAfter}
 use Rattle.calls.specs.declared.Descriptor.{Descriptor}
 use Rattle.calls.specs.declared.Handle.{Handle}
-
--- "An area reads as the list of records taken, each with place and bytes"
-abbrev pub recordsOf : Bytes → Descriptor → List Placed
-recordsOf image d = areaRecords recordSize (areaBytes image d)
 
 -- "Its records are those taken in its file areas": r is one of them, in the area d
 abbrev pub IsRecord : Bytes → List Descriptor → Descriptor → Placed → Type 0

@@ -1,6 +1,6 @@
 -- The check. Document 01: "CRC-16 with polynomial 1021 hex, start 0, unreflected, no final change (CRC-16/XMODEM)".
 use Prim.Native.Nat.{ℕ, _-_, _*_}
-use mathlib.Core.List.{List, [], _∷_}
+use mathlib.Core.List.{[], _∷_}
 use mathlib.Core.Bool.{cond}
 use lib.Dec.{ltb}
 use lib.Bits.{bitXor}

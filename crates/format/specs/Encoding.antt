@@ -1,6 +1,6 @@
 -- Records and area headers as they are written. Document 01, "Layouts": "Reserved bytes may hold anything; writers store 0".
 use Prim.Native.Nat.{ℕ}
-use mathlib.Core.List.{List, [], _∷_, _++_}
+use mathlib.Core.List.{[], _∷_, _++_}
 use lib.ListN.{length}
 use Rattle.format.specs.Bytes.{Bytes, enc16, enc32}
 use Rattle.format.specs.Crc.{check}

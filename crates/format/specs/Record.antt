@@ -1,6 +1,6 @@
 -- The acceptable record. Document 01, "Layouts" and "Acceptable record".
 use Prim.Native.Nat.{ℕ, _+_}
-use mathlib.Core.List.{List, [], _∷_}
+use mathlib.Core.List.{[], _∷_}
 use mathlib.Core.Bool.{Bool, true, cond, not, _&&_, _||_}
 use lib.ListN.{length, take, drop}
 use lib.Dec.{ltb, leb, eqb}

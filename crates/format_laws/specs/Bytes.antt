@@ -1,9 +1,9 @@
 -- Lists that agree on their first bytes have the same fields there.
 use Prim.Native.Nat.{ℕ, zero, suc, _+_, _-_, _≤_, _<_}
-use mathlib.Core.Path.{_≡_, refl, sym, ap, _∙_}
-use mathlib.Core.List.{List, [], _∷_}
+use mathlib.Core.Path.{_≡_, sym, ap, _∙_}
+use mathlib.Core.List.{[], _∷_}
 use native.Mathlib.Omega.{arith}
-use native.Mathlib.Nat.{sub-zero, add-sub-cancel-left}
+use native.Mathlib.Nat.{sub-zero}
 use lib.ListN.{length, getD, take, drop, length-take, length-drop}
 use lib.Seq.{getD-take, getD-drop, take-take, take-nil, drop-nil, take-all}
 use Rattle.format.specs.Bytes.{Bytes, byteAt, le16, le32}
@@ -14,9 +14,6 @@ drop-take zero n l = rw sub-zero
 drop-take (suc a) n [] = simp (take-nil, drop-nil)
 drop-take (suc a) zero (x ∷ l) = let z : 0 - suc a ≡ 0 = omega arith in rw z
 drop-take (suc a) (suc n) (x ∷ l) = let z : suc n - suc a ≡ n - a = omega arith in rw z (drop-take a n l)
-
-pub part-take : (l : Bytes) (a n : ℕ) → drop a (take (a + n) l) ≡ take n (drop a l)
-part-take l a n = drop-take a (a + n) l ∙ rw (add-sub-cancel-left)
 
 -- the part of a slice from a place to its end
 pub rest-part : (l : Bytes) (a : ℕ) → take (length l - a) (drop a l) ≡ drop a l

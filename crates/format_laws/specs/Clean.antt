@@ -1,9 +1,9 @@
 -- A clean area is records back to back and then erased bytes.
 use Prim.Native.Nat.{ℕ, zero, suc, _+_, _-_, _≤_, _<_}
 use mathlib.Core.Path.{_≡_, refl, sym, ap, _∙_}
-use mathlib.Core.Logic.{_⊎_, inl, inr, _≢_}
+use mathlib.Core.Logic.{inr}
 use mathlib.Core.Bool.{Bool, true, false, cond, _&&_}
-use mathlib.Core.List.{List, [], _∷_, _++_, append-nil}
+use mathlib.Core.List.{List, [], _∷_, append-nil}
 use native.Mathlib.Omega.{arith}
 use lib.ListN.{length, take, drop, getD, replicate, length-drop, length-replicate, getD-replicate, drop-of-length-le}
 use lib.Seq.{take-all, getD-drop}
@@ -12,39 +12,9 @@ use lib.Dec.{eqb}
 use borrow.Author.Tests.{eqb-true, eq-eqb}
 use Rattle.format.specs.Bytes.{Bytes}
 use Rattle.format.specs.AreaHeader.{areaHeaderSize}
-use Rattle.format.specs.Reading.{
-  Acceptor,
-  ERASED,
-  Part,
-  taken,
-  stretch,
-  skip,
-  parts,
-  placed,
-  erasedEnd,
-  freeSize,
-  Stretch,
-  damagedBytes,
-  damaged,
-  areaParts,
-  areaDamage,
-  areaClean,
-}
-use Rattle.format_laws.specs.Record.{and-left, and-right}
-use Rattle.format_laws.specs.Reading.{
-  Lawful,
-  passed,
-  joined,
-  parts-none,
-  parts-take,
-  parts-pass,
-  parts-joined,
-  placed-passed,
-  placed-none,
-  damaged-taken,
-  damaged-last,
-  erased-end-le,
-}
+use Rattle.format.specs.Reading.{Acceptor, ERASED, Part, taken, stretch, skip, parts, placed, erasedEnd, Stretch, damagedBytes, damaged, areaParts, areaDamage, areaClean}
+use Rattle.format_laws.specs.Record.{and-right}
+use Rattle.format_laws.specs.Reading.{Lawful, passed, joined, parts-none, parts-take, parts-pass, parts-joined, placed-passed, placed-none, damaged-last, erased-end-le}
 
 pub data Clean (size : Acceptor) : Bytes → Type 0 where
   free : {t : Bytes} (n : ℕ) → t ≡ replicate n ERASED → Clean size t

@@ -1,17 +1,15 @@
 -- What is written is acceptable and reads as what was meant.
-use Prim.Native.Nat.{ℕ, zero, suc, _+_, _*_, _/_, _%_, _^_, _≤_, _<_}
-use mathlib.Core.Path.{_≡_, refl, sym, ap, _∙_}
-use mathlib.Core.Bool.{Bool, true, false, _&&_}
-use mathlib.Core.List.{List, [], _∷_, _++_, append-assoc, append-nil}
+use Prim.Native.Nat.{ℕ, zero, suc, _+_, _/_, _%_, _^_, _≤_, _<_}
+use mathlib.Core.Path.{_≡_, refl, sym, _∙_}
+use mathlib.Core.Bool.{true}
+use mathlib.Core.List.{[], _∷_, _++_, append-nil}
 use native.Mathlib.Omega.{arith}
 use native.Mathlib.Nat.{le-of-suc-le-suc}
-use lib.ListN.{length, getD, take, drop, length-append}
-use lib.Seq.{take-append-seam, drop-append-add, drop-append-seam, getD-append-seam, getD-append-add, take-at, drop-at}
-use lib.Dec.{leb, eqb}
+use lib.ListN.{length, take, drop, length-append}
+use lib.Seq.{take-append-seam, drop-append-add, getD-append-seam, getD-append-add}
 use borrow.Author.Tests.{le-leb, eq-eqb}
 use Rattle.format.specs.Bytes.{Bytes, byteAt, le16, le32, enc16, enc32}
 use Rattle.format.specs.Crc.{check}
-use Rattle.format.specs.Ids.{NONE}
 use Rattle.format.specs.Record.{
   Kind,
   inode,
@@ -33,7 +31,7 @@ use Rattle.format.specs.Record.{
   blockPrevious,
   dataLength,
 }
-use Rattle.format.specs.AreaHeader.{magicsRight, validHeader, headerLength, headerVersion, collectionCount, areaId}
+use Rattle.format.specs.AreaHeader.{magicsRight, validHeader, collectionCount, areaId}
 use Rattle.format.specs.Encoding.{inodeFront, blockFront, sealed, inodeBytes, blockBytes, areaHeader}
 use Rattle.format_laws.specs.Crc.{Octets, check-lt}
 use Rattle.format_laws.specs.Record.{size-inode, size-block}

@@ -3,6 +3,7 @@ pub mod Bytes
 pub mod Crc
 pub mod Record
 pub mod Reading
+pub mod Taken
 pub mod Clean
 pub mod Encoding
 pub mod Tests

@@ -1,33 +1,16 @@
 -- How an area's parts unfold, over any acceptor: a record is taken, or bytes are passed over.
-use Prim.Native.Nat.{ℕ, zero, suc, pred, _+_, _-_, _≤_, _<_}
-use mathlib.Core.Path.{_≡_, refl, sym, ap, ap₂, _∙_}
-use mathlib.Core.Logic.{_⊎_, inl, inr, _≢_}
+use Prim.Native.Nat.{ℕ, zero, suc, _+_, _-_, _≤_, _<_}
+use mathlib.Core.Path.{_≡_, refl, ap, _∙_}
+use mathlib.Core.Logic.{_⊎_}
 use mathlib.Core.Bool.{Bool, true, false, cond, _&&_}
-use mathlib.Core.List.{List, [], _∷_, _++_, append-assoc, append-nil}
+use mathlib.Core.List.{List, [], _∷_, _++_}
 use native.Mathlib.Omega.{arith}
-use native.Mathlib.Nat.{add-zero, add-assoc}
-use lib.ListN.{length, take, drop, getD, length-append, length-take, length-drop, drop-of-length-le, take-append-drop}
-use lib.Seq.{drop-nil, take-nil, drop-drop, length-take-le}
+use lib.ListN.{length, take, drop, take-append-drop}
+use lib.Seq.{drop-nil}
 use lib.Dec.{eqb}
 use Rattle.format.specs.Bytes.{Bytes, byteAt}
 use Rattle.format.specs.Record.{recordSize}
-use Rattle.format.specs.Reading.{
-  Acceptor,
-  ERASED,
-  Part,
-  taken,
-  stretch,
-  skip,
-  parts,
-  Placed,
-  placed,
-  erasedEnd,
-  freeSize,
-  Stretch,
-  damagedBytes,
-  damaged,
-  totalSize,
-}
+use Rattle.format.specs.Reading.{Acceptor, ERASED, Part, taken, stretch, skip, parts, placed, erasedEnd, freeSize, Stretch, damagedBytes, damaged, totalSize}
 use Rattle.format_laws.specs.Record.{record-inside, record-local, record-blank}
 
 -- what the laws ask of an acceptor

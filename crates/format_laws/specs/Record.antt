@@ -1,38 +1,15 @@
 -- What an acceptable record tells, for either kind: laws for callers, who never open the acceptance rule.
-use Prim.Native.Nat.{ℕ, zero, suc, _+_, _*_, _%_, _≤_, _<_}
+use Prim.Native.Nat.{ℕ, _+_, _%_, _≤_, _<_}
 use mathlib.Core.Path.{_≡_, refl, sym, ap, _∙_}
 use mathlib.Core.Logic.{_⊎_, inl, inr, _≢_, ⊎-elim}
-use mathlib.Core.Bool.{Bool, true, false, cond, not, _&&_, _||_}
-use mathlib.Core.List.{List}
+use mathlib.Core.Bool.{Bool, true, false, cond, _&&_, _||_}
 use native.Mathlib.Omega.{arith}
-use lib.ListN.{length, take, drop, length-take}
-use lib.Seq.{length-take-le}
-use lib.Dec.{leb, ltb, eqb}
+use lib.ListN.{length, take}
+use lib.Dec.{leb, eqb}
 use borrow.Author.Tests.{leb-true, le-leb, lt-leb, eqb-true, eq-eqb}
-use Rattle.format.specs.Bytes.{Bytes, byteAt, le16, le32}
-use Rattle.format.specs.Ids.{NONE, rootId, firstFileId, firstBlockId, isDirectoryId, isFileId, isInodeId, isBlockId}
-use Rattle.format.specs.Record.{
-  Kind,
-  inode,
-  block,
-  inodeRule,
-  inodeRules,
-  previousRule,
-  blockRule,
-  blockRules,
-  nameGood,
-  recordId,
-  recordLink,
-  nameLength,
-  blockPrevious,
-  dataLength,
-  checkRight,
-  wellFormed,
-  declaredSize,
-  acceptable,
-  recordSize,
-}
-use Rattle.format_laws.specs.Bytes.{same-byte, same-le16, same-take, same-long, take-byte, take-le16, take-le32}
+use Rattle.format.specs.Bytes.{Bytes, byteAt, le32}
+use Rattle.format.specs.Record.{Kind, inode, block, checkRight, wellFormed, declaredSize, acceptable, recordSize}
+use Rattle.format_laws.specs.Bytes.{same-byte, same-le16, same-take, same-long, take-le32}
 
 pub and-left : (a b : Bool) → (a && b) ≡ true → a ≡ true
 and-left true b e = refl

@@ -5,7 +5,7 @@ use mathlib.Core.List.{List}
 use lib.ListN.{length, take, drop, getD}
 use lib.Dec.{eqb}
 use Rattle.format.specs.Bytes.{Bytes, byteAt, le16, le32}
-use Rattle.format.specs.Record.{inode, block}
+use Rattle.format.specs.Record.{block}
 use Rattle.volume.specs.Lists.{same}
 use Rattle.volume.specs.View.{View}
 

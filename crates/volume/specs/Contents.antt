@@ -1,10 +1,10 @@
 -- The contents of a file. Document 01, "What counts" and "Open and read".
-use Prim.Native.Nat.{ℕ, zero, suc, min, _+_, _-_}
+use Prim.Native.Nat.{ℕ, zero, suc, _+_, _-_}
 use mathlib.Core.List.{List, [], _∷_, _++_}
-use mathlib.Core.Bool.{Bool, true, false, cond, not, _&&_}
+use mathlib.Core.Bool.{Bool, cond, not}
 use mathlib.Core.Option.{Option, none, some}
-use lib.ListN.{length, take, drop}
-use lib.Dec.{eqb, leb, ltb}
+use lib.ListN.{length}
+use lib.Dec.{eqb, ltb}
 use Rattle.format.specs.Bytes.{Bytes}
 use Rattle.format.specs.Ids.{NONE}
 use Rattle.volume.specs.Lists.{keep, all, bind, has, Only, nobody, several, one, only}

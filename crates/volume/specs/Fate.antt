@@ -8,7 +8,7 @@ use lib.ListN.{length}
 use lib.Dec.{eqb}
 use Rattle.format.specs.Bytes.{Bytes}
 use Rattle.format.specs.Ids.{NONE, rootId}
-use Rattle.volume.specs.Lists.{keep, has}
+use Rattle.volume.specs.Lists.{keep}
 use Rattle.volume.specs.View.{View}
 use Rattle.volume.specs.Counting.{Volume, inodeOf, inodeIds}
 

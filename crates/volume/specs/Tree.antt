@@ -1,7 +1,7 @@
 -- Directories and lookup. Document 01, "Numbers of refusal" 9 to 11, and "Paths".
 use Prim.Native.Nat.{ℕ}
 use mathlib.Core.List.{List, [], _∷_}
-use mathlib.Core.Bool.{Bool, true, false, cond, _&&_}
+use mathlib.Core.Bool.{Bool, true, false, _&&_}
 use lib.Dec.{eqb}
 use Rattle.format.specs.Bytes.{Bytes}
 use Rattle.format.specs.Ids.{rootId, isDirectoryId}

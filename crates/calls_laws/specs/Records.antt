@@ -12,14 +12,13 @@ use Rattle.format.specs.Record.{inode, block, recordSize}
 use Rattle.format.specs.Reading.{Placed}
 use Rattle.format_laws.specs.Record.{kind-formed, Stands, an-inode, a-block, nothing, stands}
 use Rattle.format_laws.specs.Reading.{records-lawful}
+use Rattle.format_laws.specs.Taken.{records-from, from-each}
 use Rattle.volume.specs.View.{byBytes}
 use Rattle.volume_laws.specs.Tests.{true→T}
 use Rattle.volume_laws.specs.Sound.{Sound, Acceptable, sound}
 use Rattle.calls.specs.Areas.{areaBytes, fileAreas}
-use Rattle.calls.specs.Mount.{bytesOf, recordsIn, acceptedRecords, volume}
+use Rattle.calls.specs.Mount.{bytesOf, recordsOf, recordsIn, acceptedRecords, volume}
 use Rattle.calls.specs.declared.Descriptor.{Descriptor}
-use Rattle.demand3.specs.Words.{recordsOf}
-use Rattle.demand3.specs.Area.{records-from, from-each}
 
 -- a record of an image, by its bytes: the area where it is taken, and the record there
 pub record Stored (image : Bytes) (fs : List Descriptor) (b : Bytes) : Type 0 where

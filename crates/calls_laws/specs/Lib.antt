@@ -1,0 +1,3 @@
+-- Laws of mounting.
+pub mod Checks
+pub mod Records

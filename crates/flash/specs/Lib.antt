@@ -1,0 +1,4 @@
+-- What stores do to an image.
+pub mod Apart
+pub mod Laws
+pub mod Storing

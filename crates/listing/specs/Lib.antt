@@ -1,0 +1,3 @@
+-- The places of records in an image.
+pub mod Listing
+pub mod Laws

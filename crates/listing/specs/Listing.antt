@@ -1,0 +1,31 @@
+-- The places of the records of areas in the image.
+use Prim.Native.Nat.{ℕ, _+_, _*_, _≤_}
+use mathlib.Core.Path.{_≡_}
+use mathlib.Core.List.{List, [], _∷_, _++_}
+use lib.ListN.{length, take}
+use Rattle.format.specs.Bytes.{Bytes}
+use Rattle.format.specs.Record.{recordSize}
+use Rattle.format.specs.AreaHeader.{areaHeaderSize}
+use Rattle.format.specs.Reading.{Placed, areaRecords}
+use Rattle.calls.specs.Mount.{recordsOf}
+use Rattle.calls.specs.declared.Descriptor.{Descriptor}
+
+-- the places in the image of records of an area that starts at base
+unfoldable pub starts : ℕ → List Placed → List ℕ
+starts base [] = []
+starts base (r ∷ l) = (base + r .place) ∷ starts base l
+
+-- the places of the records of areas, area after area
+unfoldable pub placesIn : Bytes → List Descriptor → List ℕ
+placesIn image [] = []
+placesIn image (d ∷ ds) = starts (d .offset) (recordsOf image d) ++ placesIn image ds
+
+-- there is a place for each record: it has at least 20 bytes, and an area's header 24
+pub record Room (area : Bytes) (base : ℕ) (ps : List ℕ) (n : ℕ) : Type 0 where
+  pub header : areaHeaderSize ≤ length area
+  pub inside : base + length area ≤ 65536
+  pub room : 20 * n + length area ≤ 20 * length ps + areaHeaderSize
+
+pub record Listed (area : Bytes) (base : ℕ) (ps : List ℕ) (n r : ℕ) (ps′ : List ℕ) : Type 0 where
+  pub is : take r ps′ ≡ take n ps ++ starts base (areaRecords recordSize area)
+  pub few : 20 * r + areaHeaderSize ≤ 20 * n + length area
