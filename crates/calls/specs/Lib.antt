@@ -6,3 +6,9 @@ pub mod Mount
 pub mod Report
 pub mod Lookup
 pub mod Read
+pub mod Format
+pub mod Storing
+pub mod Create
+pub mod Append
+pub mod Unlink
+pub mod Collect

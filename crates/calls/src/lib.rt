@@ -47,3 +47,10 @@ pub struct ReadAnswer {
     pub given: u32,
     pub headers: u32,
 }
+
+// A created inode.
+#[repr(C)]
+pub struct Created {
+    pub number: u32,
+    pub id: u32,
+}

@@ -1,3 +1,4 @@
 -- The places of records in an image.
 pub mod Listing
 pub mod Laws
+pub mod Bridge

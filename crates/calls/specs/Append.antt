@@ -1,0 +1,104 @@
+-- Append. Document 01, "Create, append, unlink" and refusals 8 to 11, 13, 5 and 15.
+use Prim.Native.Nat.{ℕ, zero, suc, min, _+_}
+use mathlib.Core.List.{List, [], _∷_}
+use mathlib.Core.Bool.{Bool, true, false, cond, not, _||_}
+use mathlib.Core.Option.{Option, none, some}
+use lib.ListN.{length, take, drop}
+use lib.Dec.{eqb, ltb}
+use Rattle.format.specs.Bytes.{Bytes}
+use Rattle.format.specs.Ids.{NONE, firstBlockId, isDirectoryId}
+use Rattle.format.specs.BlockSize.{greatestBlock}
+use Rattle.format.specs.Encoding.{blockBytes}
+use Rattle.volume.specs.View.{byBytes}
+use Rattle.volume.specs.Counting.{blockIds}
+use Rattle.volume.specs.Contents.{lastBlock, fileBlocks}
+use Rattle.volume.specs.Path.{goodPath, pathNames}
+use Rattle.volume.specs.Tree.{Found, found, absent, lookupNames}
+use Rattle.calls.specs.Refusal.{_refused-by_, firstRefusal}
+use Rattle.calls.specs.Areas.{fileAreas}
+use Rattle.calls.specs.Mount.{mostBlocks, volume, mountNumber}
+use Rattle.calls.specs.Storing.{spaces, placeAll, noPlace, storedOr, namedIds, unusedId}
+use Rattle.calls.specs.declared.Descriptor.{Descriptor}
+
+-- "over 8,192 bytes to append" is 8
+abbrev pub mostAppended : ℕ
+mostAppended = 8192
+
+unfoldable pub shortestLength : List Descriptor → ℕ
+shortestLength [] = 0
+shortestLength (d ∷ []) = d .length
+shortestLength (d ∷ e ∷ fs) = min (d .length) (shortestLength (e ∷ fs))
+
+-- "cuts the data into pieces of the greatest block size, the last one shorter": at most k pieces of n bytes
+unfoldable pub cutInto : ℕ → ℕ → Bytes → List Bytes
+cutInto zero n text = []
+cutInto (suc k) n [] = []
+cutInto (suc k) n (b ∷ l) = take n (b ∷ l) ∷ cutInto k n (drop n (b ∷ l))
+
+unfoldable pub piecesOf : List Descriptor → Bytes → List Bytes
+piecesOf fs text = cutInto (length text) (greatestBlock (shortestLength fs)) text
+
+-- the records of the pieces for the file f, "each naming the one before"; each takes the smallest block id that is not yet named
+unfoldable pub blockRecords : List ℕ → ℕ → ℕ → List Bytes → List Bytes
+blockRecords names f previous [] = []
+blockRecords names f previous (p ∷ ps) =
+    let i = unusedId firstBlockId names in
+    blockBytes i 0 f previous p ∷ blockRecords (i ∷ names) f i ps
+
+-- the block that the first piece names: the file's last one, NONE where it is empty
+abbrev pub orNone : Option ℕ → ℕ
+orNone none = NONE
+orNone (some i) = i
+
+unfoldable pub newBlocks : Bytes → List Descriptor → ℕ → Bytes → List Bytes
+newBlocks image ds f text =
+    let v = volume image ds in
+    blockRecords (namedIds v) f (orNone (lastBlock byBytes v f)) (piecesOf (fileAreas image ds) text)
+
+abbrev pub isBroken : Option (List Bytes) → Bool
+isBroken none = true
+isBroken (some bs) = false
+
+-- a live file: 13, then 5 again with the new blocks counted in, then 15
+unfoldable pub appendTo : Bytes → List Descriptor → ℕ → Bytes → ℕ
+appendTo image ds f text =
+    let v = volume image ds in
+    let bs = newBlocks image ds f text in
+    firstRefusal
+    ((isDirectoryId f refused-by 11)
+    ∷ (isBroken (fileBlocks byBytes v f) refused-by 13)
+    ∷ (ltb mostBlocks (length (blockIds byBytes v) + length bs) refused-by 5)
+    ∷ (noPlace (placeAll (spaces image (fileAreas image ds)) bs) refused-by 15)
+    ∷ [])
+
+-- what becomes of an append: the file, or a number of refusal
+pub data Appending : Type 0 where
+  appends : ℕ → Appending
+  refuses : ℕ → Appending
+
+abbrev pub appendWhere : Bytes → List Descriptor → Bytes → Found → Appending
+appendWhere image ds text (absent r) = refuses r
+appendWhere image ds text (found f) = cond (eqb (appendTo image ds f text) 0) (appends f) (refuses (appendTo image ds f text))
+
+unfoldable pub appending : Bytes → List Descriptor → Bytes → Bytes → Bytes → Appending
+appending image ds base path text =
+    cond (eqb (mountNumber image ds) 0)
+    (cond (not (goodPath base path) || ltb mostAppended (length text))
+    (refuses 8)
+    (appendWhere image ds text (lookupNames byBytes (volume image ds) (pathNames base path))))
+    (refuses (mountNumber image ds))
+
+abbrev pub appendNumber : Appending → ℕ
+appendNumber (appends f) = 0
+appendNumber (refuses r) = r
+
+-- "all pieces or none; 0 bytes write nothing"
+abbrev pub appendImage : Bytes → List Descriptor → Bytes → Appending → Bytes
+appendImage image ds text (appends f) = storedOr image (placeAll (spaces image (fileAreas image ds)) (newBlocks image ds f text))
+appendImage image ds text (refuses r) = image
+
+unfoldable pub appendOf : Bytes → List Descriptor → Bytes → Bytes → Bytes → ℕ
+appendOf image ds base path text = appendNumber (appending image ds base path text)
+
+unfoldable pub imageAppended : Bytes → List Descriptor → Bytes → Bytes → Bytes → Bytes
+imageAppended image ds base path text = appendImage image ds text (appending image ds base path text)

@@ -1,0 +1,139 @@
+-- Collect. Document 01, "Collect"; source document 004 on garbage collection.
+use Prim.Native.Nat.{ℕ, _+_, _-_, _%_}
+use mathlib.Core.List.{List, [], _∷_, _++_}
+use mathlib.Core.Bool.{Bool, cond, not, _&&_, _||_}
+use mathlib.Core.Option.{Option, none, some}
+use lib.ListN.{length, take}
+use lib.Dec.{eqb, ltb}
+use Rattle.format.specs.Bytes.{Bytes}
+use Rattle.format.specs.Record.{recordId, recordLink}
+use Rattle.format.specs.AreaHeader.{areaHeaderSize, areaId, collectionCount, scratchId}
+use Rattle.volume.specs.Lists.{keep, all, has, same}
+use Rattle.volume.specs.View.{byBytes}
+use Rattle.volume.specs.Counting.{Volume, inodeOf, blockOf}
+use Rattle.volume.specs.Fate.{isDead, fateOf, blockDead}
+use Rattle.calls.specs.Image.{put, erased}
+use Rattle.calls.specs.Areas.{areaBytes, fileAreas, scratchAreas}
+use Rattle.calls.specs.Mount.{recordsOf, bytesOf, recordsIn, volume, mountNumber}
+use Rattle.calls.specs.Format.{emptyArea}
+use Rattle.calls.specs.declared.Descriptor.{Descriptor}
+
+-- ---- the source area
+
+-- those "as long as scratch"
+unfoldable pub eligible : List Descriptor → Descriptor → List Descriptor
+eligible fs scratch = keep (λ d. eqb (d .length) (scratch .length)) fs
+
+-- the collection count of an area
+abbrev pub countOf : Bytes → Descriptor → ℕ
+countOf image d = collectionCount (areaBytes image d)
+
+-- one count is lower than another
+unfoldable pub precedes : ℕ → ℕ → Bool
+precedes a b = ltb a b
+
+-- "lowest collection count, first among equals": the first that none precedes
+unfoldable pub firstLowest : Bytes → List Descriptor → List Descriptor → Option Descriptor
+firstLowest image all-of [] = none
+firstLowest image all-of (d ∷ ds) =
+    cond (all (λ e. not (precedes (countOf image e) (countOf image d))) all-of) (some d) (firstLowest image all-of ds)
+
+unfoldable pub sourceOf : Bytes → List Descriptor → Descriptor → Option Descriptor
+sourceOf image fs scratch = let es = eligible fs scratch in firstLowest image es es
+
+-- ---- the copies
+
+-- the records of the file areas other than the source
+unfoldable pub isOther : Descriptor → Descriptor → Bool
+isOther s d = not (eqb (s .offset) (d .offset))
+
+unfoldable pub recordsElsewhere : Bytes → List Descriptor → Descriptor → List Bytes
+recordsElsewhere image fs s = recordsIn image (keep (isOther s) fs)
+
+-- a record counts
+unfoldable pub counts : Volume Bytes → Bytes → Bool
+counts v b = cond (byBytes .isBlock b) (has (same b) (blockOf byBytes v (recordId b))) (has (same b) (inodeOf byBytes v (recordId b)))
+
+-- each record once, at its first place
+unfoldable pub firstPlaces : List Bytes → List Bytes
+firstPlaces [] = []
+firstPlaces (b ∷ bs) = b ∷ keep (λ c. not (same b c)) (firstPlaces bs)
+
+-- "A dead block isn't copied if no other file area has a record of its id"
+unfoldable pub dropsBlock : Volume Bytes → List Bytes → Bytes → Bool
+dropsBlock v elsewhere b = blockDead byBytes v b && all (λ c. not (eqb (recordId c) (recordId b))) elsewhere
+
+-- a record names an inode id "as id, parent or owner"
+unfoldable pub namesInode : ℕ → Bytes → Bool
+namesInode i c = eqb (recordId c) i || eqb (recordLink c) i
+
+-- "A dead inode isn't copied if no accepted record .. names its id as id, parent or owner, its own records in the source area apart"
+unfoldable pub dropsInode : Volume Bytes → List Bytes → List Bytes → Bytes → Bool
+dropsInode v source elsewhere b =
+    isDead (fateOf byBytes v (recordId b))
+    && all (λ c. not (namesInode (recordId b) c)) (keep (λ c. not (eqb (recordId c) (recordId b))) source ++ elsewhere)
+
+unfoldable pub drops : Volume Bytes → List Bytes → List Bytes → Bytes → Bool
+drops v source elsewhere b = cond (byBytes .isBlock b) (dropsBlock v elsewhere b) (dropsInode v source elsewhere b)
+
+-- "the counting records that lie in the source are copied byte for byte in order of their first place there, each once"
+unfoldable pub copies : Volume Bytes → List Bytes → List Bytes → List Bytes
+copies v source elsewhere = keep (λ b. counts v b && not (drops v source elsewhere b)) (firstPlaces source)
+
+unfoldable pub joinedBytes : List Bytes → Bytes
+joinedBytes [] = []
+joinedBytes (b ∷ bs) = b ++ joinedBytes bs
+
+-- ---- the image afterwards
+
+-- "Scratch takes the source's id": its header, restored, with that id
+unfoldable pub headerWithId : Bytes → ℕ → Bytes
+headerWithId area id = take 23 area ++ (id ∷ [])
+
+-- the scratch area afterwards: that header, the copies, and FF
+unfoldable pub filledScratch : Bytes → Descriptor → ℕ → Bytes → Bytes
+filledScratch image scratch id bytes =
+    headerWithId (areaBytes image scratch) id ++ (bytes ++ erased (scratch .length - (areaHeaderSize + length bytes)))
+
+-- "its count plus one (255 goes to 0)"
+unfoldable pub nextCount : ℕ → ℕ
+nextCount n = (n + 1) % 256
+
+-- "the source is erased and becomes scratch"
+unfoldable pub collected : Bytes → List Descriptor → Descriptor → Descriptor → Bytes
+collected image ds scratch s =
+    let bytes = joinedBytes (copies (volume image ds) (bytesOf (recordsOf image s)) (recordsElsewhere image (fileAreas image ds) s)) in
+    put (put image (scratch .offset) (filledScratch image scratch (areaId (areaBytes image s)) bytes))
+    (s .offset) (emptyArea (s .length) (nextCount (countOf image s)) scratchId)
+
+-- what becomes of a collect: the scratch and the source area, or a number of refusal
+pub data Collecting : Type 0 where
+  collects : Descriptor → Descriptor → Collecting
+  refuses : ℕ → Collecting
+
+-- "17: no file area is as long as the scratch area"
+abbrev pub collectFrom : Descriptor → Option Descriptor → Collecting
+collectFrom scratch none = refuses 17
+collectFrom scratch (some s) = collects scratch s
+
+abbrev pub collectWith : Bytes → List Descriptor → List Descriptor → Collecting
+collectWith image fs [] = refuses 3
+collectWith image fs (scratch ∷ ss) = collectFrom scratch (sourceOf image fs scratch)
+
+unfoldable pub collecting : Bytes → List Descriptor → Collecting
+collecting image ds =
+    cond (eqb (mountNumber image ds) 0) (collectWith image (fileAreas image ds) (scratchAreas image ds)) (refuses (mountNumber image ds))
+
+abbrev pub collectNumber : Collecting → ℕ
+collectNumber (collects scratch s) = 0
+collectNumber (refuses r) = r
+
+abbrev pub collectImage : Bytes → List Descriptor → Collecting → Bytes
+collectImage image ds (collects scratch s) = collected image ds scratch s
+collectImage image ds (refuses r) = image
+
+unfoldable pub collectOf : Bytes → List Descriptor → ℕ
+collectOf image ds = collectNumber (collecting image ds)
+
+unfoldable pub imageCollected : Bytes → List Descriptor → Bytes
+imageCollected image ds = collectImage image ds (collecting image ds)

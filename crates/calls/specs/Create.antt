@@ -1,0 +1,90 @@
+-- Create. Document 01, "Create, append, unlink" and refusals 8 to 12, 5 and 15.
+use Prim.Native.Nat.{ℕ, suc}
+use mathlib.Core.List.{List, [], _∷_}
+use mathlib.Core.Bool.{Bool, cond, not, _||_}
+use lib.ListN.{length}
+use lib.Dec.{eqb, ltb}
+use Rattle.format.specs.Bytes.{Bytes}
+use Rattle.format.specs.Ids.{firstFileId, rootId, isDirectoryId}
+use Rattle.format.specs.Encoding.{inodeBytes}
+use Rattle.volume.specs.View.{byBytes}
+use Rattle.volume.specs.Counting.{Volume, inodeIds}
+use Rattle.volume.specs.Path.{goodPath, pathNames}
+use Rattle.volume.specs.Tree.{Found, found, absent, children, lookupNames}
+use Rattle.calls.specs.Refusal.{_refused-by_, firstRefusal}
+use Rattle.calls.specs.Areas.{fileAreas}
+use Rattle.calls.specs.Mount.{mostInodes, volume, mountNumber}
+use Rattle.calls.specs.Storing.{spaces, placeAll, noPlace, storedOr, namedIds, unusedId}
+use Rattle.calls.specs.declared.Descriptor.{Descriptor}
+use Rattle.calls.specs.declared.Created.{Created}
+
+-- the last name of a path, and those before it
+unfoldable pub lastName : List Bytes → Bytes
+lastName [] = []
+lastName (n ∷ []) = n
+lastName (n ∷ m ∷ ns) = lastName (m ∷ ns)
+
+unfoldable pub namesBefore : List Bytes → List Bytes
+namesBefore [] = []
+namesBefore (n ∷ []) = []
+namesBefore (n ∷ m ∷ ns) = n ∷ namesBefore (m ∷ ns)
+
+-- a path that names the root has no last name; "creating or unlinking the root" is 8
+abbrev pub isRoot : List Bytes → Bool
+isRoot ns = eqb (length ns) 0
+
+-- the first id of a kind: 0 is a directory, any other number a file
+unfoldable pub firstIdOf : ℕ → ℕ
+firstIdOf kind = cond (eqb kind 0) rootId firstFileId
+
+-- the record of a new inode of a kind, below the directory d, of the name n: "sequence 0 and the smallest id of their range"
+unfoldable pub newId : Volume Bytes → ℕ → ℕ
+newId v kind = unusedId (firstIdOf kind) (namedIds v)
+
+unfoldable pub newInode : Volume Bytes → ℕ → ℕ → Bytes → Bytes
+newInode v kind d n = inodeBytes (newId v kind) 0 d n
+
+-- "for that name, in a directory, only 12 is asked"; then 5 again "with the new records counted in", before 15
+unfoldable pub createIn : Bytes → List Descriptor → ℕ → ℕ → Bytes → ℕ
+createIn image ds kind d n =
+    let v = volume image ds in
+    firstRefusal
+    ((not (isDirectoryId d) refused-by 11)
+    ∷ (ltb 0 (length (children byBytes v d n)) refused-by 12)
+    ∷ (ltb mostInodes (suc (length (inodeIds byBytes v))) refused-by 5)
+    ∷ (noPlace (placeAll (spaces image (fileAreas image ds)) (newInode v kind d n ∷ [])) refused-by 15)
+    ∷ [])
+
+-- what becomes of a create: the directory and the name, or a number of refusal
+pub data Creating : Type 0 where
+  creates : ℕ → Bytes → Creating
+  refuses : ℕ → Creating
+
+abbrev pub createWhere : Bytes → List Descriptor → ℕ → Bytes → Found → Creating
+createWhere image ds kind n (absent r) = refuses r
+createWhere image ds kind n (found d) = cond (eqb (createIn image ds kind d n) 0) (creates d n) (refuses (createIn image ds kind d n))
+
+-- "create walks all but the last name"
+unfoldable pub creating : Bytes → List Descriptor → Bytes → Bytes → ℕ → Creating
+creating image ds base path kind =
+    let ns = pathNames base path in
+    cond (eqb (mountNumber image ds) 0)
+    (cond (not (goodPath base path) || isRoot ns)
+    (refuses 8)
+    (createWhere image ds kind (lastName ns) (lookupNames byBytes (volume image ds) (namesBefore ns))))
+    (refuses (mountNumber image ds))
+
+abbrev pub createAnswer : Volume Bytes → ℕ → Creating → Created
+createAnswer v kind (creates d n) = record { number = 0; id = newId v kind }
+createAnswer v kind (refuses r) = record { number = r; id = 0 }
+
+abbrev pub createImage : Bytes → List Descriptor → ℕ → Creating → Bytes
+createImage image ds kind (creates d n) =
+    storedOr image (placeAll (spaces image (fileAreas image ds)) (newInode (volume image ds) kind d n ∷ []))
+createImage image ds kind (refuses r) = image
+
+unfoldable pub createOf : Bytes → List Descriptor → Bytes → Bytes → ℕ → Created
+createOf image ds base path kind = createAnswer (volume image ds) kind (creating image ds base path kind)
+
+unfoldable pub imageCreated : Bytes → List Descriptor → Bytes → Bytes → ℕ → Bytes
+imageCreated image ds base path kind = createImage image ds kind (creating image ds base path kind)
