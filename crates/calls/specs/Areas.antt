@@ -20,6 +20,12 @@ paired [] = []
 paired (o ∷ []) = []
 paired (o ∷ n ∷ l) = record { offset = o; length = n } ∷ paired l
 
+-- the area list of a call that is lent numbers
+abbrev pub areaList : List ℕ → List Descriptor
+areaList l = listed (paired l)
+
+-- From here on a list of descriptors is one that `listed` has cut.
+
 abbrev pub mostAreas : ℕ
 mostAreas = 8
 

@@ -48,7 +48,7 @@ bytesAt image d r = take (length (r .bytes)) (drop (d .offset + r .place) image)
 unfoldable pub touched : Bytes → Bytes → Descriptor → Placed → Bool
 touched xs ys d r = not (same (bytesAt ys d r) (bytesAt xs d r))
 
--- What is given, of the images xs before and ys after, and of the descriptors up to the end of their list:
+-- What is given, of the images xs before and ys after, and of the area list ds, which `listed` has cut at its end:
 -- "Take a file system that mounts and whose file areas are clean. Overwrite bytes inside its records .. and leave all others alone"
 pub record Damage (xs ys : Bytes) (ds : List Descriptor) : Type 0 where
   -- "It compares two images of one length under one area list, before and after the damage"
@@ -122,11 +122,6 @@ pub record FileKept (xs ys : Bytes) (ds : List Descriptor) (f : ℕ) : Type 0 wh
   pub path : (base p : Bytes) → PathOf (volume xs ds) f base p
       → resolve ys ds base p ≡ cond (ambiguous (volume xs ds) (volume ys ds) f) (absent 10) (found f)
 
--- Demand 3
-pub record Demand3 (xs ys : Bytes) (ds : List Descriptor) : Type 0 where
-  pub areas : AreasKept xs ys ds
-  pub files : (f : ℕ) → Unharmed xs ys ds f → FileKept xs ys ds f
-
 -- a read by a handle into a buffer
 abbrev pub readBy : Bytes → List Descriptor → Handle → Bytes → Given
 readBy image ds h buffer = readGiven image ds (h .id) (h .position) (length buffer)
@@ -151,3 +146,9 @@ pub record CallsKept (xs ys : Bytes) (ds : List Descriptor) (f : ℕ) : Type 0 w
       ≡ cond (ambiguous (volume xs ds) (volume ys ds) f)
       (record { number = 10; id = 0; position = 0 })
       (record { number = 0; id = f; position = 0 })
+
+-- Demand 3: what is read of the areas, of every such file, and what the calls answer for it
+pub record Demand3 (xs ys : Bytes) (ds : List Descriptor) : Type 0 where
+  pub areas : AreasKept xs ys ds
+  pub files : (f : ℕ) → Unharmed xs ys ds f → FileKept xs ys ds f
+  pub calls : (f : ℕ) → Unharmed xs ys ds f → CallsKept xs ys ds f

@@ -3,10 +3,11 @@ use Prim.Native.Nat.{ℕ, _+_, _*_, _/_, _%_}
 use mathlib.Core.List.{List, _∷_}
 use lib.ListN.{getD}
 
+-- numbers that are bytes, each below 256, as every slice of the code has them
 abbrev pub Bytes : Type 0
 Bytes = List ℕ
 
--- the byte at a place; past the end, where no rule looks, 0
+-- the byte at a place, 0 past the end; no rule turns on what is read there, as records and headers must fit where they stand
 abbrev pub byteAt : Bytes → ℕ → ℕ
 byteAt b p = getD b p 0
 

@@ -8,7 +8,7 @@ use Rattle.format.specs.Bytes.{Bytes, byteAt, le16, le32}
 use Rattle.format.specs.Crc.{check}
 use Rattle.format.specs.Ids.{NONE, rootId, isDirectoryId, isFileId, isInodeId, isBlockId}
 
--- The fields that both kinds have at the same place; the link is an inode's parent or a block's owner.
+-- Fields that both kinds have at the same place; the link is an inode's parent or a block's owner.
 
 abbrev pub recordId : Bytes → ℕ
 recordId b = le32 b 4
@@ -19,9 +19,11 @@ recordSequence b = le32 b 8
 abbrev pub recordLink : Bytes → ℕ
 recordLink b = le32 b 12
 
+-- a field of inodes
 abbrev pub nameLength : Bytes → ℕ
 nameLength b = byteAt b 17
 
+-- fields of blocks
 abbrev pub blockPrevious : Bytes → ℕ
 blockPrevious b = le32 b 16
 

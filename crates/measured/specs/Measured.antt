@@ -30,8 +30,8 @@ abbrev fileNamed : ℕ → Bytes
 fileNamed n = inodeBytes 0x10000000 0 0 (replicate n 0x61)
 
 -- the record of a file's first block, with n bytes of data
-abbrev blockOf : ℕ → Bytes
-blockOf n = blockBytes 0x80000000 0 0x10000000 NONE (replicate n 0x41)
+abbrev blockWith : ℕ → Bytes
+blockWith n = blockBytes 0x80000000 0 0x10000000 NONE (replicate n 0x41)
 
 -- a case, and what was measured
 pub record Case : Type 0 where
@@ -55,10 +55,12 @@ cases =
     -- "Name length 255 acceptable, 0 not, for a file whose parent is a directory id"
     ∷ case (recordSize (fileNamed 255)) 275
     ∷ case (recordSize (fileNamed 0)) 0
+    -- (a deletion record may have no name: the encoder is right at 0)
+    ∷ case (recordSize (inodeBytes 0x10000000 0 NONE [])) 20
     -- "Data length 2,048 acceptable, 2,049 and 0 not"
-    ∷ case (recordSize (blockOf 2048)) 2072
-    ∷ case (recordSize (blockOf 2049)) 0
-    ∷ case (recordSize (blockOf 0)) 0
+    ∷ case (recordSize (blockWith 2048)) 2072
+    ∷ case (recordSize (blockWith 2049)) 0
+    ∷ case (recordSize (blockWith 0)) 0
     -- "Paths '/' and '/a' good; '', '//a', '/a/' bad"
     ∷ case (yes-no (goodPath [] (0x2f ∷ []))) 1
     ∷ case (yes-no (goodPath [] (0x2f ∷ 0x61 ∷ []))) 1

@@ -11,7 +11,8 @@ use Rattle.volume.specs.Lists.{keep, all, bind, has, Only, nobody, sever
 use Rattle.volume.specs.View.{View}
 use Rattle.volume.specs.Counting.{Volume, blockOf, blockIds}
 
--- where a chain starts that is followed back: at the one block that no other names; at NONE where there is no such block
+-- where a chain starts that is followed back: at the one block that no other names; at NONE where there is none, which is right for
+-- no block at all, and for a cycle leads nowhere, as NONE is no block
 abbrev pub chainStart : Only ℕ → Option ℕ
 chainStart nobody = some NONE
 chainStart several = none

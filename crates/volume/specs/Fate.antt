@@ -48,7 +48,7 @@ module _ {A : Type 0} (F : View A) where
   unfoldable pub fateOf : Volume A → ℕ → Fate
   fateOf v i = fateWithin (inodeOf F v) (longestChain v) i
 
-  -- "A block is dead when its owner is"
+  -- "A block is dead when its owner is"; of a block that has several versions the counting one is asked
   unfoldable pub blockDead : Volume A → A → Bool
   blockDead v b = isDead (fateOf v (F .owner b))
 

@@ -10,7 +10,7 @@ use Rattle.volume.specs.View.{View}
 use Rattle.volume.specs.Counting.{Volume, inodeOf, inodeIds}
 use Rattle.volume.specs.Fate.{isLive, fateOf}
 
--- "A lookup finds an inode id and kind, or it is absent": the id, which tells the kind, or the number of refusal
+-- "A lookup finds an inode id and kind, or it is absent": the id, which tells the kind, or absent with the number of refusal
 pub data Found : Type 0 where
   found : ℕ → Found
   absent : ℕ → Found
