@@ -107,7 +107,8 @@ fn one(size: usize) -> usize
 
 // Reads an area.
 pub fn read_area(area: &[u8]) -> Reading
-    ensures { λ r. ⌜ r ≡ readingOf (now (area .entry)) ⌝ }
+    ensures is { λ r. ⌜ r ≡ readingOf (now (area .entry)) ⌝ }
+    ensures within { λ r. ⌜ (r .stretches ≤ length (now (area .entry))) × (r .skipped ≤ length (now (area .entry))) ⌝ }
 {
     if area.len() < HEADER_SIZE {
         return Reading {

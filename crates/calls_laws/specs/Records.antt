@@ -14,6 +14,7 @@ use Rattle.format_laws.specs.Record.{kind-formed, Stands, an-inode, a-block, no
 use Rattle.format_laws.specs.Reading.{records-lawful}
 use Rattle.format_laws.specs.Taken.{records-from, from-each}
 use Rattle.volume.specs.View.{byBytes}
+use Rattle.volume.specs.Counting.{volumeOf}
 use Rattle.volume_laws.specs.Tests.{true→T}
 use Rattle.volume_laws.specs.Sound.{Sound, Acceptable, sound}
 use Rattle.calls.specs.Areas.{areaBytes, fileAreas}
@@ -60,14 +61,17 @@ front-acceptable t h = go (stands t)
     go (a-block a e) = inr (rw e (true→T (kind-formed block t a)))
     go (nothing e) = absurd (omega arith)
 
-pub accepted : (image : Bytes) (ds : List Descriptor) (b : Bytes) → List·Memᴰ b (acceptedRecords image ds) → Acceptable b
-unfolding acceptedRecords
-accepted image ds b m =
-    let s = stored image (fileAreas image ds) b m in
+-- every record that areas read as is acceptable
+pub records-accepted : (image : Bytes) (fs : List Descriptor) (b : Bytes) → List·Memᴰ b (recordsIn image fs) → Acceptable b
+records-accepted image fs b m =
+    let s = stored image fs b m in
     let k = rw (records-from recordSize (areaBytes image (s .area))) at (s .taken-there) in
     let t = from-each recordSize records-lawful (areaBytes image (s .area)) areaHeaderSize (s .one) k in
     rw (← s .bytes-are, t .is) (front-acceptable (drop (s .one .place) (areaBytes image (s .area))) (t .accepted))
 
+pub records-sound : (image : Bytes) (fs : List Descriptor) → Sound byBytes (volumeOf byBytes (recordsIn image fs))
+records-sound image fs = sound (recordsIn image fs) (records-accepted image fs)
+
 pub volume-sound : (image : Bytes) (ds : List Descriptor) → Sound byBytes (volume image ds)
-unfolding volume
-volume-sound image ds = sound (acceptedRecords image ds) (accepted image ds)
+unfolding volume acceptedRecords
+volume-sound image ds = records-sound image (fileAreas image ds)

@@ -1,13 +1,15 @@
 -- The places of the records of areas in the image.
-use Prim.Native.Nat.{ℕ, _+_, _*_, _≤_}
+use Prim.Native.Nat.{ℕ, _+_, _*_, _≤_, _<_}
 use mathlib.Core.Path.{_≡_}
 use mathlib.Core.List.{List, [], _∷_, _++_}
-use lib.ListN.{length, take}
+use lib.ListN.{length, take, getD}
 use Rattle.format.specs.Bytes.{Bytes}
 use Rattle.format.specs.Record.{recordSize}
 use Rattle.format.specs.AreaHeader.{areaHeaderSize}
 use Rattle.format.specs.Reading.{Placed, areaRecords}
 use Rattle.calls.specs.Mount.{recordsOf}
+use Rattle.descriptors.specs.Described.{described}
+use Rattle.descriptors.specs.Places.{totalLength}
 use Rattle.calls.specs.declared.Descriptor.{Descriptor}
 
 -- the places in the image of records of an area that starts at base
@@ -29,3 +31,16 @@ pub record Room (area : Bytes) (base : ℕ) (ps : List ℕ) (n : ℕ) : Type 0 w
 pub record Listed (area : Bytes) (base : ℕ) (ps : List ℕ) (n r : ℕ) (ps′ : List ℕ) : Type 0 where
   pub is : take r ps′ ≡ take n ps ++ starts base (areaRecords recordSize area)
   pub few : 20 * r + areaHeaderSize ≤ 20 * n + length area
+
+-- file areas that lie in the image and are together no longer than it
+pub record Fit (image : Bytes) (os ls : List ℕ) : Type 0 where
+  pub small : length image ≤ 65536
+  pub pairs : length ls ≡ length os
+  pub header : (i : ℕ) → i < length os → areaHeaderSize ≤ getD ls i 0
+  pub inside : (i : ℕ) → i < length os → getD os i 0 + getD ls i 0 ≤ length image
+  pub apart : totalLength (described os ls) ≤ 65536
+
+-- and a place for each record that they can hold
+pub record Files (image : Bytes) (os ls ps : List ℕ) : Type 0 where
+  pub fit : Fit image os ls
+  pub room : 3276 ≤ length ps

@@ -43,7 +43,7 @@ inside c =
     next-within (l .before .before .before .args .area .now) (l .loop .at) (l .loop .stretches) (l .loop .skipped) (l .loop .inv) (c .next-record .result) (c .next-record .ensures)
 
 returns : tie.Need-returns Inv-loop μ-loop
-returns c = too-short-area (c .before .before .args .area .now) (c .if1 .taken)
+returns c = (too-short-area (c .before .before .args .area .now) (c .if1 .taken), (omega arith, omega arith))
 
 loop-holds : tie.Need-loop-holds Inv-loop μ-loop
 loop-holds c = going-begins (c .before .before .args .area .now) (c .if1 .left)
@@ -65,9 +65,12 @@ returns-2 c =
     let e = c .before in
     let n = e .before .before .before .before in
     let l = n .before in
-    rw (c .one .ensures)
-    (going-ends (l .before .before .before .args .area .now) (l .loop .at) (l .loop .stretches) (l .loop .skipped) (l .loop .inv)
-    (n .next-record .result) (n .next-record .ensures) (e .before .before .if2 .taken) (e .erased-end .result) (counted e))
+    let f = fits e in (
+      rw (c .one .ensures)
+          (going-ends (l .before .before .before .args .area .now) (l .loop .at) (l .loop .stretches) (l .loop .skipped) (l .loop .inv)
+          (n .next-record .result) (n .next-record .ensures) (e .before .before .if2 .taken) (e .erased-end .result) (counted e)),
+      (omega (arith, c .one .ensures, l .loop .inv), omega (arith, l .loop .inv)),
+    )
 
 sub-gap : tie.Need-sub-gap Inv-loop μ-loop
 sub-gap c = omega (arith, after (c .before .before), inside (c .before .before))

@@ -1,0 +1,3 @@
+-- Fates by a table: what the code answers, and its laws.
+pub mod Fates
+pub mod Laws

@@ -1,0 +1,39 @@
+-- `gather::size_at` meets its contract. Assumes nothing.
+use mathlib.Core.Path.{sym, _∙_}
+use native.Mathlib.Omega.{arith}
+use Rattle.place_view.specs.Laws.{size-block, size-inode, size-least}
+use borrow.Author.Needs.{needs}
+use Rattle.gather.proofs.size_at.Statement.{statement}
+use Rattle.gather.proofs.size_at.Tie as tie
+
+is-block-at-requires : tie.Need-is-block-at-requires
+is-block-at-requires c κs = let a = c .before .args in omega (arith, size-least (a .image .now) (a .p))
+
+load16-requires : tie.Need-load16-requires
+load16-requires c κs = let s = c .before .before .before in omega (arith, size-block (s .args .image .now) (s .args .p) (sym (c .before .is-block-at .ensures) ∙ c .if1 .taken))
+
+returns : tie.Need-returns
+returns c = let t = c .before in let s = t .before .before .before in omega (arith, size-block (s .args .image .now) (s .args .p) (sym (t .before .is-block-at .ensures) ∙ t .if1 .taken), c .load16 .ensures)
+
+shared-slice-read-wide : tie.Need-shared-slice-read-wide
+shared-slice-read-wide c = let s = c .before .before .before .before in omega (arith, size-least (s .args .image .now) (s .args .p))
+
+returns-2 : tie.Need-returns-2
+returns-2 c = let t = c .before .before in let s = t .before .before .before in omega (arith, size-inode (s .args .image .now) (s .args .p) (sym (t .before .is-block-at .ensures) ∙ t .if1 .left), c .wide .ensures)
+
+pub size-at-spec : {M : Type 1} → statement M
+size-at-spec =
+    tie.close
+    (tie.spec
+    is-block-at-requires
+    (λ c. search needs)
+    load16-requires
+    (λ c. search needs)
+    (λ c. search needs)
+    returns
+    (λ c. search needs)
+    shared-slice-read-wide
+    (λ c κs. search needs)
+    (λ c. search needs)
+    (λ c. search needs)
+    returns-2)

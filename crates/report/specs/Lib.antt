@@ -1,0 +1,3 @@
+-- The damage of areas, and the report by the tables.
+pub mod Damage
+pub mod Counts
