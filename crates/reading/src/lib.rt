@@ -1,0 +1,149 @@
+// Reading a file over the mounted block table: its bytes into the front of a lent buffer.
+ghost use mathlib.Core.Path.{_≡_};
+ghost use mathlib.Core.Option.{some};
+ghost use mathlib.Core.List.{List};
+ghost use Prim.Native.Nat.{ℕ, min, _+_, _-_, _≤_};
+ghost use lib.ListN.{length};
+ghost use Rattle.volume.specs.Counting.{Volume};
+ghost use Rattle.volume.specs.Contents.{textOf, headersFrom};
+ghost use Rattle.place_view.specs.Place.{byPlace};
+ghost use Rattle.contents.specs.Blocks.{BlocksOf, BlockTable};
+ghost use Rattle.reading.specs.Reading.{chainOf, Whole, laid, filled, FileRead};
+use calls::ReadAnswer;
+use contents::Last;
+use contents::Size;
+use contents::chain_size;
+use contents::data_length;
+use contents::last_block;
+use contents::own_block;
+use contents::owned_count;
+use contents::previous;
+use flash::put;
+use table::Spot;
+
+// The size of a block's header, behind which its data stands.
+const HEADER_SIZE: usize = 24;
+
+// Numbers of refusal.
+const BROKEN: u32 = 13;
+
+const AFTER_END: u32 = 14;
+
+// The blocks of a file that is whole: `count` of them, followed back from `last`, with `size` bytes in all.
+struct Chain {
+    file: u32,
+    last: u32,
+    count: usize,
+    size: usize,
+}
+
+// What `a` is more than `b`, or 0.
+fn above(a: usize, b: usize) -> usize
+    ensures { λ r. ⌜ r ≡ a - b ⌝ }
+{
+    if a > b { a - b } else { 0 }
+}
+
+fn least(a: usize, b: usize) -> usize
+    ensures { λ r. ⌜ r ≡ min a b ⌝ }
+{
+    if a < b { a } else { b }
+}
+
+// Puts text that starts at `begin` of a file into a buffer for the file's bytes from `from` on, as far as it belongs there.
+fn lay(text: &[u8], begin: usize, from: usize, buffer: &mut [u8])
+    requires { ⌜ from ≤ begin + length (now text) ⌝ }
+    ensures { λ _. ⌜ now (buffer .exit) ≡ laid (now (text .entry)) begin from (now (buffer .entry)) ⌝ }
+{
+    let to = above(begin, from);
+    if to < buffer.len() {
+        let skip = above(from, begin);
+        let end = skip + least(text.len() - skip, buffer.len() - to);
+        put(&mut *buffer, to, &text[skip..end]);
+    }
+}
+
+// Puts the file's bytes from `from` on into the buffer, following its blocks back to the one that holds the first of them.
+// Answers how many blocks were followed.
+fn follow(
+    image: &[u8],
+    words: &[u64],
+    ids: &[u32],
+    spots: &[u32],
+    chain: Chain,
+    from: usize,
+    buffer: &mut [u8],
+) -> usize
+    requires { ⌜ BlockTable (now image) (now words) (now ids) (now spots) ⌝ }
+    requires { ⌜ Whole (now image) (now words) (now ids) (now spots) chain ⌝ }
+    ensures few { λ r. ⌜ r ≤ chain .count ⌝ }
+    ensures headers { λ r. ⌜ ((bs : List ℕ) → chainOf (now (image .entry)) (now (words .entry)) (now (ids .entry)) (now (spots .entry)) chain ≡ some bs → r ≡ headersFrom (byPlace (now (image .entry))) from bs) ⌝ }
+    ensures bytes { λ r. ⌜ ((bs : List ℕ) → chainOf (now (image .entry)) (now (words .entry)) (now (ids .entry)) (now (spots .entry)) chain ≡ some bs → now (buffer .exit) ≡ filled (textOf (byPlace (now (image .entry))) bs) from (now (buffer .entry))) ⌝ }
+{
+    let mut id = chain.last;
+    let mut left = chain.count;
+    let mut end = chain.size;
+    while from < end {
+        let Spot::At(p) = own_block(image, words, ids, spots, chain.file, id) else {
+            // never: the chain is whole
+            return 0;
+        };
+        let n = data_length(image, p);
+        let start = p as usize + HEADER_SIZE;
+        let stop = start + n;
+        end -= n;
+        lay(&image[start..stop], end, from, &mut *buffer);
+        id = previous(image, p);
+        left -= 1;
+    }
+    chain.count - left
+}
+
+fn answer(number: u32, given: u32, headers: u32) -> ReadAnswer
+    ensures { λ r. ⌜ r ≡ record { number = number; given = given; headers = headers } ⌝ }
+{
+    ReadAnswer {
+        number,
+        given,
+        headers,
+    }
+}
+
+// Reads a live file from `position` on. Its blocks are followed twice: once for the size, which alone tells whether it is broken
+// and where the read ends, and once for the bytes.
+pub fn read_file(
+    image: &[u8],
+    words: &[u64],
+    ids: &[u32],
+    spots: &[u32],
+    file: u32,
+    position: u32,
+    buffer: &mut [u8],
+) -> ReadAnswer
+    requires { ⌜ BlockTable (now image) (now words) (now ids) (now spots) ⌝ }
+    ensures { λ r. ⌜ ((v : Volume ℕ) → BlocksOf (now (image .entry)) (now (words .entry)) (now (ids .entry)) (now (spots .entry)) v → FileRead (now (image .entry)) v file position (now (buffer .entry)) r (now (buffer .exit))) ⌝ }
+{
+    let Last::Start(last) = last_block(image, words, ids, spots, file) else {
+        return answer(BROKEN, 0, 0);
+    };
+    let count = owned_count(image, words, ids, spots, file);
+    let Size::Whole(size) = chain_size(image, words, ids, spots, file, last, count) else {
+        return answer(BROKEN, 0, 0);
+    };
+    let from = position as usize;
+    if above(from, size) > 0 {
+        return answer(AFTER_END, 0, 0);
+    }
+    let given = least(buffer.len(), size - from);
+    if given == 0 {
+        return answer(0, 0, 0);
+    }
+    let chain = Chain {
+        file,
+        last,
+        count,
+        size,
+    };
+    let headers = follow(image, words, ids, spots, chain, from, &mut *buffer);
+    answer(0, given as u32, headers as u32)
+}
