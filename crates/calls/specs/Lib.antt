@@ -12,3 +12,4 @@ pub mod Create
 pub mod Append
 pub mod Unlink
 pub mod Collect
+pub mod Program

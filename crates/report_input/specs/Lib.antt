@@ -1,0 +1,2 @@
+-- The areas of the program's input.
+pub mod Cut

@@ -1,0 +1,184 @@
+//! Document 01's program, run on images on its standard input and compared with what that document says it prints.
+
+use std::io::Write;
+use std::process::{Command, Stdio};
+
+use nffs_model::forge::Flash;
+
+const DIRECTORY: u32 = 1;
+const FILE: u32 = 0x1000_0000;
+const BLOCK: u32 = 0x8000_0000;
+const NONE: u32 = 0xffff_ffff;
+
+/// What the program prints for an input.
+fn program(input: &[u8]) -> String {
+    let path = std::env::var("NFFS_PROGRAM").expect("NFFS_PROGRAM: the program's path");
+    let mut child = Command::new(path).stdin(Stdio::piped()).stdout(Stdio::piped()).spawn().expect("the program");
+    child.stdin.take().expect("standard input").write_all(input).expect("the program reads to the end of its input");
+    let output = child.wait_with_output().expect("the program ends");
+    assert!(output.status.success());
+    String::from_utf8(output.stdout).expect("text")
+}
+
+fn refused(number: u32) -> String {
+    format!("mount {number}\n")
+}
+
+fn report(inodes: u32, live: u32, stretches: u32, skipped: u32) -> String {
+    format!("mount 0\ninodes {inodes} live {live} stretches {stretches} skipped {skipped}\n")
+}
+
+/// `count` areas of 4,096: the first is scratch, the others file areas 0, 1, ..; nothing in them.
+fn volume(count: usize) -> Flash {
+    let mut flash = Flash::of(&vec![4096; count]);
+    flash.head(0, 0, 0, 255);
+    for area in 1..count {
+        flash.head(area, 0, 0, area as u8 - 1);
+    }
+    flash
+}
+
+/// The area of document 01's bench, behind a scratch area: the root, the file "a", its block of 10 and its block of 5.
+fn bench() -> Flash {
+    let mut flash = volume(2);
+    assert!(flash.root(1));
+    assert!(flash.inode(1, FILE, 0, 0, b"a"));
+    assert!(flash.block(1, BLOCK, 0, FILE, NONE, &[0x41; 10]));
+    assert!(flash.block(1, BLOCK + 1, 0, FILE, BLOCK, &[0x41; 5]));
+    flash
+}
+
+#[test]
+fn a_freshly_formatted_pair() {
+    let mut image = vec![0; 8192];
+    assert_eq!(nffs_model::format(&mut image, &[0, 4096, 4096, 4096]), 0);
+    assert_eq!(program(&image), "mount 0\ninodes 1 live 1 stretches 0 skipped 0\n");
+}
+
+#[test]
+fn the_bench_area_and_its_flips() {
+    let flash = bench();
+    assert_eq!(program(&flash.image), report(2, 2, 0, 0));
+    for (byte, bytes) in [(70, 34), (103, 29)] {
+        let mut image = flash.image.clone();
+        image[4096 + byte] ^= 1;
+        assert_eq!(program(&image), report(2, 2, 1, bytes));
+    }
+}
+
+#[test]
+fn input_that_is_not_two_to_eight_whole_areas() {
+    let flash = volume(8);
+    for length in [0, 1, 4095, 4096, 4097, 8191, 8193, 32767] {
+        assert_eq!(program(&flash.image[..length]), refused(1), "{length} bytes");
+    }
+    for length in [65537, 65536 + 4096, 1 << 20, (1 << 20) + 1] {
+        assert_eq!(program(&vec![0xff; length]), refused(1), "{length} bytes");
+    }
+}
+
+#[test]
+fn eight_areas() {
+    let mut flash = volume(8);
+    assert!(flash.root(7));
+    assert_eq!(program(&flash.image), report(1, 1, 0, 0));
+}
+
+#[test]
+fn shared_ids_come_before_missing_scratch() {
+    let mut flash = volume(3);
+    flash.head(2, 0, 0, 0);
+    assert!(flash.root(1));
+    assert_eq!(program(&flash.image), refused(2));
+    flash.head(0, 0, 0, 9);
+    assert_eq!(program(&flash.image), refused(2));
+}
+
+#[test]
+fn wrong_areas() {
+    let mut none = volume(2);
+    none.head(0, 0, 0, 7);
+    assert_eq!(program(&none.image), refused(3));
+    let mut two = volume(3);
+    two.head(2, 0, 0, 255);
+    assert_eq!(program(&two.image), refused(3));
+    assert_eq!(program(&[0xff; 8192]), refused(3));
+}
+
+/// One inode id more than the table has places, and a clash of versions before it: 5 comes before 6.
+#[test]
+fn too_many_ids_come_before_a_clash() {
+    let mut flash = volume(3);
+    assert!(flash.root(1));
+    for i in 0..63 {
+        assert!(flash.inode(1, DIRECTORY + i, 0, 0, b"d"));
+    }
+    assert_eq!(program(&flash.image), report(64, 64, 0, 0));
+    assert!(flash.inode(1, DIRECTORY, 0, 0, b"other"));
+    assert_eq!(program(&flash.image), refused(6));
+    assert!(flash.inode(1, DIRECTORY + 63, 0, 0, b"d"));
+    assert_eq!(program(&flash.image), refused(5));
+}
+
+#[test]
+fn too_many_blocks() {
+    let mut flash = volume(4);
+    assert!(flash.root(1));
+    for i in 0..256 {
+        assert!(flash.block(1 + i as usize / 100, BLOCK + i, 0, FILE, NONE, b"x"));
+    }
+    assert_eq!(program(&flash.image), report(1, 1, 0, 0));
+    assert!(flash.block(3, BLOCK + 256, 0, FILE, NONE, b"x"));
+    assert_eq!(program(&flash.image), refused(5));
+}
+
+/// Versions 5, 7 and 5 of one id: the two of sequence 5 differ, though neither counts. Without a root 6 still comes before 7.
+#[test]
+fn a_clash_among_versions_that_do_not_count() {
+    let mut flash = volume(2);
+    assert!(flash.inode(1, FILE, 5, 0, b"a"));
+    assert!(flash.inode(1, FILE, 7, 0, b"b"));
+    assert!(flash.inode(1, FILE, 5, 0, b"c"));
+    assert_eq!(program(&flash.image), refused(6));
+}
+
+#[test]
+fn no_root() {
+    let mut flash = volume(2);
+    assert!(flash.inode(1, FILE, 0, 0, b"a"));
+    assert_eq!(program(&flash.image), refused(7));
+    assert_eq!(program(&volume(2).image), refused(7));
+}
+
+/// Scratch is never read: a root there does not count.
+#[test]
+fn a_root_in_scratch() {
+    let mut flash = volume(2);
+    assert!(flash.root(0));
+    assert_eq!(program(&flash.image), refused(7));
+}
+
+/// Dead, orphaned and looping inodes are counted, and are not live.
+#[test]
+fn fates() {
+    let mut flash = volume(2);
+    assert!(flash.root(1));
+    assert!(flash.inode(1, DIRECTORY, 0, 0, b"d"));
+    assert!(flash.inode(1, FILE, 0, DIRECTORY, b"below a deleted directory"));
+    assert!(flash.delete(1, DIRECTORY, 1));
+    assert!(flash.inode(1, 2, 0, 3, b"loop"));
+    assert!(flash.inode(1, 3, 0, 2, b"loop"));
+    assert!(flash.inode(1, 4, 0, 4, b"its own parent"));
+    assert!(flash.inode(1, FILE + 1, 0, 99, b"no such parent"));
+    assert_eq!(program(&flash.image), report(7, 1, 0, 0));
+}
+
+/// The greatest sequence counts, not the last record.
+#[test]
+fn an_older_version_read_last() {
+    let mut flash = volume(2);
+    assert!(flash.root(1));
+    assert!(flash.delete(1, FILE, 2));
+    assert!(flash.inode(1, FILE, 1, 0, b"last year's dose table"));
+    assert_eq!(program(&flash.image), report(2, 1, 0, 0));
+}
