@@ -182,3 +182,12 @@ fn an_older_version_read_last() {
     assert!(flash.inode(1, FILE, 1, 0, b"last year's dose table"));
     assert_eq!(program(&flash.image), report(2, 1, 0, 0));
 }
+
+/// The command that README names, on the image that lies beside the program.
+#[test]
+fn the_command_of_the_readme() {
+    let output = Command::new("../../report").arg("../../crates/nffs_report/stdin").output().expect("the command");
+    assert!(output.status.success());
+    assert_eq!(String::from_utf8(output.stdout).expect("text"), report(1, 1, 0, 0));
+    assert_eq!(Command::new("../../report").arg("no-such-image").output().expect("the command").status.code(), Some(2));
+}
