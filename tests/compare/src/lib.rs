@@ -13,7 +13,14 @@ struct RawReport {
 }
 
 extern "C" {
+    fn nffs_format(image: *mut u8, image_len: usize, areas: *const u32, areas_len: usize) -> u32;
     fn nffs_report(image: *const u8, image_len: usize, areas: *const u32, areas_len: usize) -> RawReport;
+}
+
+/// The proved format.
+pub fn format(image: &mut [u8], areas: &[u32]) -> u32 {
+    // SAFETY: a slice passes as a pointer and then a length; the image is lent alone.
+    unsafe { nffs_format(image.as_mut_ptr(), image.len(), areas.as_ptr(), areas.len()) }
 }
 
 /// The proved report.

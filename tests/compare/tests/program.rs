@@ -51,7 +51,7 @@ fn bench() -> Flash {
 #[test]
 fn a_freshly_formatted_pair() {
     let mut image = vec![0; 8192];
-    assert_eq!(nffs_model::format(&mut image, &[0, 4096, 4096, 4096]), 0);
+    assert_eq!(nffs_compare::format(&mut image, &[0, 4096, 4096, 4096]), 0);
     assert_eq!(program(&image), "mount 0\ninodes 1 live 1 stretches 0 skipped 0\n");
 }
 
