@@ -11,6 +11,7 @@ pub mod area;
 pub mod collect;
 pub mod compare;
 pub mod crc;
+pub mod damage;
 #[doc(hidden)]
 pub mod fault;
 pub mod file;

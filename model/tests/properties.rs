@@ -4,10 +4,11 @@ use std::collections::BTreeMap;
 
 use nffs_model::area::Taken;
 use nffs_model::compare::{Answer, Call, Model, Side};
+use nffs_model::damage::{answers_stay, overwrite, spared, Touched};
 use nffs_model::fault::Fault;
 use nffs_model::file::contents;
 use nffs_model::generate::{self, Random};
-use nffs_model::layout::{is_file, Inode, Record};
+use nffs_model::layout::{is_file, Inode};
 use nffs_model::mount::{mount, Fate, FileSystem};
 
 const CASES: u64 = if cfg!(debug_assertions) { 500 } else { 3000 };
@@ -152,42 +153,14 @@ fn damage_leaves_the_untouched_alone() {
             continue;
         }
         let mut r = Random::new(seed ^ 0x5eed);
+        let whole = side.clone();
         let Some(touched) = overwrite(&mut r, &before, &mut side.image) else { continue };
         damaged += 1;
         areas_read_as_untouched(&before, &side.image, &touched);
-        files += files_stay(&before, &side, &touched);
+        files += files_stay(&whole, &before, &side, &touched);
     }
     println!("{damaged} damaged images, {files} files looked at");
     assert!(damaged > CASES / 10 && files > CASES / 10);
-}
-
-type Touched = Vec<(usize, Taken)>;
-
-/// Overwrites bytes in some records. The records touched, or none if an
-/// acceptable record then starts inside one.
-fn overwrite(r: &mut Random, fs: &FileSystem, image: &mut [u8]) -> Option<Touched> {
-    let mut touched = Vec::new();
-    for (i, area) in fs.file_areas.iter().enumerate() {
-        for taken in &area.reading.records {
-            if !r.chance(10) {
-                continue;
-            }
-            let start = area.at.start + taken.offset;
-            let size = taken.record.size();
-            for _ in 0..r.between(1, 4) {
-                image[start + r.below(size)] ^= 1 << r.below(8);
-            }
-            if image[start..start + size] != taken.record.bytes() {
-                touched.push((i, taken.clone()));
-            }
-        }
-    }
-    let inside = |(i, taken): &(usize, Taken)| {
-        let area = &image[fs.file_areas[*i].at.clone()];
-        (taken.offset..taken.offset + taken.record.size())
-            .any(|at| Record::acceptable(&area[at..]).is_some())
-    };
-    (!touched.iter().any(inside)).then_some(touched)
 }
 
 /// "each file area reads as exactly its untouched records, in order, at their
@@ -203,61 +176,15 @@ fn areas_read_as_untouched(before: &FileSystem, image: &[u8], touched: &Touched)
 
 /// Each live file of which no record was touched keeps number, parent, name,
 /// contents, reads and path. How many there were.
-fn files_stay(before: &FileSystem, side: &Side, touched: &Touched) -> u64 {
-    let old = view_of(before);
-    let own: Vec<u32> = touched.iter().map(|(_, taken)| taken.record.id()).collect();
-    let is_spared = |id: u32| {
-        let chain = ancestors(&old, id);
-        let blocks = before.accepted().filter_map(Record::block).filter(|block| block.owner == id);
-        let blocks: Vec<u32> = blocks.map(|block| block.id).collect();
-        !own.iter().any(|id| chain.contains(id) || blocks.contains(id))
-    };
-    let spared: Vec<u32> =
-        old.keys().copied().filter(|id| is_file(*id) && is_spared(*id)).collect();
+fn files_stay(before: &Side, old: &FileSystem, after: &Side, touched: &Touched) -> u64 {
+    let spared = spared(old, touched);
     if spared.is_empty() {
         return 0;
     }
-    let now = mount(&side.image, &side.areas, Fault::None).expect("the root wasn't touched");
-    let new = view_of(&now);
+    let new = mount(&after.image, &after.areas, Fault::None).expect("the root wasn't touched");
     for id in &spared {
-        assert_eq!(old.get(id), new.get(id));
-        path_is_found(&old, &new, side, *id);
+        assert_eq!(view_of(old).get(id), view_of(&new).get(id));
+        answers_stay(&Model::default(), (before, old), (after, &new), *id);
     }
     spared.len() as u64
-}
-
-/// The inode and its ancestors, itself first.
-fn ancestors(view: &View, id: u32) -> Vec<u32> {
-    let mut chain = vec![id];
-    while let Some((inode, _)) = view.get(&chain[chain.len() - 1]) {
-        if inode.id == 0 {
-            break;
-        }
-        chain.push(inode.parent);
-    }
-    chain
-}
-
-/// "refused as ambiguous exactly when ... a name on it belongs to two or more
-/// live children of the directory in which it is looked for."
-fn path_is_found(old: &View, new: &View, side: &Side, id: u32) {
-    let chain = ancestors(old, id);
-    let mut path = Vec::new();
-    let mut ambiguous = false;
-    for at in chain.iter().rev().skip(1) {
-        let (inode, _) = &old[at];
-        path.extend([b"/", &inode.name[..]].concat());
-        let same = new.values().filter(|(other, _)| {
-            other.id != 0 && other.parent == inode.parent && other.name == inode.name
-        });
-        ambiguous |= same.count() > 1;
-    }
-    if path.len() > 1024 {
-        return;
-    }
-    let found = nffs_model::lookup(&side.image, &side.areas, b"", &path);
-    let opened = nffs_model::open(&side.image, &side.areas, b"", &path);
-    let expected = if ambiguous { (10, 0) } else { (0, id) };
-    assert_eq!((found.number, found.id), expected);
-    assert_eq!((opened.number, opened.id), expected);
 }
