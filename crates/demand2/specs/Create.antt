@@ -1,0 +1,341 @@
+-- Create. Demand 2: "Creating .. do[es] what is written there, and everything else that could be reached by path reads as before."
+use Prim.Native.Nat.{ℕ, suc, _+_, _≤_, _<_}
+use mathlib.Core.Path.{_≡_, refl, sym, ap, _∙_}
+use mathlib.Core.Logic.{_≢_, ⊎-elim}
+use mathlib.Core.Bool.{Bool, true, false, cond, not, _||_}
+use mathlib.Core.Option.{Option, some}
+use mathlib.Core.List.{List, [], _∷_, _++_, List·Memᴰ, List·Memᴰ·eq-of-singleton, List·Memᴰ·not-nil}
+use native.Mathlib.Omega.{arith}
+use lib.ListN.{length}
+use lib.Dec.{eqb, ltb, nltb→le, ltb→lt, lt→ltb}
+use borrow.Author.Tests.{eqb-true}
+use Rattle.format.specs.Bytes.{Bytes}
+use Rattle.format.specs.Ids.{NONE, rootId, firstFileId, isDirectoryId, firstBlockId, isInodeId}
+use Rattle.format.specs.Record.{inodeRule, recordId}
+use Rattle.format.specs.Encoding.{inodeBytes}
+use Rattle.format_laws.specs.Crc.{Octets}
+use Rattle.format_laws.specs.Encoding.{MeantInode}
+use Rattle.volume.specs.View.{byBytes}
+use Rattle.volume.specs.Counting.{Volume, inodeOf, inodeIds}
+use Rattle.volume.specs.Path.{goodPath, pathNames}
+use Rattle.volume.specs.Tree.{Found, found, absent, children, lookupNames, isChild}
+use Rattle.volume.specs.Fate.{live, fateOf}
+use Rattle.volume.specs.Contents.{fileBlocks}
+use Rattle.volume_laws.specs.Tests.{eqb-false, not-is-false, or-is-false, true→T, T→true, not-T→false, eqb-differ}
+use Rattle.volume_laws.specs.Counting.{counting-mem}
+use Rattle.volume_laws.specs.Tree.{mem-children}
+use Rattle.calls.specs.Refusal.{firstRefusal}
+use Rattle.calls.specs.Areas.{fileAreas}
+use Rattle.calls.specs.Mount.{mostInodes, volume, mountNumber, acceptedRecords}
+use Rattle.calls.specs.Storing.{Store, spaces, placeAll, noPlace, namedIds}
+use Rattle.calls.specs.Create.{lastName, namesBefore, isRoot, newInode, createIn, Creating, creates, refuses, createWhere, creating, createAnswer}
+use Rattle.calls.specs.Create.{createOf, imageCreated, newId, firstIdOf}
+use Rattle.calls.specs.declared.Descriptor.{Descriptor}
+use Rattle.calls.specs.Lookup.{resolve}
+use Rattle.calls.specs.Read.{give}
+use Rattle.calls_laws.specs.Checks.{Passes, passes, mounts}
+use Rattle.demand2.specs.Added.{Same, Added, added-ids, same-count, same-contents}
+use Rattle.demand2.specs.Mounted.{agreed-inodes, agreed-blocks, accepted-kind, few-ids, ids-few, inodes-added, blocks-same, still-passes}
+use Rattle.demand2.specs.NewInode.{InodeNew, inode-new}
+use Rattle.demand2.specs.Store.{OneStored, one-stored}
+use Rattle.demand2.specs.Places.{place-found, all-placed}
+use Rattle.demand2.specs.Unused.{Unused, Smallest, unused-smallest, unnamed-unused, few-named}
+use Rattle.demand2.specs.Names.{GoodName, good-name, last-mem, names-split}
+use Rattle.demand2.specs.Found.{passed-check, lookup-refused, root-there, found-lives, resolved, resolve-alike}
+use Rattle.demand2.specs.NewRecord.{IsInode, inode-made, WrittenOne, written-one, no-blocks}
+
+-- what an accepted create found
+pub record CreateGoes (image : Bytes) (ds : List Descriptor) (base path : Bytes) (kind : ℕ) : Type 0 where
+  pub mounted : mountNumber image ds ≡ 0
+  pub good : goodPath base path ≡ true
+  pub named : length (pathNames base path) ≢ 0
+  pub directory : ℕ
+  pub found-there : lookupNames byBytes (volume image ds) (namesBefore (pathNames base path)) ≡ found directory
+  pub is-directory : isDirectoryId directory ≡ true
+  pub name-free : length (children byBytes (volume image ds) directory (lastName (pathNames base path))) ≡ 0
+  pub few : suc (length (inodeIds byBytes (volume image ds))) ≤ mostInodes
+  pub stores : List Store
+  pub placed : placeAll (spaces image (fileAreas image ds)) (newInode (volume image ds) kind directory (lastName (pathNames base path)) ∷ [])
+      ≡ some stores
+  pub goes : creating image ds base path kind ≡ creates directory (lastName (pathNames base path))
+
+module _ (image : Bytes) (ds : List Descriptor) (base path : Bytes) (kind : ℕ) where
+  abbrev names : List Bytes
+  names = pathNames base path
+
+  abbrev before : Volume Bytes
+  before = volume image ds
+
+  abbrev placing : ℕ → Option (List Store)
+  placing d = placeAll (spaces image (fileAreas image ds)) (newInode before kind d (lastName names) ∷ [])
+
+  -- the checks of `createIn`
+  checked : (d : ℕ) → createIn image ds kind d (lastName names) ≡ 0
+      → (isDirectoryId d ≡ true) × (length (children byBytes before d (lastName names)) ≡ 0) × (suc (length (inodeIds byBytes before)) ≤ mostInodes)
+      × (l : List Store) × (placing d ≡ some l)
+  unfolding createIn firstRefusal
+  checked d e =
+      let a = passed-check (not (isDirectoryId d)) 10 _ e in
+      let b = passed-check (ltb 0 (length (children byBytes before d (lastName names)))) 11 _ (a .1) in
+      let c = passed-check (ltb mostInodes (suc (length (inodeIds byBytes before)))) 4 _ (b .1) in
+      let f = passed-check (noPlace (placing d)) 14 0 (c .1) in
+      let g = place-found (placing d) (f .0) in (
+        not-is-false (isDirectoryId d) (a .0),
+        omega (arith, nltb→le 0 (length (children byBytes before d (lastName names))) (rw (b .0) tt)),
+        nltb→le mostInodes (suc (length (inodeIds byBytes before))) (rw (c .0) tt),
+        g .0,
+        g .1,
+      )
+
+  pub create-goes : createOf image ds base path kind .number ≡ 0 → CreateGoes image ds base path kind
+  unfolding createOf creating
+  create-goes e = go (eqb (mountNumber image ds) 0) refl e
+    where
+      inside : Creating
+      inside = createWhere image ds kind (lastName names) (lookupNames byBytes before (namesBefore names))
+
+      behind : Creating
+      behind = cond (not (goodPath base path) || isRoot names) (refuses 8) inside
+
+      at : (d : ℕ) → mountNumber image ds ≡ 0 → goodPath base path ≡ true → isRoot names ≡ false
+          → lookupNames byBytes before (namesBefore names) ≡ found d → (t : Bool) → eqb (createIn image ds kind d (lastName names)) 0 ≡ t
+          → createAnswer before kind (cond t (creates d (lastName names)) (refuses (createIn image ds kind d (lastName names)))) .number ≡ 0
+          → CreateGoes image ds base path kind
+      at d m g r f true q z =
+          let c = checked d (eqb-true _ 0 q) in
+          record {
+            mounted = m;
+            good = g;
+            named = eqb-false (length names) 0 r;
+            directory = d;
+            found-there = f;
+            is-directory = c .0;
+            name-free = c .1;
+            few = c .2;
+            stores = c .3;
+            placed = c .4;
+            goes = rw (creating, m, g, r, f, q);
+          }
+      at d m g r f false q z = absurd (eqb-false _ 0 q z)
+
+      where-found : mountNumber image ds ≡ 0 → goodPath base path ≡ true → isRoot names ≡ false
+          → (o : Found) → lookupNames byBytes before (namesBefore names) ≡ o
+          → createAnswer before kind (createWhere image ds kind (lastName names) o) .number ≡ 0
+          → CreateGoes image ds base path kind
+      where-found m g r (found d) f z = at d m g r f (eqb (createIn image ds kind d (lastName names)) 0) refl z
+      where-found m g r (absent k) f z = absurd (omega (arith, lookup-refused byBytes before (namesBefore names) k f))
+
+      path-good : mountNumber image ds ≡ 0 → (t : Bool) → (not (goodPath base path) || isRoot names) ≡ t
+          → createAnswer before kind (cond t (refuses 8) inside) .number ≡ 0 → CreateGoes image ds base path kind
+      path-good m true q z = absurd (omega arith)
+      path-good m false q z =
+          let o = or-is-false (not (goodPath base path)) (isRoot names) q in
+          where-found m (not-is-false (goodPath base path) (o .0)) (o .1) (lookupNames byBytes before (namesBefore names)) refl z
+
+      go : (t : Bool) → eqb (mountNumber image ds) 0 ≡ t → createAnswer before kind (cond t behind (refuses (mountNumber image ds))) .number ≡ 0
+          → CreateGoes image ds base path kind
+      go true q z = path-good (eqb-true _ 0 q) (not (goodPath base path) || isRoot names) refl z
+      go false q z = absurd (eqb-false _ 0 q z)
+
+-- ---- the theorem
+
+-- What an accepted create leaves: image′ is the image afterwards, id the new inode's
+pub record AfterCreate (image image′ : Bytes) (ds : List Descriptor) (base path : Bytes) (kind id : ℕ) : Type 0 where
+  pub mounts : mountNumber image′ ds ≡ 0
+  -- "the smallest id of their range that no accepted record names as id, parent, owner or previous"
+  pub smallest : Smallest (firstIdOf kind) (namedIds (volume image ds)) id
+  pub unused : Unused (volume image ds) id
+  -- "Create is told file or directory"
+  pub an-inode : isInodeId id ≡ true
+  pub of-kind : isDirectoryId id ≡ eqb kind 0
+  -- it is live, found at its path, and empty
+  pub lives : fateOf byBytes (volume image′ ds) id ≡ live
+  pub found-at-path : resolve image′ ds base path ≡ found id
+  pub empty : fileBlocks byBytes (volume image′ ds) id ≡ some []
+  -- "everything else that could be reached by path reads as before": a path that was found finds the same, one refused by another
+  -- number than 9 is refused by that number still, and every read of another inode answers alike
+  pub paths : (b p : Bytes) → resolve image ds b p ≢ absent 9 → resolve image′ ds b p ≡ resolve image ds b p
+  pub reads : (i : ℕ) → i ≢ id → (position room : ℕ) → give (volume image′ ds) i position room ≡ give (volume image ds) i position room
+  pub inodes : (i : ℕ) → i ≢ id → inodeOf byBytes (volume image′ ds) i ≡ inodeOf byBytes (volume image ds) i
+  pub fates : (i : ℕ) → i ≢ id → fateOf byBytes (volume image′ ds) i ≡ fateOf byBytes (volume image ds) i
+  pub contents : (f : ℕ) → fileBlocks byBytes (volume image′ ds) f ≡ fileBlocks byBytes (volume image ds) f
+  -- the record, below the directory that was found, and the clean file area that it went to: no other byte is changed, that area
+  -- reads as its old records followed by this one, and every other as before
+  pub directory : ℕ
+  pub above : lookupNames byBytes (volume image ds) (namesBefore (pathNames base path)) ≡ found directory
+  pub went : WrittenOne image image′ ds (inodeBytes id 0 directory (lastName (pathNames base path)))
+  pub stored : OneStored image image′ ds (went .area) (inodeBytes id 0 directory (lastName (pathNames base path)))
+
+module _ (image : Bytes) (ds : List Descriptor) (base path : Bytes) (kind : ℕ) (octets-base : Octets base) (octets-path : Octets path)
+    (g : CreateGoes image ds base path kind) where
+  p : Passes image ds
+  p = passes image ds (g .mounted)
+
+  abbrev v : Volume Bytes
+  v = volume image ds
+
+  abbrev name : Bytes
+  name = lastName (pathNames base path)
+
+  abbrev id : ℕ
+  id = newId (volume image ds) kind
+
+  abbrev b : Bytes
+  b = inodeBytes id 0 (g .directory) name
+
+  least : Smallest (firstIdOf kind) (namedIds v) id
+  unfolding newId
+  least = unused-smallest (firstIdOf kind) (namedIds v)
+
+  free-id : Unused v id
+  free-id = unnamed-unused v id (least .unused)
+
+  -- the id is in its range
+  ranged : (id < firstBlockId) × (isDirectoryId id ≡ eqb kind 0)
+  unfolding firstIdOf isDirectoryId
+  ranged = go (eqb kind 0) refl (least .from) (least .near)
+    where
+      go : (t : Bool) → eqb kind 0 ≡ t → cond t rootId firstFileId ≤ id → id ≤ cond t rootId firstFileId + length (namedIds v)
+          → (id < firstBlockId) × (ltb id firstFileId ≡ eqb kind 0)
+      go true e l h =
+          let n = few-named image ds (p .described) in
+          (omega arith, T→true (lt→ltb id firstFileId (omega arith)) ∙ sym e)
+      go false e l h =
+          let n = few-named image ds (p .described) in
+          (omega arith, not-T→false (λ t. let k = ltb→lt id firstFileId t in omega arith) ∙ sym e)
+
+  root : (r : Bytes) × (inodeOf byBytes v rootId ≡ some r)
+  root = root-there v (p .root)
+
+  no-root : id ≢ rootId
+  no-root e =
+      let m = counting-mem byBytes (v .inodes) rootId (root .0) (root .1) in
+      free-id .no-inode (root .0) (m .0) (m .1 ∙ sym e)
+
+  called : GoodName name
+  called = good-name base path octets-base octets-path (g .good) name (last-mem (pathNames base path) (g .named))
+
+  low : g .directory < firstFileId
+  unfolding isDirectoryId
+  low = ltb→lt (g .directory) firstFileId (true→T (g .is-directory))
+
+  meant : MeantInode id 0 (g .directory) name
+  unfolding inodeRule isInodeId
+  meant = record {
+    id-fits = omega (arith, ranged .0);
+    sequence-fits = omega arith;
+    parent-fits = omega (arith, low);
+    name-fits = called .fits;
+    rule = rw (
+      T→true {b = ltb id firstBlockId} (lt→ltb id firstBlockId (ranged .0)),
+      eqb-differ id rootId no-root,
+      eqb-differ (g .directory) NONE (λ e. omega (arith, low)),
+      g .is-directory,
+      T→true {b = ltb 0 (length name)} (lt→ltb 0 (length name) (called .some-bytes)),
+    );
+    good = called .good;
+    octets = called .octets;
+  }
+
+  is : IsInode b id 0 (g .directory) name
+  is = inode-made id 0 (g .directory) name meant
+
+  abbrev image′ : Bytes
+  image′ = imageCreated image ds base path kind
+
+  went-one : WrittenOne image image′ ds b
+  unfolding imageCreated newInode
+  went-one = rw (imageCreated, g .goes, g .placed)
+      (written-one (all-placed ds image (b ∷ []) (g .stores) (p .described) (λ c m. rw (List·Memᴰ·eq-of-singleton m) (is .whole)) (g .placed)))
+
+  stored-one : OneStored image image′ ds (went-one .area) b
+  stored-one = rw (went-one .image-is) (one-stored image ds (p .described) (went-one .area) b (went-one .fits) (is .whole))
+
+  -- no record has the id
+  unborn : (r : Bytes) → List·Memᴰ r (acceptedRecords image ds) → recordId r ≢ recordId b
+  unborn r m e = ⊎-elim
+      (λ k. free-id .no-inode r k (e ∙ is .id-is)) (λ k. free-id .no-block r k (e ∙ is .id-is)) (accepted-kind image ds r m)
+
+  added : Added byBytes (v .inodes) (volume image′ ds .inodes) b
+  added = inodes-added stored-one (went-one .fits .file) (λ r m e. absurd (unborn r m e)) (is .no-block)
+
+  kept-blocks : Same (v .blocks) (volume image′ ds .blocks)
+  kept-blocks = blocks-same stored-one (went-one .fits .file) (λ r m e. absurd (unborn r m e)) (is .no-block)
+
+  still : Passes image′ ds
+  still = still-passes stored-one (went-one .fits .file) (λ r m e. absurd (unborn r m e)) p
+      (few-ids (volume image′ ds)
+      (omega (arith, added-ids byBytes (v .inodes) (volume image′ ds .inodes) b added (agreed-inodes image ds p), g .few))
+      (omega (arith, same-count byBytes (v .blocks) (volume image′ ds .blocks) kept-blocks (agreed-blocks image ds p), ids-few v (p .few) .1)))
+
+  no-inode : (r : Bytes) → List·Memᴰ r (v .inodes) → recordId r ≢ recordId b
+  no-inode r m e = free-id .no-inode r m (e ∙ is .id-is)
+
+  no-parent : (r : Bytes) → List·Memᴰ r (v .inodes) → byBytes .parent r ≢ recordId b
+  no-parent r m e = free-id .no-parent r m (e ∙ is .id-is)
+
+  -- the directory is live, and has no child of that name
+  above-lives : fateOf byBytes v (byBytes .parent b) ≡ live
+  above-lives = rw (is .parent-is) (found-lives byBytes v (root .0) (root .1) (namesBefore (pathNames base path)) (g .directory) (g .found-there))
+
+  free-name : (j : ℕ) → isChild byBytes v (byBytes .parent b) (byBytes .name b) j ≡ false
+  free-name j = rw (is .parent-is, is .name-is) (not-T→false (λ t. none-in _ (g .name-free) (mem-children byBytes v (g .directory) name j t)))
+    where
+      none-in : (l : List ℕ) → length l ≡ 0 → List·Memᴰ j l → ⊥
+      none-in [] e m = List·Memᴰ·not-nil m
+      none-in (x ∷ l) e m = omega arith
+
+  born-other : (i : ℕ) → i ≢ id → i ≢ recordId b
+  born-other i n e = n (e ∙ is .id-is)
+
+  now : InodeNew byBytes v (volume image′ ds) b
+  now = inode-new byBytes v (volume image′ ds) b added (agreed-inodes image ds p) no-inode no-parent (rw (is .id-is) no-root)
+      (rw (is .parent-is) (λ e. omega (arith, low))) above-lives (rw (is .parent-is) (g .is-directory)) free-name
+
+  new-fates : (i : ℕ) → i ≢ id → fateOf byBytes (volume image′ ds) i ≡ fateOf byBytes v i
+  new-fates i n = now .fates i (born-other i n)
+
+  new-contents : (f : ℕ) → fileBlocks byBytes (volume image′ ds) f ≡ fileBlocks byBytes v f
+  new-contents = same-contents byBytes v (volume image′ ds) kept-blocks (agreed-blocks image ds p)
+
+  it-found : lookupNames byBytes (volume image′ ds) (namesBefore (pathNames base path) ++ (byBytes .name b ∷ [])) ≡ found (recordId b)
+  it-found = now .found-there (namesBefore (pathNames base path)) (g .found-there ∙ ap found (sym (is .parent-is)))
+
+  after-create : AfterCreate image image′ ds base path kind id
+  unfolding isInodeId resolve give
+  after-create = record {
+    mounts = mounts image′ ds still;
+    smallest = least;
+    unused = free-id;
+    an-inode = T→true (lt→ltb id firstBlockId (ranged .0));
+    of-kind = ranged .1;
+    lives = rw (is .id-is) at (now .lives);
+    found-at-path = rw (resolve, mounts image′ ds still, g .good) (finds (rw (is .name-is, is .id-is) at it-found));
+    empty = new-contents id ∙ no-blocks byBytes v id (free-id .no-owner);
+    paths = same-paths;
+    reads = λ i n position room. rw (give, new-fates i n, new-contents i);
+    inodes = λ i n. now .inodes i (born-other i n);
+    fates = new-fates;
+    contents = new-contents;
+    directory = g .directory;
+    above = g .found-there;
+    went = went-one;
+    stored = stored-one;
+  }
+    where
+      finds : lookupNames byBytes (volume image′ ds) (namesBefore (pathNames base path) ++ (name ∷ [])) ≡ found id
+          → lookupNames byBytes (volume image′ ds) (pathNames base path) ≡ found id
+      finds q = ap (lookupNames byBytes (volume image′ ds)) (names-split (pathNames base path) (g .named)) ∙ q
+
+      same-paths : (c q : Bytes) → resolve image ds c q ≢ absent 9 → resolve image′ ds c q ≡ resolve image ds c q
+      same-paths c q n = resolve-alike image image′ ds c q (g .mounted) (mounts image′ ds still)
+          (λ e. now .lookups (pathNames c q) (λ z. n (resolved image ds c q (g .mounted) ∙ rw (e, z))))
+
+-- "Create is told file or directory and answers the new id"
+pub create : (image : Bytes) (ds : List Descriptor) (base path : Bytes) (kind : ℕ) → Octets base → Octets path
+    → createOf image ds base path kind .number ≡ 0
+    → AfterCreate image (imageCreated image ds base path kind) ds base path kind (createOf image ds base path kind .id)
+unfolding createOf
+create image ds base path kind ob op e =
+    let g = create-goes image ds base path kind e in
+    rw (g .goes) (after-create image ds base path kind ob op g)

@@ -1,0 +1,78 @@
+-- The pieces that append cuts its data into: joined they are the data, and each is as long as a block may be.
+use Prim.Native.Nat.{ℕ, zero, suc, _+_, _-_, _≤_, _<_}
+use mathlib.Core.Path.{_≡_, refl, ap, _∙_}
+use mathlib.Core.Logic.{_≢_, ⊎-elim}
+use mathlib.Core.List.{List, [], _∷_, _++_, List·Memᴰ, List·Memᴰ·head, List·Memᴰ·tail, List·Memᴰ·cases-cons, List·Memᴰ·not-nil}
+use native.Mathlib.Omega.{arith}
+use lib.ListN.{length, take, drop, length-take, length-drop, take-append-drop}
+use Rattle.format.specs.Bytes.{Bytes}
+use Rattle.format.specs.Record.{longestData}
+use Rattle.format.specs.BlockSize.{greatestBlock}
+use Rattle.format_laws.specs.Crc.{Octets}
+use Rattle.volume_laws.specs.Tests.{or-is-false, eqb-false}
+use Rattle.calls.specs.Areas.{fileAreas, shortestArea}
+use Rattle.calls.specs.Mount.{wrongAreas}
+use Rattle.calls.specs.Append.{shortestLength, cutInto, piecesOf}
+use Rattle.calls.specs.Collect.{joinedBytes}
+use Rattle.calls.specs.declared.Descriptor.{Descriptor}
+use Rattle.calls_laws.specs.Checks.{Passes}
+use Rattle.demand2.specs.Store.{file-listed}
+use Rattle.demand2.specs.Places.{area-lengths}
+use Rattle.demand2.specs.Octet.{octets-take, octets-drop}
+
+-- a piece that a block can hold
+pub record GoodPiece (p : Bytes) : Type 0 where
+  pub some-bytes : 0 < length p
+  pub fits : length p ≤ longestData
+  pub octets : Octets p
+
+module _ (n : ℕ) (some-room : 1 ≤ n) where
+  cut-joined : (k : ℕ) (text : Bytes) → length text ≤ k → joinedBytes (cutInto k n text) ≡ text
+  unfolding cutInto joinedBytes
+  cut-joined zero [] h = refl
+  cut-joined zero (b ∷ l) h = absurd (omega arith)
+  cut-joined (suc k) [] h = refl
+  cut-joined (suc k) (b ∷ l) h =
+      ap (λ (x : Bytes). take n (b ∷ l) ++ x) (cut-joined k (drop n (b ∷ l)) (omega (arith, length-drop n (b ∷ l))))
+      ∙ take-append-drop n (b ∷ l)
+
+  cut-pieces : n ≤ longestData → (k : ℕ) (text : Bytes) → Octets text → (p : Bytes) → List·Memᴰ p (cutInto k n text) → GoodPiece p
+  unfolding cutInto
+  cut-pieces most zero text o p m = absurd (List·Memᴰ·not-nil m)
+  cut-pieces most (suc k) [] o p m = absurd (List·Memᴰ·not-nil m)
+  cut-pieces most (suc k) (b ∷ l) o p m =
+      ⊎-elim here (λ m. cut-pieces most k (drop n (b ∷ l)) (octets-drop n (b ∷ l) o) p m) (List·Memᴰ·cases-cons m)
+    where
+      here : p ≡ take n (b ∷ l) → GoodPiece p
+      here e = rw e (record {
+        some-bytes = omega (arith, length-take n (b ∷ l));
+        fits = omega (arith, length-take n (b ∷ l));
+        octets = octets-take n (b ∷ l) o;
+      })
+
+shortest-least : (fs : List Descriptor) → length fs ≢ 0 → ((d : Descriptor) → List·Memᴰ d fs → shortestArea ≤ d .length)
+    → shortestArea ≤ shortestLength fs
+unfolding shortestLength
+shortest-least [] n h = absurd (n refl)
+shortest-least (d ∷ []) n h = h d (List·Memᴰ·head refl)
+shortest-least (d ∷ e ∷ fs) n h =
+    let i = shortest-least (e ∷ fs) (λ z. omega arith) (λ x m. h x (List·Memᴰ·tail m)) in
+    omega (arith, h d (List·Memᴰ·head refl))
+
+-- writers' blocks hold some bytes, and no more than a block may
+module _ (image : Bytes) (ds : List Descriptor) (p : Passes image ds) where
+  block-size : (1 ≤ greatestBlock (shortestLength (fileAreas image ds))) × (greatestBlock (shortestLength (fileAreas image ds)) ≤ longestData)
+  unfolding greatestBlock wrongAreas
+  block-size =
+      let n = or-is-false _ _ (p .areas) .0 in
+      let s = shortest-least (fileAreas image ds) (eqb-false _ 0 n)
+      (λ d m. area-lengths image ds (p .described) d (file-listed image ds d m) .0) in
+      (omega arith, omega arith)
+
+  pub pieces-joined : (text : Bytes) → joinedBytes (piecesOf (fileAreas image ds) text) ≡ text
+  unfolding piecesOf
+  pieces-joined text = cut-joined (greatestBlock (shortestLength (fileAreas image ds))) (block-size .0) (length text) text (omega arith)
+
+  pub pieces-good : (text : Bytes) → Octets text → (q : Bytes) → List·Memᴰ q (piecesOf (fileAreas image ds) text) → GoodPiece q
+  unfolding piecesOf
+  pieces-good text = cut-pieces (greatestBlock (shortestLength (fileAreas image ds))) (block-size .0) (block-size .1) (length text) text

@@ -1,0 +1,98 @@
+-- Records as writers make them: whole, of their kind, and with the fields that were meant.
+use Prim.Native.Nat.{ℕ}
+use mathlib.Core.Path.{_≡_, refl}
+use mathlib.Core.Logic.{_≢_}
+use mathlib.Core.Bool.{true, false}
+use mathlib.Core.Option.{Option, none, some}
+use mathlib.Core.List.{List, [], _∷_, append-nil, List·Memᴰ}
+use native.Mathlib.Omega.{arith}
+use lib.Dec.{eqb}
+use Rattle.format.specs.Bytes.{Bytes}
+use Rattle.format.specs.Record.{inode, block, recordSize, recordId, recordSequence, acceptable}
+use Rattle.format.specs.Encoding.{inodeBytes, blockBytes}
+use Rattle.format_laws.specs.Record.{kind-magic, inode-lawful, block-lawful}
+use Rattle.format_laws.specs.Encoding.{MeantInode, MeantBlock, inode-id, inode-sequence, inode-parent, inode-name, inode-written, inode-size}
+use Rattle.format_laws.specs.Encoding.{block-id, block-sequence, block-owner, block-previous, block-text, block-written, block-size}
+use Rattle.volume.specs.Lists.{keep, has, only}
+use Rattle.volume.specs.View.{View, byBytes}
+use Rattle.volume.specs.Counting.{Volume, blockOf, blockIds}
+use Rattle.volume.specs.Contents.{owns, owned, lastBlock, chainBack, fileBlocks}
+use Rattle.volume_laws.specs.Tests.{eqb-differ}
+use Rattle.volume_laws.specs.Lists.{keep-none}
+use Rattle.volume_laws.specs.Counting.{counting-mem}
+use Rattle.calls.specs.Image.{put}
+use Rattle.calls.specs.declared.Descriptor.{Descriptor}
+use Rattle.demand2.specs.Area.{Whole}
+use Rattle.demand2.specs.Store.{freePlace, Fits}
+use Rattle.demand2.specs.Places.{Written, written, all-written}
+
+pub record IsInode (b : Bytes) (id sequence parent : ℕ) (name : Bytes) : Type 0 where
+  pub whole : Whole recordSize b
+  pub no-block : byBytes .isBlock b ≡ false
+  pub id-is : recordId b ≡ id
+  pub sequence-is : recordSequence b ≡ sequence
+  pub parent-is : byBytes .parent b ≡ parent
+  pub name-is : byBytes .name b ≡ name
+
+pub record IsBlock (b : Bytes) (id sequence owner previous : ℕ) (text : Bytes) : Type 0 where
+  pub whole : Whole recordSize b
+  pub is-block : byBytes .isBlock b ≡ true
+  pub id-is : recordId b ≡ id
+  pub sequence-is : recordSequence b ≡ sequence
+  pub owner-is : byBytes .owner b ≡ owner
+  pub previous-is : byBytes .previous b ≡ previous
+  pub text-is : byBytes .text b ≡ text
+
+pub inode-made : (id sequence parent : ℕ) (name : Bytes) → MeantInode id sequence parent name
+    → IsInode (inodeBytes id sequence parent name) id sequence parent name
+inode-made id sequence parent name m =
+    let b = inodeBytes id sequence parent name in
+    let e = append-nil b in
+    let w = inode-written id sequence parent name m [] in
+    let a : acceptable inode b ≡ true = rw e at (w .0) in
+    record {
+      whole = record { some-bytes = omega (arith, inode-size id sequence parent name); all-of-it = rw e at (w .1) };
+      no-block = rw (kind-magic inode inode-lawful b a);
+      id-is = rw e at (inode-id id sequence parent name m []);
+      sequence-is = rw e at (inode-sequence id sequence parent name m []);
+      parent-is = rw e at (inode-parent id sequence parent name m []);
+      name-is = inode-name id sequence parent name m;
+    }
+
+pub block-made : (id sequence owner previous : ℕ) (text : Bytes) → MeantBlock id sequence owner previous text
+    → IsBlock (blockBytes id sequence owner previous text) id sequence owner previous text
+block-made id sequence owner previous text m =
+    let b = blockBytes id sequence owner previous text in
+    let e = append-nil b in
+    let w = block-written id sequence owner previous text m [] in
+    let a : acceptable block b ≡ true = rw e at (w .0) in
+    record {
+      whole = record { some-bytes = omega (arith, block-size id sequence owner previous text); all-of-it = rw e at (w .1) };
+      is-block = rw (kind-magic block block-lawful b a);
+      id-is = rw e at (block-id id sequence owner previous text m []);
+      sequence-is = rw e at (block-sequence id sequence owner previous text m []);
+      owner-is = rw e at (block-owner id sequence owner previous text m []);
+      previous-is = rw e at (block-previous id sequence owner previous text m []);
+      text-is = block-text id sequence owner previous text m;
+    }
+
+-- one record, stored where it fits
+pub record WrittenOne (image image′ : Bytes) (ds : List Descriptor) (b : Bytes) : Type 0 where
+  pub area : Descriptor
+  pub fits : Fits image ds area b
+  pub image-is : image′ ≡ put image (freePlace image area) b
+
+pub written-one : {ds : List Descriptor} {image image′ b : Bytes} → Written ds image (b ∷ []) image′ → WrittenOne image image′ ds b
+written-one (written area f w all-written) = record { area = area; fits = f; image-is = refl }
+
+-- "no blocks means empty"
+pub no-blocks : {A : Type 0} (F : View A) (v : Volume A) (f : ℕ) → ((r : A) → List·Memᴰ r (v .blocks) → F .owner r ≢ f) → fileBlocks F v f ≡ some []
+unfolding fileBlocks lastBlock chainBack only keep owns owned
+no-blocks {A} F v f h = rw (fileBlocks, lastBlock, none-owned)
+  where
+    not-owned : (i : ℕ) (o : Option A) → blockOf F v i ≡ o → has (λ r. eqb (F .owner r) f) o ≡ false
+    not-owned i none q = refl
+    not-owned i (some r) q = eqb-differ (F .owner r) f (h r (counting-mem F (v .blocks) i r q .0))
+
+    none-owned : owned F v f ≡ []
+    none-owned = keep-none (owns F (blockOf F v) f) (blockIds F v) (λ i m. not-owned i (blockOf F v i) refl)

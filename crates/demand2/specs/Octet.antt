@@ -1,0 +1,59 @@
+-- Lists of bytes, each below 256, by their members and in parts.
+use Prim.Native.Nat.{ℕ, suc, _+_, _^_, _<_}
+use mathlib.Core.Path.{refl}
+use mathlib.Core.List.{List, [], _∷_, List·Memᴰ, List·Memᴰ·head, List·Memᴰ·tail}
+use native.Mathlib.Omega.{arith}
+use native.Mathlib.Decide.{decLt}
+use lib.ListN.{length, take, drop, length-take, length-drop, List·getD-eq-default}
+use lib.Seq.{getD-take, getD-drop}
+use Rattle.format.specs.Bytes.{Bytes, byteAt, le32}
+use Rattle.format.specs.Record.{recordSize}
+use Rattle.format_laws.specs.Crc.{Octets}
+use Rattle.format_laws.specs.Encoding.{octets-none, octets-cons}
+use Rattle.format_laws.specs.Reading.{records-lawful}
+use Rattle.format_laws.specs.Taken.{records-from, from-each}
+use Rattle.calls.specs.Areas.{areaBytes, fileAreas}
+use Rattle.calls.specs.Mount.{acceptedRecords}
+use Rattle.calls.specs.declared.Descriptor.{Descriptor}
+use Rattle.calls_laws.specs.Records.{stored}
+
+pub octet : (l : Bytes) → Octets l → {x : ℕ} → List·Memᴰ x l → x < 256
+octet (y ∷ l) o (List·Memᴰ·head e) = rw e (o .at 0 (omega arith))
+octet (y ∷ l) o (List·Memᴰ·tail m) = octet l (record { at = λ i h. o .at (suc i) (omega arith) }) m
+
+pub octets : (l : Bytes) → ((x : ℕ) → List·Memᴰ x l → x < 256) → Octets l
+octets [] h = octets-none
+octets (y ∷ l) h = octets-cons y (h y (List·Memᴰ·head refl)) (octets l (λ x m. h x (List·Memᴰ·tail m)))
+
+module _ (n : ℕ) (l : Bytes) (o : Octets l) where
+  pub octets-take : Octets (take n l)
+  octets-take = record {
+    at = λ i h. let f : i < n = omega (arith, length-take n l) in rw (getD-take n l i 0 f)
+        (o .at i (omega (arith, length-take n l)));
+  }
+
+  pub octets-drop : Octets (drop n l)
+  octets-drop = record { at = λ i h. rw (getD-drop n l i 0) (o .at (n + i) (omega (arith, length-drop n l))) }
+
+octet-at : (l : Bytes) → Octets l → (i : ℕ) → byteAt l i < 256
+octet-at l o i = go (decLt i (length l))
+  where
+    go : Dec (i < length l) → byteAt l i < 256
+    go (yes h) = o .at i h
+    go (no h) = omega (arith, List·getD-eq-default l 0 {n = i} (omega arith))
+
+-- a number of four bytes fits into 32 bits
+pub le32-fits : (l : Bytes) → Octets l → (i : ℕ) → le32 l i < 2 ^ 32
+unfolding le32
+le32-fits l o i = omega (arith, octet-at l o i, octet-at l o (i + 1), octet-at l o (i + 2), octet-at l o (i + 3))
+
+-- the records of an image of bytes are bytes
+pub record-octets : (image : Bytes) (ds : List Descriptor) → Octets image → (b : Bytes) → List·Memᴰ b (acceptedRecords image ds) → Octets b
+unfolding acceptedRecords
+record-octets image ds o b m =
+    let s = stored image (fileAreas image ds) b m in
+    let a = areaBytes image (s .area) in
+    let t = from-each recordSize records-lawful a 24 (s .one) (rw (records-from recordSize a) at (s .taken-there)) in
+    rw (← s .bytes-are, t .is)
+    (octets-take (recordSize (drop (s .one .place) a)) (drop (s .one .place) a)
+    (octets-drop (s .one .place) a (octets-take (s .area .length) (drop (s .area .offset) image) (octets-drop (s .area .offset) image o))))

@@ -1,0 +1,1 @@
+// Theorems only, in specs/: what format, create, append and unlink make of a file system.

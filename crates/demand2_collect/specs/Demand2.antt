@@ -1,0 +1,65 @@
+-- Demand 2, whole: for any image and any area list, what each call leaves.
+use Prim.Native.Nat.{ℕ, _≤_}
+use mathlib.Core.Path.{_≡_}
+use mathlib.Core.Option.{some}
+use mathlib.Core.List.{List, [], List·Memᴰ}
+use Rattle.format.specs.Bytes.{Bytes}
+use Rattle.format.specs.Record.{recordId, recordSequence}
+use Rattle.format_laws.specs.Crc.{Octets}
+use Rattle.volume.specs.View.{byBytes}
+use Rattle.volume.specs.Counting.{counting, inodeOf, blockOf}
+use Rattle.volume_laws.specs.Counting.{counting-mem, counting-top}
+use Rattle.calls.specs.Mount.{volume}
+use Rattle.calls.specs.Format.{formatNumber, imageFormatted}
+use Rattle.calls.specs.Create.{createOf, imageCreated}
+use Rattle.calls.specs.Append.{appendOf, imageAppended}
+use Rattle.calls.specs.Unlink.{unlinkOf, imageUnlinked}
+use Rattle.calls.specs.Collect.{collectOf, imageCollected}
+use Rattle.calls.specs.declared.Descriptor.{Descriptor}
+use Rattle.demand2.specs.Format.{AfterFormat, format}
+use Rattle.demand2.specs.Create.{AfterCreate, create}
+use Rattle.demand2.specs.Append.{AfterAppend, append, append-nothing}
+use Rattle.demand2.specs.Unlink.{AfterUnlink, unlink}
+use Rattle.demand2.specs.Refused.{RefusedCalls, refused-calls}
+use Rattle.demand2_collect.specs.Collect.{AfterCollect, collect}
+
+-- r is one of the records rs, bears the id i, and none of that id has a greater sequence
+pub record Greatest (rs : List Bytes) (i : ℕ) (r : Bytes) : Type 0 where
+  pub there : List·Memᴰ r rs
+  pub own-id : recordId r ≡ i
+  pub top : (s : Bytes) → List·Memᴰ s rs → recordId s ≡ i → recordSequence s ≤ recordSequence r
+
+greatest : (rs : List Bytes) (i : ℕ) (r : Bytes) → counting byBytes rs i ≡ some r → Greatest rs i r
+greatest rs i r e = let m = counting-mem byBytes rs i r e in record { there = m .0; own-id = m .1; top = counting-top byBytes rs i r e }
+
+pub record Demand2 (image : Bytes) (ds : List Descriptor) : Type 0 where
+  -- "for each object the greatest sequence number counts"
+  pub inodes : (i : ℕ) (r : Bytes) → inodeOf byBytes (volume image ds) i ≡ some r → Greatest (volume image ds .inodes) i r
+  pub blocks : (i : ℕ) (r : Bytes) → blockOf byBytes (volume image ds) i ≡ some r → Greatest (volume image ds .blocks) i r
+  -- "After an append the file reads as its old contents and then the new data. Creating, unlinking and collecting do what is written there,
+  -- and everything else that could be reached by path reads as before": of each accepted call; names, data and image are bytes
+  pub formats : formatNumber image ds ≡ 0 → AfterFormat image (imageFormatted image ds) ds
+  pub creates : (base path : Bytes) (kind : ℕ) → Octets base → Octets path → createOf image ds base path kind .number ≡ 0
+      → AfterCreate image (imageCreated image ds base path kind) ds base path kind (createOf image ds base path kind .id)
+  pub appends : (base path text : Bytes) → Octets text → appendOf image ds base path text ≡ 0
+      → AfterAppend image (imageAppended image ds base path text) ds base path text
+  -- "0 bytes write nothing"
+  pub appends-nothing : (base path : Bytes) → imageAppended image ds base path [] ≡ image
+  pub unlinks : (base path : Bytes) → Octets image → unlinkOf image ds base path ≡ 0
+      → AfterUnlink image (imageUnlinked image ds base path) ds base path
+  pub collects : collectOf image ds ≡ 0 → AfterCollect image (imageCollected image ds) ds
+  -- and of each refused one
+  pub refused : RefusedCalls image ds
+
+pub demand2 : (image : Bytes) (ds : List Descriptor) → Demand2 image ds
+demand2 image ds = record {
+  inodes = greatest (volume image ds .inodes);
+  blocks = greatest (volume image ds .blocks);
+  formats = format image ds;
+  creates = create image ds;
+  appends = append image ds;
+  appends-nothing = append-nothing image ds;
+  unlinks = unlink image ds;
+  collects = collect image ds;
+  refused = refused-calls image ds;
+}

@@ -1,0 +1,1 @@
+// Theorems only, in specs/: what collect makes of a file system.
