@@ -4,7 +4,7 @@ use mathlib.Core.Path.{_≡_, refl, sym, ap, _∙_}
 use mathlib.Core.Logic.{_≢_, ⊎-elim}
 use mathlib.Core.Bool.{Bool, true, false, cond, not, _||_}
 use mathlib.Core.Option.{Option, some}
-use mathlib.Core.List.{List, [], _∷_, _++_, List·Memᴰ, List·Memᴰ·eq-of-singleton, List·Memᴰ·not-nil}
+use mathlib.Core.List.{List, [], _∷_, _++_, List·Memᴰ, List·Memᴰ·eq-of-singleton, List·Memᴰ·not-nil, append-assoc}
 use native.Mathlib.Omega.{arith}
 use lib.ListN.{length}
 use lib.Dec.{eqb, ltb, nltb→le, ltb→lt, lt→ltb}
@@ -18,12 +18,12 @@ use Rattle.format_laws.specs.Encoding.{MeantInode}
 use Rattle.volume.specs.View.{byBytes}
 use Rattle.volume.specs.Counting.{Volume, inodeOf, inodeIds}
 use Rattle.volume.specs.Path.{goodPath, pathNames}
-use Rattle.volume.specs.Tree.{Found, found, absent, children, lookupNames, isChild}
+use Rattle.volume.specs.Tree.{Found, found, absent, children, walk, lookupNames, isChild}
 use Rattle.volume.specs.Fate.{live, fateOf}
 use Rattle.volume.specs.Contents.{fileBlocks}
 use Rattle.volume_laws.specs.Tests.{eqb-false, not-is-false, or-is-false, true→T, T→true, not-T→false, eqb-differ}
 use Rattle.volume_laws.specs.Counting.{counting-mem}
-use Rattle.volume_laws.specs.Tree.{mem-children}
+use Rattle.volume_laws.specs.Tree.{lookup-append, mem-children}
 use Rattle.calls.specs.Refusal.{firstRefusal}
 use Rattle.calls.specs.Areas.{fileAreas}
 use Rattle.calls.specs.Mount.{mostInodes, volume, mountNumber, acceptedRecords}
@@ -34,6 +34,7 @@ use Rattle.calls.specs.declared.Descriptor.{Descriptor}
 use Rattle.calls.specs.Lookup.{resolve}
 use Rattle.calls.specs.Read.{give}
 use Rattle.calls_laws.specs.Checks.{Passes, passes, mounts}
+use Rattle.calls_laws.specs.Records.{volume-sound}
 use Rattle.demand2.specs.Added.{Same, Added, added-ids, same-count, same-contents}
 use Rattle.demand2.specs.Mounted.{agreed-inodes, agreed-blocks, accepted-kind, few-ids, ids-few, inodes-added, blocks-same, still-passes}
 use Rattle.demand2.specs.NewInode.{InodeNew, inode-new}
@@ -41,7 +42,7 @@ use Rattle.demand2.specs.Store.{OneStored, one-stored}
 use Rattle.demand2.specs.Places.{place-found, all-placed}
 use Rattle.demand2.specs.Unused.{Unused, Smallest, unused-smallest, unnamed-unused, few-named}
 use Rattle.demand2.specs.Names.{GoodName, good-name, last-mem, names-split}
-use Rattle.demand2.specs.Found.{passed-check, lookup-refused, root-there, found-lives, resolved, resolve-alike}
+use Rattle.demand2.specs.Found.{passed-check, lookup-refused, root-there, found-lives, found-once, resolved, resolve-alike}
 use Rattle.demand2.specs.NewRecord.{IsInode, inode-made, WrittenOne, written-one, no-blocks}
 
 -- what an accepted create found
@@ -155,6 +156,11 @@ pub record AfterCreate (image image′ : Bytes) (ds : List Descriptor) (base pat
   -- "everything else that could be reached by path reads as before": a path that was found finds the same, one refused by another
   -- number than 9 is refused by that number still, and every read of another inode answers alike
   pub paths : (b p : Bytes) → resolve image ds b p ≢ absent 9 → resolve image′ ds b p ≡ resolve image ds b p
+  -- and one refused by 9 is so still, unless its names begin with the created ones
+  pub elsewhere : (b p : Bytes) → ((ns : List Bytes) → pathNames b p ≢ pathNames base path ++ ns) → resolve image′ ds b p ≡ resolve image ds b p
+  -- below the new directory nothing is found (9), and the new file is no directory (11)
+  pub below : (b p n : Bytes) (ns : List Bytes) → goodPath b p ≡ true → pathNames b p ≡ pathNames base path ++ (n ∷ ns)
+      → resolve image′ ds b p ≡ absent (cond (eqb kind 0) 9 11)
   pub reads : (i : ℕ) → i ≢ id → (position room : ℕ) → give (volume image′ ds) i position room ≡ give (volume image ds) i position room
   pub inodes : (i : ℕ) → i ≢ id → inodeOf byBytes (volume image′ ds) i ≡ inodeOf byBytes (volume image ds) i
   pub fates : (i : ℕ) → i ≢ id → fateOf byBytes (volume image′ ds) i ≡ fateOf byBytes (volume image ds) i
@@ -298,8 +304,29 @@ module _ (image : Bytes) (ds : List Descriptor) (base path : Bytes) (kind : ℕ)
   new-contents : (f : ℕ) → fileBlocks byBytes (volume image′ ds) f ≡ fileBlocks byBytes v f
   new-contents = same-contents byBytes v (volume image′ ds) kept-blocks (agreed-blocks image ds p)
 
-  it-found : lookupNames byBytes (volume image′ ds) (namesBefore (pathNames base path) ++ (byBytes .name b ∷ [])) ≡ found (recordId b)
-  it-found = now .found-there (namesBefore (pathNames base path)) (g .found-there ∙ ap found (sym (is .parent-is)))
+  split-names : pathNames base path ≡ namesBefore (pathNames base path) ++ (name ∷ [])
+  split-names = names-split (pathNames base path) (g .named)
+
+  it-found : lookupNames byBytes (volume image′ ds) (pathNames base path) ≡ found id
+  it-found = ap (lookupNames byBytes (volume image′ ds)) split-names
+      ∙ (rw (is .name-is, is .id-is) at (now .found-there (namesBefore (pathNames base path)) (g .found-there ∙ ap found (sym (is .parent-is)))))
+
+  -- nothing is below it
+  none-below : (n : Bytes) (ns : List Bytes)
+      → lookupNames byBytes (volume image′ ds) (pathNames base path ++ (n ∷ ns)) ≡ absent (cond (eqb kind 0) 9 11)
+  none-below n ns =
+      let under : walk byBytes (volume image′ ds) id (n ∷ ns) ≡ absent (cond (isDirectoryId id) 9 11) = rw (is .id-is) at (now .below n ns) in
+      rw (lookup-append byBytes (volume image′ ds) (pathNames base path) (n ∷ ns), it-found, under, ranged .1)
+
+  -- a lookup that took the new name in its directory went by the created names
+  by-the-path : (l ms rest : List Bytes) → lookupNames byBytes v ms ≡ found (byBytes .parent b) → l ≡ ms ++ (byBytes .name b ∷ rest)
+      → l ≡ pathNames base path ++ rest
+  by-the-path l ms rest f e =
+      let same-names : ms ≡ namesBefore (pathNames base path)
+      = found-once byBytes v (volume-sound image ds) (root .0) (root .1) ms (namesBefore (pathNames base path)) (g .directory)
+      (f ∙ ap found (is .parent-is)) (g .found-there) in
+      e ∙ ap (λ k. k ++ (byBytes .name b ∷ rest)) same-names ∙ ap (λ m. namesBefore (pathNames base path) ++ (m ∷ rest)) (is .name-is)
+      ∙ sym (append-assoc (namesBefore (pathNames base path)) (name ∷ []) rest) ∙ ap (λ k. k ++ rest) (sym split-names)
 
   after-create : AfterCreate image image′ ds base path kind id
   unfolding isInodeId resolve give
@@ -310,9 +337,11 @@ module _ (image : Bytes) (ds : List Descriptor) (base path : Bytes) (kind : ℕ)
     an-inode = T→true (lt→ltb id firstBlockId (ranged .0));
     of-kind = ranged .1;
     lives = rw (is .id-is) at (now .lives);
-    found-at-path = rw (resolve, mounts image′ ds still, g .good) (finds (rw (is .name-is, is .id-is) at it-found));
+    found-at-path = rw (resolve, mounts image′ ds still, g .good) it-found;
     empty = new-contents id ∙ no-blocks byBytes v id (free-id .no-owner);
     paths = same-paths;
+    elsewhere = same-elsewhere;
+    below = nothing-below;
     reads = λ i n position room. rw (give, new-fates i n, new-contents i);
     inodes = λ i n. now .inodes i (born-other i n);
     fates = new-fates;
@@ -323,13 +352,18 @@ module _ (image : Bytes) (ds : List Descriptor) (base path : Bytes) (kind : ℕ)
     stored = stored-one;
   }
     where
-      finds : lookupNames byBytes (volume image′ ds) (namesBefore (pathNames base path) ++ (name ∷ [])) ≡ found id
-          → lookupNames byBytes (volume image′ ds) (pathNames base path) ≡ found id
-      finds q = ap (lookupNames byBytes (volume image′ ds)) (names-split (pathNames base path) (g .named)) ∙ q
-
       same-paths : (c q : Bytes) → resolve image ds c q ≢ absent 9 → resolve image′ ds c q ≡ resolve image ds c q
       same-paths c q n = resolve-alike image image′ ds c q (g .mounted) (mounts image′ ds still)
           (λ e. now .lookups (pathNames c q) (λ z. n (resolved image ds c q (g .mounted) ∙ rw (e, z))))
+
+      same-elsewhere : (c q : Bytes) → ((ns : List Bytes) → pathNames c q ≢ pathNames base path ++ ns)
+          → resolve image′ ds c q ≡ resolve image ds c q
+      same-elsewhere c q n = resolve-alike image image′ ds c q (g .mounted) (mounts image′ ds still)
+          (λ e. now .elsewhere (pathNames c q) (λ ms rest f z. n rest (by-the-path (pathNames c q) ms rest f z)))
+
+      nothing-below : (c q n : Bytes) (ns : List Bytes) → goodPath c q ≡ true → pathNames c q ≡ pathNames base path ++ (n ∷ ns)
+          → resolve image′ ds c q ≡ absent (cond (eqb kind 0) 9 11)
+      nothing-below c q n ns t e = resolved image′ ds c q (mounts image′ ds still) ∙ rw (t, e) (none-below n ns)
 
 -- "Create is told file or directory and answers the new id"
 pub create : (image : Bytes) (ds : List Descriptor) (base path : Bytes) (kind : ℕ) → Octets base → Octets path

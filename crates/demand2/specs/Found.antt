@@ -1,23 +1,27 @@
--- What a lookup tells: what it finds is live, and what it answers otherwise is 9, 10 or 11.
-use Prim.Native.Nat.{ℕ, suc, _≤_}
-use mathlib.Core.Path.{_≡_, refl, sym, _∙_}
+-- What a lookup tells: what it finds is live and found by these names alone, and what it answers otherwise is 9, 10 or 11.
+use Prim.Native.Nat.{ℕ, suc, _+_, _≤_, _<_}
+use mathlib.Core.Path.{_≡_, refl, sym, ap, _∙_}
+use mathlib.Core.Logic.{inl, inr, _≢_}
 use mathlib.Core.Bool.{Bool, true, false, cond, not}
 use mathlib.Core.Option.{Option, none, some}
-use mathlib.Core.List.{List, [], _∷_, List·Memᴰ, List·Memᴰ·head, List·Memᴰ·eq-of-singleton}
+use mathlib.Core.List.{List, [], _∷_, _++_, List·Memᴰ, List·Memᴰ·head, List·Memᴰ·eq-of-singleton, append-nil, append-assoc}
 use native.Mathlib.Omega.{arith}
-use lib.Dec.{T}
+use lib.ListN.{length}
+use lib.Dec.{T, eqb, eqb→eq, ltb→lt}
 use Rattle.format.specs.Bytes.{Bytes}
-use Rattle.format.specs.Ids.{rootId, isDirectoryId}
-use Rattle.volume.specs.Lists.{has, Only, nobody, several, one, only}
+use Rattle.format.specs.Ids.{NONE, rootId, firstFileId, isDirectoryId}
+use Rattle.volume.specs.Lists.{same, has, Only, nobody, several, one, only}
 use Rattle.volume.specs.View.{View, byBytes}
 use Rattle.volume.specs.Counting.{Volume, inodeOf}
-use Rattle.volume.specs.Fate.{live, isLive, ascend, fateOf}
+use Rattle.volume.specs.Fate.{live, isLive, ascend, climb, fateOf}
 use Rattle.volume.specs.Tree.{found, absent, onward, isEntry, isChild, children, walk, lookupNames}
 use Rattle.volume.specs.Path.{goodPath, pathNames}
-use Rattle.volume_laws.specs.Tests.{and-T}
+use Rattle.volume_laws.specs.Tests.{true→T, and-T, eqb-differ, has-some}
+use Rattle.volume_laws.specs.Lists.{same-eq}
 use Rattle.volume_laws.specs.Counting.{counting-mem}
-use Rattle.volume_laws.specs.Climb.{is-live, fate-own}
+use Rattle.volume_laws.specs.Climb.{climb-stop, climb-on, is-live, fate-own}
 use Rattle.volume_laws.specs.Tree.{mem-children, children-mem}
+use Rattle.volume_laws.specs.Sound.{Sound}
 use Rattle.calls.specs.Mount.{volume, noRoot, mountNumber}
 use Rattle.calls.specs.Lookup.{resolve}
 use Rattle.calls.specs.declared.Descriptor.{Descriptor}
@@ -37,9 +41,13 @@ root-there v e = go (inodeOf byBytes v rootId) refl e
     go (some r) q z = (r, q)
 
 module _ {A : Type 0} (F : View A) (v : Volume A) where
-  pub root-lives : (r : A) → inodeOf F v rootId ≡ some r → fateOf F v rootId ≡ live
+  -- the chain of parents ends at the root
+  root-ends : (r : A) → inodeOf F v rootId ≡ some r → ascend F (inodeOf F v rootId) ≡ inl live
   unfolding ascend
-  root-lives r e = fate-own F v rootId live (rw (e, ascend, counting-mem F (v .inodes) rootId r e .1))
+  root-ends r e = rw (e, ascend, counting-mem F (v .inodes) rootId r e .1)
+
+  pub root-lives : (r : A) → inodeOf F v rootId ≡ some r → fateOf F v rootId ≡ live
+  root-lives r e = fate-own F v rootId live (root-ends r e)
 
   -- the step that a walk took
   pub record Stepped (d : ℕ) (n : Bytes) (ns : List Bytes) (j : ℕ) : Type 0 where
@@ -86,6 +94,60 @@ module _ {A : Type 0} (F : View A) (v : Volume A) where
   pub found-lives : (r : A) → inodeOf F v rootId ≡ some r → (ns : List Bytes) (j : ℕ) → lookupNames F v ns ≡ found j → fateOf F v j ≡ live
   unfolding lookupNames
   found-lives r e ns j q = walk-lives rootId ns j (root-lives r e) q
+
+  -- the chain of parents goes on above an inode that has a parent
+  goes-on : Sound F v → (x : ℕ) (s : A) → inodeOf F v x ≡ some s → F .parent s ≢ NONE → ascend F (inodeOf F v x) ≡ inr s
+  unfolding ascend
+  goes-on sound x s e n =
+      let m = counting-mem F (v .inodes) x s e in
+      rw (e, ascend, eqb-differ (F .id s) rootId (λ z. n (sound .root-parent s (m .0) z)), eqb-differ (F .parent s) NONE n)
+
+  -- from a child to its directory
+  child-above : Sound F v → (d : ℕ) (n : Bytes) (x : ℕ) → isDirectoryId d ≡ true → T (isChild F v d n x)
+      → (s : A) × (ascend F (inodeOf F v x) ≡ inr s) × (F .parent s ≡ d) × (F .name s ≡ n)
+  unfolding isChild isEntry isDirectoryId
+  child-above sound d n x e t =
+      let h = has-some (isEntry F d n) (inodeOf F v x) (and-T (has (isEntry F d n) (inodeOf F v x)) (isLive (fateOf F v x)) t .0) in
+      let u = and-T (eqb (F .parent (h .0)) d) (same (F .name (h .0)) n) (h .2) in
+      let p : F .parent (h .0) ≡ d = eqb→eq (F .parent (h .0)) d (u .0) in
+      let low : d < firstFileId = ltb→lt d firstFileId (true→T e) in
+      (h .0, goes-on sound x (h .0) (h .1) (λ z. omega (arith, p, low)), p, same-eq (F .name (h .0)) n (u .1))
+
+  -- the names gathered along at most k parents
+  abbrev namesWithin : ℕ → ℕ → List Bytes
+  namesWithin = climb F (λ f. []) (λ r l. l ++ (F .name r ∷ [])) (inodeOf F v)
+
+  -- they are the names that a walk went by
+  walk-names : Sound F v → (k d : ℕ) (ns : List Bytes) (j : ℕ) → walk F v d ns ≡ found j
+      → namesWithin (length ns + k) j ≡ namesWithin k d ++ ns
+  unfolding walk
+  walk-names sound k d [] j q =
+      let z : j ≡ d = cc in
+      let count : length {A = Bytes} [] + k ≡ k = omega arith in
+      ap (λ m. namesWithin m j) count ∙ ap (namesWithin k) z ∙ sym (append-nil (namesWithin k d))
+  walk-names sound k d (n ∷ ns) j q =
+      let s = stepped d n ns j q in
+      let c = child-above sound d n (s .child) (s .directory) (sole d n (s .child) (s .only-child) .0) in
+      let one-more : namesWithin (suc k) (s .child) ≡ namesWithin k d ++ (n ∷ [])
+      = climb-on F (λ f. []) (λ r l. l ++ (F .name r ∷ [])) (inodeOf F v) k (s .child) (c .0) (c .1)
+      ∙ ap (λ i. namesWithin k i ++ (F .name (c .0) ∷ [])) (c .2) ∙ ap (λ m. namesWithin k d ++ (m ∷ [])) (c .3) in
+      let count : suc (length ns) + k ≡ length ns + suc k = omega arith in
+      ap (λ m. namesWithin m j) count ∙ walk-names sound (suc k) (s .child) ns j (s .goes-on)
+      ∙ ap (λ l. l ++ ns) one-more ∙ append-assoc (namesWithin k d) (n ∷ []) ns
+
+  -- an inode is found by one list of names
+  pub found-once : Sound F v → (r : A) → inodeOf F v rootId ≡ some r → (ns ms : List Bytes) (j : ℕ)
+      → lookupNames F v ns ≡ found j → lookupNames F v ms ≡ found j → ns ≡ ms
+  unfolding lookupNames
+  found-once sound r e ns ms j p q =
+      let count : length ns + suc (length ms) ≡ length ms + suc (length ns) = omega arith in
+      sym (from ns (length ms) p) ∙ ap (λ m. namesWithin m j) count ∙ from ms (length ns) q
+    where
+      top : (k : ℕ) → namesWithin (suc k) rootId ≡ []
+      top k = climb-stop F (λ f. []) (λ r l. l ++ (F .name r ∷ [])) (inodeOf F v) k rootId live (root-ends r e)
+
+      from : (l : List Bytes) (k : ℕ) → walk F v rootId l ≡ found j → namesWithin (length l + suc k) j ≡ l
+      from l k f = walk-names sound (suc k) rootId l j f ∙ ap (λ m. m ++ l) (top k)
 
   walk-refused : (d : ℕ) (ns : List Bytes) (k : ℕ) → walk F v d ns ≡ absent k → 9 ≤ k
   unfolding walk

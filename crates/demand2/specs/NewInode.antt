@@ -2,19 +2,19 @@
 use Prim.Native.Nat.{ℕ, _≤_}
 use mathlib.Core.Path.{_≡_, refl, sym, ap, _∙_}
 use mathlib.Core.Logic.{inr, _≢_}
-use mathlib.Core.Bool.{Bool, true, false}
+use mathlib.Core.Bool.{Bool, true, false, cond}
 use mathlib.Core.Option.{none}
 use mathlib.Core.List.{List, [], _∷_, _++_, List·Memᴰ, List·Memᴰ·head, List·Memᴰ·not-nil, List·Memᴰ·eq-of-singleton}
 use native.Mathlib.Omega.{arith}
 use lib.Dec.{T, eqb, eqb→eq}
 use Rattle.format.specs.Bytes.{Bytes}
 use Rattle.format.specs.Ids.{NONE, rootId, isDirectoryId}
-use Rattle.volume.specs.Lists.{same, Only, nobody, several, one, only}
+use Rattle.volume.specs.Lists.{same, has, Only, nobody, several, one, only}
 use Rattle.volume.specs.View.{View}
 use Rattle.volume.specs.Counting.{Volume, inodeOf, inodeIds}
-use Rattle.volume.specs.Fate.{Fate, live, orphan, ascend, climb, longestChain, fateOf}
+use Rattle.volume.specs.Fate.{Fate, live, orphan, isLive, ascend, climb, longestChain, fateOf}
 use Rattle.volume.specs.Tree.{found, absent, onward, isEntry, isChild, children, walk, lookupNames}
-use Rattle.volume_laws.specs.Tests.{T→true, true→T, and-T, eqb-self, eqb-differ}
+use Rattle.volume_laws.specs.Tests.{T→true, true→T, not-T→false, and-T, eqb-self, eqb-differ, has-some}
 use Rattle.volume_laws.specs.Lists.{keep-none, same-refl, same-eq}
 use Rattle.volume_laws.specs.Once.{nodup-keep, alike-only}
 use Rattle.volume_laws.specs.Counting.{Agree, counting-mem, counting-absent, ids-of, fewer-ids}
@@ -28,6 +28,12 @@ pub record InodeNew {A : Type 0} (F : View A) (v w : Volume A) (r : A) : Type 0 
   pub found-there : (ns : List Bytes) → lookupNames F v ns ≡ found (F .parent r) → lookupNames F w (ns ++ (F .name r ∷ [])) ≡ found (F .id r)
   -- only 9 may change
   pub lookups : (ns : List Bytes) → lookupNames F v ns ≢ absent 9 → lookupNames F w ns ≡ lookupNames F v ns
+  -- and only below the new name
+  pub elsewhere : (ns : List Bytes)
+      → ((ms rest : List Bytes) → lookupNames F v ms ≡ found (F .parent r) → ns ≢ ms ++ (F .name r ∷ rest))
+      → lookupNames F w ns ≡ lookupNames F v ns
+  -- where nothing is yet
+  pub below : (n : Bytes) (ns : List Bytes) → walk F w (F .id r) (n ∷ ns) ≡ absent (cond (isDirectoryId (F .id r)) 9 11)
   pub inodes : (j : ℕ) → j ≢ F .id r → inodeOf F w j ≡ inodeOf F v j
   pub fates : (j : ℕ) → j ≢ F .id r → fateOf F w j ≡ fateOf F v j
 
@@ -148,5 +154,68 @@ module _ {A : Type 0} (F : View A) (v w : Volume A) (r : A) (a : Added F (v .ino
         = fresh-lookup ns (λ z. let y : _≡_ {A = ℕ} 0 1 = cc in omega arith) ∙ q in
         rw (lookup-append F w ns (F .name r ∷ []), u, alone, directory)
 
+    -- every walk that does not take the new name is answered as before
+    walk-elsewhere : (d : ℕ) (ns : List Bytes)
+        → ((ms rest : List Bytes) → walk F v d ms ≡ found (F .parent r) → ns ≢ ms ++ (F .name r ∷ rest)) → walk F w d ns ≡ walk F v d ns
+    unfolding walk isEntry
+    walk-elsewhere d [] q = refl
+    walk-elsewhere d (n ∷ ns) q = go (isEntry F d n r) refl (λ x. walk-elsewhere x ns)
+      where
+        there : (b : Bool) (o : Only ℕ) → isDirectoryId d ≡ b → only (children F v d n) ≡ o
+            → ((x : ℕ) → ((ms rest : List Bytes) → walk F v x ms ≡ found (F .parent r) → ns ≢ ms ++ (F .name r ∷ rest))
+            → walk F w x ns ≡ walk F v x ns)
+            → onward b o (λ i. walk F w i ns) ≡ onward b o (λ i. walk F v i ns)
+        there false o e c ih = refl
+        there true nobody e c ih = refl
+        there true several e c ih = refl
+        there true (one i) e c ih = ih i (λ ms rest f z. q (n ∷ ms) rest (rw (walk, e, c) f) (ap (λ l. n ∷ l) z))
+
+        go : (b : Bool) → isEntry F d n r ≡ b
+            → ((x : ℕ) → ((ms rest : List Bytes) → walk F v x ms ≡ found (F .parent r) → ns ≢ ms ++ (F .name r ∷ rest))
+            → walk F w x ns ≡ walk F v x ns)
+            → onward (isDirectoryId d) (only (children F w d n)) (λ i. walk F w i ns)
+            ≡ onward (isDirectoryId d) (only (children F v d n)) (λ i. walk F v i ns)
+        go true t ih =
+            let u = and-T (eqb (F .parent r) d) (same (F .name r) n) (true→T t) in
+            absurd (q [] ns (ap found (sym (eqb→eq (F .parent r) d (u .0)))) (ap (λ m. m ∷ ns) (sym (same-eq (F .name r) n (u .1)))))
+        go false t ih = rw (only-same F v w d n (not-there d n t)) (there (isDirectoryId d) (only (children F v d n)) refl refl ih)
+
+    lookup-elsewhere : (ns : List Bytes)
+        → ((ms rest : List Bytes) → lookupNames F v ms ≡ found (F .parent r) → ns ≢ ms ++ (F .name r ∷ rest))
+        → lookupNames F w ns ≡ lookupNames F v ns
+    unfolding lookupNames
+    lookup-elsewhere = walk-elsewhere rootId
+
+    -- the new inode has no child
+    childless : (n : Bytes) (j : ℕ) → isChild F w (F .id r) n j ≡ false
+    unfolding isChild isEntry
+    childless n = split F r (λ j. isChild F w (F .id r) n j ≡ false)
+        (rw (isChild, changed .here, isEntry, eqb-differ (F .parent r) (F .id r) other-parent))
+        (λ j q. child-other (F .id r) n j q ∙ not-T→false (no-child j))
+      where
+        no-child : (j : ℕ) → ¬ T (isChild F v (F .id r) n j)
+        no-child j t =
+            let h = has-some (isEntry F (F .id r) n) (inodeOf F v j)
+            (and-T (has (isEntry F (F .id r) n) (inodeOf F v j)) (isLive (fateOf F v j)) t .0) in
+            let u = and-T (eqb (F .parent (h .0)) (F .id r)) (same (F .name (h .0)) n) (h .2) in
+            no-parent (h .0) (counting-mem F (v .inodes) j (h .0) (h .1) .0) (eqb→eq (F .parent (h .0)) (F .id r) (u .0))
+
+    nothing-below : (n : Bytes) (ns : List Bytes) → walk F w (F .id r) (n ∷ ns) ≡ absent (cond (isDirectoryId (F .id r)) 9 11)
+    unfolding walk only children
+    nothing-below n ns =
+        rw (walk, children, keep-none (isChild F w (F .id r) n) (inodeIds F w) (λ x m. childless n x)) (go (isDirectoryId (F .id r)))
+      where
+        go : (b : Bool) → onward b nobody (λ i. walk F w i ns) ≡ absent (cond b 9 11)
+        go true = refl
+        go false = refl
+
     pub inode-new : InodeNew F v w r
-    inode-new = record { lives = new-lives; found-there = new-found; lookups = fresh-lookup; inodes = changed .others; fates = fresh-fate }
+    inode-new = record {
+      lives = new-lives;
+      found-there = new-found;
+      lookups = fresh-lookup;
+      elsewhere = lookup-elsewhere;
+      below = nothing-below;
+      inodes = changed .others;
+      fates = fresh-fate;
+    }

@@ -3,6 +3,12 @@ ghost use mathlib.Core.Path.{_≡_};
 ghost use Rattle.calls.specs.Areas.{areaList};
 ghost use Rattle.calls.specs.Report.{reportOf};
 ghost use Rattle.calls.specs.Format.{formatNumber, imageFormatted};
+ghost use Rattle.calls.specs.Lookup.{lookupOf, openOf};
+ghost use Rattle.calls.specs.Read.{readGiven, readAnswer, bufferAfter};
+ghost use lib.ListN.{length};
+use calls::Lookup;
+use calls::Opened;
+use calls::ReadAnswer;
 use calls::Report;
 
 // Makes an empty volume of the areas: the number of refusal, or 0. A refused format changes no byte.
@@ -20,4 +26,45 @@ pub extern "C" fn nffs_report(image: &[u8], areas: &[u32]) -> Report
     ensures { λ r. ⌜ r ≡ reportOf (now (image .entry)) (areaList (now (areas .entry))) ⌝ }
 {
     report::report(image, areas)
+}
+
+// What a path leads to.
+#[no_mangle]
+pub extern "C" fn nffs_lookup<'a>(
+    image: &[u8],
+    areas: &[u32],
+    base: &'a [u8],
+    path: &'a [u8],
+) -> Lookup
+    ensures { λ r. ⌜ r ≡ lookupOf (now (image .entry)) (areaList (now (areas .entry))) (now (base .entry)) (now (path .entry)) ⌝ }
+{
+    file_calls::lookup(image, areas, base, path)
+}
+
+// Opens the file of a path, at position 0.
+#[no_mangle]
+pub extern "C" fn nffs_open<'a>(
+    image: &[u8],
+    areas: &[u32],
+    base: &'a [u8],
+    path: &'a [u8],
+) -> Opened
+    ensures { λ r. ⌜ r ≡ openOf (now (image .entry)) (areaList (now (areas .entry))) (now (base .entry)) (now (path .entry)) ⌝ }
+{
+    file_calls::open(image, areas, base, path)
+}
+
+// Reads the file of an id from a position on, into the front of the buffer; a refused read leaves the buffer as it is.
+#[no_mangle]
+pub extern "C" fn nffs_read_at(
+    image: &[u8],
+    areas: &[u32],
+    id: u32,
+    position: u32,
+    buffer: &mut [u8],
+) -> ReadAnswer
+    ensures answer { λ r. ⌜ r ≡ readAnswer (readGiven (now (image .entry)) (areaList (now (areas .entry))) id position (length (now (buffer .entry)))) ⌝ }
+    ensures bytes { λ r. ⌜ now (buffer .exit) ≡ bufferAfter (readGiven (now (image .entry)) (areaList (now (areas .entry))) id position (length (now (buffer .entry)))) (now (buffer .entry)) ⌝ }
+{
+    file_calls::read_at(image, areas, id, position, buffer)
 }

@@ -1,31 +1,157 @@
-//! The proved calls, behind safe functions.
+//! The proved calls, behind safe functions, as an engine beside the model.
 
-use nffs_model::Report;
+use nffs_model::compare::{Engine, Model};
+use nffs_model::{Create, Handle, Lookup, Open, Read, Report};
 
-/// The layout of the exported answer.
-#[repr(C)]
-struct RawReport {
-    number: u32,
-    inodes: u32,
-    live: u32,
-    stretches: u32,
-    skipped: u32,
+/// The exported calls and the layouts of their answers. A slice passes as a pointer and then a length.
+mod raw {
+    #[repr(C)]
+    pub struct Report {
+        pub number: u32,
+        pub inodes: u32,
+        pub live: u32,
+        pub stretches: u32,
+        pub skipped: u32,
+    }
+
+    /// Lookup's id and kind; open's id and position; a read's bytes given and headers followed.
+    #[repr(C)]
+    pub struct Three {
+        pub number: u32,
+        pub first: u32,
+        pub second: u32,
+    }
+
+    extern "C" {
+        pub fn nffs_format(image: *mut u8, image_len: usize, areas: *const u32, areas_len: usize) -> u32;
+        pub fn nffs_report(image: *const u8, image_len: usize, areas: *const u32, areas_len: usize) -> Report;
+        pub fn nffs_lookup(
+            image: *const u8,
+            image_len: usize,
+            areas: *const u32,
+            areas_len: usize,
+            base: *const u8,
+            base_len: usize,
+            path: *const u8,
+            path_len: usize,
+        ) -> Three;
+        pub fn nffs_open(
+            image: *const u8,
+            image_len: usize,
+            areas: *const u32,
+            areas_len: usize,
+            base: *const u8,
+            base_len: usize,
+            path: *const u8,
+            path_len: usize,
+        ) -> Three;
+        pub fn nffs_read_at(
+            image: *const u8,
+            image_len: usize,
+            areas: *const u32,
+            areas_len: usize,
+            id: u32,
+            position: u32,
+            buffer: *mut u8,
+            buffer_len: usize,
+        ) -> Three;
+    }
 }
 
-extern "C" {
-    fn nffs_format(image: *mut u8, image_len: usize, areas: *const u32, areas_len: usize) -> u32;
-    fn nffs_report(image: *const u8, image_len: usize, areas: *const u32, areas_len: usize) -> RawReport;
-}
-
-/// The proved format.
 pub fn format(image: &mut [u8], areas: &[u32]) -> u32 {
-    // SAFETY: a slice passes as a pointer and then a length; the image is lent alone.
-    unsafe { nffs_format(image.as_mut_ptr(), image.len(), areas.as_ptr(), areas.len()) }
+    // SAFETY: the call stays inside the slices, and the image is lent to it alone.
+    unsafe { raw::nffs_format(image.as_mut_ptr(), image.len(), areas.as_ptr(), areas.len()) }
 }
 
-/// The proved report.
 pub fn report(image: &[u8], areas: &[u32]) -> Report {
-    // SAFETY: a slice passes as a pointer and then a length, and the call only reads them.
-    let r = unsafe { nffs_report(image.as_ptr(), image.len(), areas.as_ptr(), areas.len()) };
+    // SAFETY: the call only reads, inside the slices.
+    let r = unsafe { raw::nffs_report(image.as_ptr(), image.len(), areas.as_ptr(), areas.len()) };
     Report { number: r.number, inodes: r.inodes, live: r.live, stretches: r.stretches, skipped: r.skipped }
+}
+
+pub fn lookup(image: &[u8], areas: &[u32], base: &[u8], path: &[u8]) -> Lookup {
+    // SAFETY: the call only reads, inside the slices.
+    let r = unsafe {
+        raw::nffs_lookup(
+            image.as_ptr(),
+            image.len(),
+            areas.as_ptr(),
+            areas.len(),
+            base.as_ptr(),
+            base.len(),
+            path.as_ptr(),
+            path.len(),
+        )
+    };
+    Lookup { number: r.number, id: r.first, kind: r.second }
+}
+
+pub fn open(image: &[u8], areas: &[u32], base: &[u8], path: &[u8]) -> Open {
+    // SAFETY: the call only reads, inside the slices.
+    let r = unsafe {
+        raw::nffs_open(
+            image.as_ptr(),
+            image.len(),
+            areas.as_ptr(),
+            areas.len(),
+            base.as_ptr(),
+            base.len(),
+            path.as_ptr(),
+            path.len(),
+        )
+    };
+    Open { number: r.number, id: r.first, position: r.second }
+}
+
+pub fn read_at(image: &[u8], areas: &[u32], id: u32, position: u32, buffer: &mut [u8]) -> Read {
+    // SAFETY: the call stays inside the slices, and the buffer is lent to it alone.
+    let r = unsafe {
+        raw::nffs_read_at(
+            image.as_ptr(),
+            image.len(),
+            areas.as_ptr(),
+            areas.len(),
+            id,
+            position,
+            buffer.as_mut_ptr(),
+            buffer.len(),
+        )
+    };
+    Read { number: r.number, given: r.first, headers: r.second }
+}
+
+/// The proved calls. Those that are not exported yet are the model's, so that sequences reach every state.
+pub struct Proved;
+
+impl Engine for Proved {
+    fn format(&self, image: &mut [u8], areas: &[u32]) -> u32 {
+        format(image, areas)
+    }
+    fn report(&self, image: &[u8], areas: &[u32]) -> Report {
+        report(image, areas)
+    }
+    fn lookup(&self, image: &[u8], areas: &[u32], base: &[u8], path: &[u8]) -> Lookup {
+        lookup(image, areas, base, path)
+    }
+    fn open(&self, image: &[u8], areas: &[u32], base: &[u8], path: &[u8]) -> Open {
+        open(image, areas, base, path)
+    }
+    fn read_at(&self, image: &[u8], areas: &[u32], id: u32, position: u32, buffer: &mut [u8]) -> Read {
+        read_at(image, areas, id, position, buffer)
+    }
+    fn read(&self, image: &[u8], areas: &[u32], handle: &mut Handle, buffer: &mut [u8]) -> Read {
+        Model::default().read(image, areas, handle, buffer)
+    }
+    fn create(&self, image: &mut [u8], areas: &[u32], base: &[u8], path: &[u8], kind: u32) -> Create {
+        Model::default().create(image, areas, base, path, kind)
+    }
+    fn append(&self, image: &mut [u8], areas: &[u32], base: &[u8], path: &[u8], data: &[u8]) -> u32 {
+        Model::default().append(image, areas, base, path, data)
+    }
+    fn unlink(&self, image: &mut [u8], areas: &[u32], base: &[u8], path: &[u8]) -> u32 {
+        Model::default().unlink(image, areas, base, path)
+    }
+    fn collect(&self, image: &mut [u8], areas: &[u32]) -> u32 {
+        Model::default().collect(image, areas)
+    }
 }

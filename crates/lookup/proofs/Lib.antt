@@ -1,0 +1,2 @@
+-- The laws that only this crate's functions cite. Assumes nothing.
+pub mod Steps

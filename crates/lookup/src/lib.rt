@@ -1,0 +1,234 @@
+// Looking a path up in the mounted inode table, name by name from the root down.
+ghost use mathlib.Core.Path.{_≡_};
+ghost use mathlib.Core.Bool.{true, false};
+ghost use Prim.Native.Nat.{ℕ, _+_, _≤_, _<_};
+ghost use lib.ListN.{take, drop, getD};
+ghost use Rattle.volume.specs.Lists.{same, only};
+ghost use Rattle.volume.specs.Counting.{Volume};
+ghost use Rattle.volume.specs.Fate.{isLive, fateOf};
+ghost use Rattle.volume.specs.Path.{goodPath, pathNames};
+ghost use Rattle.volume.specs.Tree.{isEntry, isChild, children, lookupNames};
+ghost use Rattle.place_view.specs.Place.{byPlace, blockAt, Lies};
+ghost use Rattle.table.specs.Table.{taken};
+ghost use Rattle.contents.specs.Blocks.{firstOf};
+ghost use Rattle.fate.specs.Fates.{meaning as fateMeant};
+ghost use Rattle.lookup.specs.Found.{InodesOf, InodeTable, onlyOf, meaning, refusalOf, stepOf};
+use fate::Fate;
+use fate::fate_of;
+use fields::load32;
+use fields::wide;
+use occupancy::taken;
+use paths::after;
+use paths::has_name;
+use paths::name_at;
+use paths::start;
+use records::is_directory_id;
+
+// The id of the root directory.
+const ROOT: u32 = 0;
+
+// Numbers of refusal.
+const NO_CHILD: u32 = 9;
+
+const MANY_CHILDREN: u32 = 10;
+
+const NO_DIRECTORY: u32 = 11;
+
+// The size of an inode's header, behind which its name stands.
+const HEADER_SIZE: usize = 20;
+
+// The live children of a directory that have one name.
+pub enum Child {
+    Nobody,
+    Several,
+    One(u32),
+}
+
+// What a path leads to.
+pub enum Found {
+    // the inode of this id, which tells its kind
+    Inode(u32),
+    // the number of refusal
+    Absent(u32),
+}
+
+impl Found {
+    // The number of refusal, 0 for an inode.
+    pub fn refusal(self) -> u32
+        ensures { λ r. ⌜ r ≡ refusalOf (meaning self) ⌝ }
+    {
+        match self {
+            Found::Inode(_) => 0,
+            Found::Absent(number) => number,
+        }
+    }
+}
+
+fn same_bytes(a: &[u8], b: &[u8]) -> bool
+    ensures { λ r. ⌜ r ≡ same (now (a .entry)) (now (b .entry)) ⌝ }
+{
+    if a.len() != b.len() {
+        return false;
+    }
+    let mut i = 0;
+    while i < a.len() {
+        if a[i] != b[i] {
+            return false;
+        }
+        i += 1;
+    }
+    true
+}
+
+// Whether the inode at `p` names the directory as its parent and has the name.
+fn is_entry(image: &[u8], p: u32, directory: u32, name: &[u8]) -> bool
+    requires { ⌜ Lies (now image) p ⌝ }
+    requires { ⌜ blockAt (now image) p ≡ false ⌝ }
+    ensures { λ r. ⌜ r ≡ isEntry (byPlace (now (image .entry))) directory (now (name .entry)) p ⌝ }
+{
+    let at = p as usize;
+    if load32(image, at + 12) != directory {
+        return false;
+    }
+    let start = at + HEADER_SIZE;
+    let end = start + wide(image[at + 17]) as usize;
+    same_bytes(&image[start..end], name)
+}
+
+fn lives(f: Fate) -> bool
+    ensures { λ r. ⌜ r ≡ isLive (fateMeant f) ⌝ }
+{
+    match f {
+        Fate::Live => true,
+        Fate::Dead => false,
+        Fate::Orphan => false,
+    }
+}
+
+// Whether the inode of an id is live.
+pub fn is_live(image: &[u8], words: &[u64], ids: &[u32], spots: &[u32], id: u32) -> bool
+    requires { ⌜ InodeTable (now image) (now words) (now ids) (now spots) ⌝ }
+    ensures { λ r. ⌜ ((v : Volume ℕ) → InodesOf (now (image .entry)) (now (words .entry)) (now (ids .entry)) (now (spots .entry)) v → r ≡ isLive (fateOf (byPlace (now (image .entry))) v id)) ⌝ }
+{
+    lives(fate_of(image, words, ids, spots, id))
+}
+
+// Whether the inode of a row is a live child of the directory, of the name.
+fn is_child(
+    image: &[u8],
+    words: &[u64],
+    ids: &[u32],
+    spots: &[u32],
+    directory: u32,
+    name: &[u8],
+    row: usize,
+) -> bool
+    requires { ⌜ InodeTable (now image) (now words) (now ids) (now spots) ⌝ }
+    requires { ⌜ row < taken (now words) ⌝ }
+    ensures { λ r. ⌜ ((v : Volume ℕ) → InodesOf (now (image .entry)) (now (words .entry)) (now (ids .entry)) (now (spots .entry)) v → r ≡ isChild (byPlace (now (image .entry))) v directory (now (name .entry)) (getD (now (ids .entry)) row 0)) ⌝ }
+{
+    if is_entry(image, spots[row], directory, name) {
+        return is_live(image, words, ids, spots, ids[row]);
+    }
+    false
+}
+
+// The first row from `from` on whose inode is a live child of the directory, of the name; the number of rows where there is none.
+fn next_child(
+    image: &[u8],
+    words: &[u64],
+    ids: &[u32],
+    spots: &[u32],
+    directory: u32,
+    name: &[u8],
+    from: usize,
+) -> usize
+    requires { ⌜ InodeTable (now image) (now words) (now ids) (now spots) ⌝ }
+    requires { ⌜ from ≤ taken (now words) ⌝ }
+    ensures first { λ r. ⌜ ((v : Volume ℕ) → InodesOf (now (image .entry)) (now (words .entry)) (now (ids .entry)) (now (spots .entry)) v → r ≡ from + firstOf (isChild (byPlace (now (image .entry))) v directory (now (name .entry))) (drop from (take (taken (now (words .entry))) (now (ids .entry))))) ⌝ }
+    ensures within { λ r. ⌜ r ≤ taken (now (words .entry)) ⌝ }
+{
+    let n = taken(words);
+    let mut row = from;
+    while row < n {
+        if is_child(image, words, ids, spots, directory, name, row) {
+            return row;
+        }
+        row += 1;
+    }
+    row
+}
+
+// The live children of the directory that have the name.
+pub fn find_child(
+    image: &[u8],
+    words: &[u64],
+    ids: &[u32],
+    spots: &[u32],
+    directory: u32,
+    name: &[u8],
+) -> Child
+    requires { ⌜ InodeTable (now image) (now words) (now ids) (now spots) ⌝ }
+    ensures { λ r. ⌜ ((v : Volume ℕ) → InodesOf (now (image .entry)) (now (words .entry)) (now (ids .entry)) (now (spots .entry)) v → onlyOf r ≡ only (children (byPlace (now (image .entry))) v directory (now (name .entry)))) ⌝ }
+{
+    let n = taken(words);
+    let first = next_child(image, words, ids, spots, directory, name, 0);
+    if first == n {
+        return Child::Nobody;
+    }
+    let second = next_child(image, words, ids, spots, directory, name, first + 1);
+    if second < n {
+        return Child::Several;
+    }
+    Child::One(ids[first])
+}
+
+// One step of a walk: what the name leads to, looked for in the inode of an id.
+pub fn enter(
+    image: &[u8],
+    words: &[u64],
+    ids: &[u32],
+    spots: &[u32],
+    directory: u32,
+    name: &[u8],
+) -> Found
+    requires { ⌜ InodeTable (now image) (now words) (now ids) (now spots) ⌝ }
+    ensures { λ r. ⌜ ((v : Volume ℕ) → InodesOf (now (image .entry)) (now (words .entry)) (now (ids .entry)) (now (spots .entry)) v → meaning r ≡ stepOf (byPlace (now (image .entry))) v directory (now (name .entry))) ⌝ }
+{
+    if is_directory_id(directory) {} else {
+        return Found::Absent(NO_DIRECTORY);
+    }
+    let child = find_child(image, words, ids, spots, directory, name);
+    match child {
+        Child::Nobody => Found::Absent(NO_CHILD),
+        Child::Several => Found::Absent(MANY_CHILDREN),
+        Child::One(id) => Found::Inode(id),
+    }
+}
+
+// What a good path leads to: the first step that fails decides.
+pub fn resolve<'a>(
+    image: &[u8],
+    words: &[u64],
+    ids: &[u32],
+    spots: &[u32],
+    base: &'a [u8],
+    path: &'a [u8],
+) -> Found
+    requires { ⌜ InodeTable (now image) (now words) (now ids) (now spots) ⌝ }
+    requires { ⌜ goodPath (now base) (now path) ≡ true ⌝ }
+    ensures { λ r. ⌜ ((v : Volume ℕ) → InodesOf (now (image .entry)) (now (words .entry)) (now (ids .entry)) (now (spots .entry)) v → meaning r ≡ lookupNames (byPlace (now (image .entry))) v (pathNames (now (base .entry)) (now (path .entry)))) ⌝ }
+{
+    let mut w = start(base, path);
+    let mut at = ROOT;
+    while has_name(base, path, w) {
+        let name = name_at(base, path, w);
+        let step = enter(image, words, ids, spots, at, name);
+        let Found::Inode(id) = step else {
+            return step;
+        };
+        at = id;
+        w = after(base, path, w);
+    }
+    Found::Inode(at)
+}

@@ -1,0 +1,10 @@
+-- `mounted_files::looked_up` meets its contract. Assumes nothing.
+use mathlib.Core.Path.{refl}
+use Rattle.mounted_files.proofs.looked_up.Statement.{statement}
+use Rattle.mounted_files.proofs.looked_up.Tie as tie
+
+returns : tie.Need-returns
+returns c = refl
+
+pub looked-up-spec : {M : Type 1} → statement M
+looked-up-spec = tie.close (tie.spec returns)

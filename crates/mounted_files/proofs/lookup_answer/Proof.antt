@@ -1,0 +1,34 @@
+-- `mounted_files::lookup_answer` meets its contract. Assumes nothing.
+use mathlib.Core.Path.{ap, _∙_}
+use borrow.Author.Needs.{needs}
+use Rattle.lookup.specs.Found.{meaning}
+use Rattle.mounted_files.specs.Paths.{lookup-absent, lookup-found}
+use Rattle.mounted_files.proofs.lookup_answer.Statement.{statement}
+use Rattle.mounted_files.proofs.lookup_answer.Tie as tie
+
+returns : tie.Need-returns
+returns c =
+    let r = c .before in
+    let e = r .before in
+    c .looked-up .ensures
+    ∙ lookup-absent (meaning (e .before .before .args .found)) (e .enum-told .given .0 .0) (ap meaning (e .enum-told .given .1)) (r .refusal .result) (r .refusal .ensures)
+
+returns-2 : tie.Need-returns-2
+returns-2 c =
+    let n = c .before in
+    let k = n .before .before in
+    c .looked-up2 .ensures
+    ∙ lookup-found (meaning (k .before .before .args .found)) (k .found .given .0 .0) (ap meaning (k .found .given .1)) (n .kind-of .result) (n .kind-of .ensures)
+
+pub lookup-answer-spec : {M : Type 1} → statement M
+lookup-answer-spec =
+    tie.close
+    (tie.spec
+    (λ c. search needs)
+    (λ c. search needs)
+    (λ c κs. search needs)
+    (λ c κs. search needs)
+    returns
+    (λ c κs. search needs)
+    (λ c κs. search needs)
+    returns-2)

@@ -1,0 +1,10 @@
+-- `mounted_files::not_read` meets its contract. Assumes nothing.
+use mathlib.Core.Path.{refl}
+use Rattle.mounted_files.proofs.not_read.Statement.{statement}
+use Rattle.mounted_files.proofs.not_read.Tie as tie
+
+returns : tie.Need-returns
+returns c = refl
+
+pub not-read-spec : {M : Type 1} → statement M
+not-read-spec = tie.close (tie.spec returns)

@@ -1,0 +1,10 @@
+-- `mounted_files::opened` meets its contract. Assumes nothing.
+use mathlib.Core.Path.{refl}
+use Rattle.mounted_files.proofs.opened.Statement.{statement}
+use Rattle.mounted_files.proofs.opened.Tie as tie
+
+returns : tie.Need-returns
+returns c = refl
+
+pub opened-spec : {M : Type 1} → statement M
+opened-spec = tie.close (tie.spec returns)

@@ -1,0 +1,3 @@
+-- Lookup, open and read by mounted tables.
+pub mod Paths
+pub mod Reads

@@ -1,0 +1,34 @@
+//! Seeded sequences of calls on the proved code and on the model: answers, images, buffers and handles after each call.
+
+use nffs_compare::Proved;
+use nffs_model::compare::{compare, Model};
+
+/// The numbers that each call must have answered somewhere, so that no rule is passed over.
+const REACHED: [(&str, &[u32]); 5] = [
+    ("Format", &[0, 1, 3]),
+    ("Report", &[0, 1, 2, 3, 4, 5, 6, 7]),
+    ("Lookup", &[0, 1, 3, 5, 6, 7, 8, 9, 10, 11]),
+    ("Open", &[0, 1, 3, 5, 6, 7, 8, 9, 10, 11]),
+    ("ReadAt", &[0, 1, 3, 5, 6, 7, 9, 11, 13, 14]),
+];
+
+fn run(seeds: std::ops::Range<u64>) {
+    println!("seeds {seeds:?}");
+    let tally = compare(seeds, &Proved, &Model::default()).unwrap_or_else(|case| panic!("{case}"));
+    println!("{} calls: {:?}", tally.calls, tally.answers);
+    for (call, numbers) in REACHED {
+        for number in numbers {
+            assert!(tally.answers.contains_key(&(call, *number)), "{call} never answered {number}");
+        }
+    }
+}
+
+#[test]
+fn first_half() {
+    run(10_000_000..10_020_000);
+}
+
+#[test]
+fn second_half() {
+    run(20_000_000..20_020_000);
+}
