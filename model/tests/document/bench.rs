@@ -6,6 +6,7 @@ use nffs_model::layout::{is_block, is_directory, is_file, Block, Inode, Record, 
 use nffs_model::mount::greatest_block;
 use nffs_model::path;
 
+use crate::calls;
 use crate::common::*;
 
 #[test]
@@ -113,7 +114,7 @@ fn the_bytes_of_the_bench_area() {
 #[test]
 fn the_bytes_that_the_calls_write() {
     let mut flash = nffs_model::forge::Flash::over(vec![0; 8192], vec![0, 4096, 4096, 4096]);
-    assert_eq!(nffs_model::format(&mut flash.image, &flash.areas), 0);
+    assert_eq!(calls::format(&mut flash.image, &flash.areas), 0);
     assert_eq!(create(&mut flash, "/a", 1), Ok(A));
     assert_eq!(append(&mut flash, "/a", &[0x41; 10]), 0);
     assert_eq!(append(&mut flash, "/a", &[0x41; 5]), 0);

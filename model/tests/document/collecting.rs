@@ -3,6 +3,7 @@
 use nffs_model::forge::Flash;
 use nffs_model::layout::{Block, Inode, NONE, ROOT};
 
+use crate::calls;
 use crate::common::*;
 
 fn inode(id: u32, sequence: u32, parent: u32, name: &[u8]) -> Vec<u8> {
@@ -92,7 +93,7 @@ fn the_source_area() {
 fn first_among_equals_by_descriptor() {
     let mut flash = three();
     flash.areas = vec![1024, 512, 0, 512, 512, 512];
-    assert_eq!(nffs_model::collect(&mut flash.image, &flash.areas), 0);
+    assert_eq!(calls::collect(&mut flash.image, &flash.areas), 0);
     assert_eq!((flash.image[1024 + 23], flash.image[512 + 23], flash.image[23]), (255, 0, 1));
 }
 
@@ -274,7 +275,7 @@ fn orphans_stay() {
 #[test]
 fn contents_stay_over_many_rounds() {
     let mut flash = Flash::of(&[512, 512, 512]);
-    assert_eq!(nffs_model::format(&mut flash.image, &flash.areas), 0);
+    assert_eq!(calls::format(&mut flash.image, &flash.areas), 0);
     assert_eq!(create(&mut flash, "/d", 0), Ok(1));
     assert_eq!(create(&mut flash, "/d/f", 1), Ok(A));
     assert_eq!(append(&mut flash, "/d/f", &[0x41; 100]), 0);
@@ -291,9 +292,9 @@ fn contents_stay_over_many_rounds() {
 fn other_bytes_stay() {
     let mut image = vec![0x33; 600];
     let areas = [10, 128, 200, 128, 400, 128];
-    assert_eq!(nffs_model::format(&mut image, &areas), 0);
+    assert_eq!(calls::format(&mut image, &areas), 0);
     let before = image.clone();
-    assert_eq!(nffs_model::collect(&mut image, &areas), 0);
+    assert_eq!(calls::collect(&mut image, &areas), 0);
     let changed: Vec<usize> = (0..600).filter(|i| image[*i] != before[*i]).collect();
     assert!(changed.iter().all(|i| (10..138).contains(i) || (200..328).contains(i)));
     assert!(!changed.is_empty());

@@ -1,6 +1,7 @@
 //! Calls on a hand-made image. Each asserts that a refused call changes no
 //! byte of the image.
 
+use crate::calls;
 use nffs_model::forge::Flash;
 use nffs_model::layout::{Block, Inode, NONE, ROOT};
 use nffs_model::{Handle, Lookup, Read, Report};
@@ -72,7 +73,7 @@ fn unchanged_if_refused(number: u32, before: &[u8], after: &[u8]) -> u32 {
 }
 
 pub fn report(flash: &Flash) -> Report {
-    let report = nffs_model::report(&flash.image, &flash.areas);
+    let report = calls::report(&flash.image, &flash.areas);
     if report.number != 0 {
         assert_eq!(report, Report { number: report.number, ..Report::default() });
     }
@@ -84,7 +85,7 @@ pub fn mount(flash: &Flash) -> u32 {
 }
 
 pub fn lookup(flash: &Flash, path: &str) -> Lookup {
-    nffs_model::lookup(&flash.image, &flash.areas, b"", path.as_bytes())
+    calls::lookup(&flash.image, &flash.areas, b"", path.as_bytes())
 }
 
 pub fn find(flash: &Flash, path: &str) -> Result<u32, u32> {
@@ -100,7 +101,7 @@ pub fn find(flash: &Flash, path: &str) -> Result<u32, u32> {
 
 pub fn create(flash: &mut Flash, path: &str, kind: u32) -> Result<u32, u32> {
     let before = flash.image.clone();
-    let created = nffs_model::create(&mut flash.image, &flash.areas, b"", path.as_bytes(), kind);
+    let created = calls::create(&mut flash.image, &flash.areas, b"", path.as_bytes(), kind);
     match unchanged_if_refused(created.number, &before, &flash.image) {
         0 => Ok(created.id),
         number => {
@@ -112,19 +113,19 @@ pub fn create(flash: &mut Flash, path: &str, kind: u32) -> Result<u32, u32> {
 
 pub fn append(flash: &mut Flash, path: &str, data: &[u8]) -> u32 {
     let before = flash.image.clone();
-    let number = nffs_model::append(&mut flash.image, &flash.areas, b"", path.as_bytes(), data);
+    let number = calls::append(&mut flash.image, &flash.areas, b"", path.as_bytes(), data);
     unchanged_if_refused(number, &before, &flash.image)
 }
 
 pub fn unlink(flash: &mut Flash, path: &str) -> u32 {
     let before = flash.image.clone();
-    let number = nffs_model::unlink(&mut flash.image, &flash.areas, b"", path.as_bytes());
+    let number = calls::unlink(&mut flash.image, &flash.areas, b"", path.as_bytes());
     unchanged_if_refused(number, &before, &flash.image)
 }
 
 pub fn collect(flash: &mut Flash) -> u32 {
     let before = flash.image.clone();
-    let number = nffs_model::collect(&mut flash.image, &flash.areas);
+    let number = calls::collect(&mut flash.image, &flash.areas);
     unchanged_if_refused(number, &before, &flash.image)
 }
 
@@ -134,8 +135,8 @@ pub fn read(flash: &Flash, id: u32, position: u32, length: usize) -> (Read, Vec<
     let mut buffer = vec![0xa5; length];
     let mut other = vec![0xa5; length];
     let mut handle = Handle { id, position };
-    let read = nffs_model::read(&flash.image, &flash.areas, &mut handle, &mut buffer);
-    let again = nffs_model::read_at(&flash.image, &flash.areas, id, position, &mut other);
+    let read = calls::read(&flash.image, &flash.areas, &mut handle, &mut buffer);
+    let again = calls::read_at(&flash.image, &flash.areas, id, position, &mut other);
     assert_eq!((read, &buffer), (again, &other));
     assert_eq!(handle, Handle { id, position: position + read.given });
     assert!(buffer[read.given as usize..].iter().all(|byte| *byte == 0xa5));
@@ -148,7 +149,7 @@ pub fn read(flash: &Flash, id: u32, position: u32, length: usize) -> (Read, Vec<
 
 /// All contents of the file at the path, or the refusal of open or read.
 pub fn contents(flash: &Flash, path: &str) -> Result<Vec<u8>, u32> {
-    let opened = nffs_model::open(&flash.image, &flash.areas, b"", path.as_bytes());
+    let opened = calls::open(&flash.image, &flash.areas, b"", path.as_bytes());
     if opened.number != 0 {
         assert_eq!((opened.id, opened.position), (0, 0));
         return Err(opened.number);

@@ -1,4 +1,7 @@
-//! Cases from document 01; the expected values are the document's.
+//! Cases from document 01; the expected values are the document's. The calls
+//! are named `calls`, so that other engines can be held to the same cases.
+
+use nffs_model as calls;
 
 mod areas;
 mod bench;

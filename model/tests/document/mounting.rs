@@ -3,8 +3,9 @@
 
 use nffs_model::forge::Flash;
 use nffs_model::layout::{Inode, NONE, ROOT};
-use nffs_model::report as bare_report;
+use crate::calls::report as bare_report;
 
+use crate::calls;
 use crate::common::*;
 
 fn with_list(list: &[u32]) -> u32 {
@@ -38,8 +39,8 @@ fn one_bad_lists() {
 fn one_more_than_eight_entries() {
     let mut image = vec![0; 9 * 128];
     let list: Vec<u32> = (0..9).flat_map(|i| [128 * i, 128]).collect();
-    assert_eq!(nffs_model::format(&mut image, &list), 1);
-    assert_eq!(nffs_model::format(&mut image, &list[..16]), 0);
+    assert_eq!(calls::format(&mut image, &list), 1);
+    assert_eq!(calls::format(&mut image, &list[..16]), 0);
     assert_eq!(bare_report(&image, &list).number, 1);
     assert_eq!(bare_report(&image, &list[..16]).number, 0);
     let mut ended = list;
@@ -54,24 +55,24 @@ fn one_image_too_long() {
     assert_eq!(mount(&flash), 0);
     flash.image.push(0);
     assert_eq!(mount(&flash), 1);
-    assert_eq!(nffs_model::format(&mut flash.image, &flash.areas), 1);
+    assert_eq!(calls::format(&mut flash.image, &flash.areas), 1);
     assert_eq!(bare_report(&[], &[0, 128]).number, 1);
 }
 
 #[test]
 fn the_longest_area() {
     let mut image = vec![0; 65_536];
-    assert_eq!(nffs_model::format(&mut image, &[0, 65_536]), 3);
-    assert_eq!(nffs_model::format(&mut image, &[0, 128, 128, 65_408]), 0);
+    assert_eq!(calls::format(&mut image, &[0, 65_536]), 3);
+    assert_eq!(calls::format(&mut image, &[0, 128, 128, 65_408]), 0);
 }
 
 #[test]
 fn one_before_three() {
     assert_eq!(bare_report(&[0; 256], &[0, 128, 64, 128]).number, 1);
     assert_eq!(bare_report(&[0; 256], &[0, 128, 128, 128]).number, 3);
-    assert_eq!(nffs_model::format(&mut [0; 256], &[0, 127]), 1);
-    assert_eq!(nffs_model::format(&mut [0; 256], &[0, 128]), 3);
-    assert_eq!(nffs_model::format(&mut [0; 256], &[]), 1);
+    assert_eq!(calls::format(&mut [0; 256], &[0, 127]), 1);
+    assert_eq!(calls::format(&mut [0; 256], &[0, 128]), 3);
+    assert_eq!(calls::format(&mut [0; 256], &[]), 1);
 }
 
 #[test]

@@ -3,9 +3,14 @@
 use nffs_model::layout::ROOT;
 use nffs_model::path::names;
 
+use crate::calls;
 use crate::common::*;
 
+/// The names of a path, if it is good; a lookup of it answers 8 exactly if not.
 fn good(base: &[u8], path: &[u8]) -> Option<Vec<String>> {
+    let flash = rooted(4096);
+    let number = calls::lookup(&flash.image, &flash.areas, base, path).number;
+    assert_eq!(number == 8, names(base, path).is_err(), "{base:?} {path:?}");
     let text = |name: &Vec<u8>| String::from_utf8_lossy(name).into_owned();
     names(base, path).ok().map(|names| names.iter().map(text).collect())
 }
@@ -80,7 +85,7 @@ fn a_lookup_gives_id_and_kind() {
     assert_eq!((found.number, found.id, found.kind), (0, 1, 0));
     let found = lookup(&flash, "/d/a");
     assert_eq!((found.number, found.id, found.kind), (0, A, 1));
-    let below = nffs_model::lookup(&flash.image, &flash.areas, b"/d", b"a");
+    let below = calls::lookup(&flash.image, &flash.areas, b"/d", b"a");
     assert_eq!((below.number, below.id, below.kind), (0, A, 1));
 }
 

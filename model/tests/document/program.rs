@@ -3,6 +3,7 @@
 use std::io::Write;
 use std::process::{Command, Stdio};
 
+use crate::calls;
 use crate::common::*;
 
 fn program(input: &[u8]) -> String {
@@ -20,7 +21,7 @@ fn program(input: &[u8]) -> String {
 fn formatted(count: usize) -> Vec<u8> {
     let mut image = vec![0; 4096 * count];
     let areas: Vec<u32> = (0..count as u32).flat_map(|i| [4096 * i, 4096]).collect();
-    assert_eq!(nffs_model::format(&mut image, &areas), 0);
+    assert_eq!(calls::format(&mut image, &areas), 0);
     image
 }
 

@@ -3,6 +3,7 @@
 use nffs_model::forge::Flash;
 use nffs_model::layout::{NONE, ROOT};
 
+use crate::calls;
 use crate::common::*;
 
 /// A block's id, sequence, owner, previous and data.
@@ -106,7 +107,7 @@ fn bytes_and_headers() {
 fn refused(flash: &Flash, id: u32, position: u32, length: usize) -> u32 {
     let mut handle = nffs_model::Handle { id, position };
     let mut buffer = vec![0x5a; length];
-    let read = nffs_model::read(&flash.image, &flash.areas, &mut handle, &mut buffer);
+    let read = calls::read(&flash.image, &flash.areas, &mut handle, &mut buffer);
     assert_eq!(handle, nffs_model::Handle { id, position });
     assert_eq!(buffer, vec![0x5a; length]);
     assert_eq!((read.given, read.headers), (0, 0));
@@ -146,7 +147,7 @@ fn a_read_moves_the_position() {
     let mut given = Vec::new();
     for _ in 0..5 {
         let mut buffer = [0; 4];
-        let read = nffs_model::read(&flash.image, &flash.areas, &mut handle, &mut buffer);
+        let read = calls::read(&flash.image, &flash.areas, &mut handle, &mut buffer);
         given.push((read.given, read.headers, handle.position));
     }
     assert_eq!(given, [(4, 2, 4), (4, 2, 8), (4, 2, 12), (3, 1, 15), (0, 0, 15)]);

@@ -4,6 +4,7 @@ use nffs_model::compare::bytes;
 use nffs_model::forge::Flash;
 use nffs_model::layout::{Block, Inode, NONE, ROOT};
 
+use crate::calls;
 use crate::common::*;
 
 const HEADER: &str = "e2318ab98c42b07f5382e0ac8efc85b1";
@@ -14,21 +15,21 @@ const HEADER: &str = "e2318ab98c42b07f5382e0ac8efc85b1";
 fn format_writes_headers_and_the_root() {
     let mut image = vec![0x33; 700];
     let areas = [10, 128, 400, 200, 150, 200, 640, 0];
-    assert_eq!(nffs_model::format(&mut image, &areas), 0);
+    assert_eq!(calls::format(&mut image, &areas), 0);
     let expected = bytes(&format!(
         "33*10 {HEADER} 8000000000000000 c08b5f920000000000000000ffffffff00001751 ff*84 33*12
          {HEADER} c800000000000001 ff*176 33*50
          {HEADER} c8000000000000ff ff*176 33*100"
     ));
     assert_eq!(image, expected);
-    let r = nffs_model::report(&image, &areas);
+    let r = calls::report(&image, &areas);
     assert_eq!((r.number, r.inodes, r.live, r.stretches, r.skipped), (0, 1, 1, 0, 0));
 }
 
 #[test]
 fn format_of_a_pair_makes_the_first_scratch() {
     let mut image = vec![0; 256];
-    assert_eq!(nffs_model::format(&mut image, &[128, 128, 0, 128]), 0);
+    assert_eq!(calls::format(&mut image, &[128, 128, 0, 128]), 0);
     assert_eq!((image[128 + 23], image[23]), (255, 0));
 }
 
@@ -71,12 +72,12 @@ fn scratch_names_nothing() {
 fn a_base_path_for_create() {
     let mut flash = rooted(4096);
     let Flash { image, areas, .. } = &mut flash;
-    assert_eq!(nffs_model::create(image, areas, b"/", b"d", 0).id, 1);
-    assert_eq!(nffs_model::create(image, areas, b"/d", b"f", 1).id, A);
-    assert_eq!(nffs_model::append(image, areas, b"/d", b"f", b"data"), 0);
-    assert_eq!(nffs_model::append(image, areas, b"d", b"f", b"data"), 8);
+    assert_eq!(calls::create(image, areas, b"/", b"d", 0).id, 1);
+    assert_eq!(calls::create(image, areas, b"/d", b"f", 1).id, A);
+    assert_eq!(calls::append(image, areas, b"/d", b"f", b"data"), 0);
+    assert_eq!(calls::append(image, areas, b"d", b"f", b"data"), 8);
     assert_eq!(contents(&flash, "/d/f"), Ok(b"data".to_vec()));
-    assert_eq!(nffs_model::unlink(&mut flash.image, &flash.areas, b"/d", b"f"), 0);
+    assert_eq!(calls::unlink(&mut flash.image, &flash.areas, b"/d", b"f"), 0);
     assert_eq!(find(&flash, "/d/f"), Err(9));
 }
 

@@ -1,0 +1,16 @@
+//! The cases of document 01, with its expected values, run on the proved calls.
+
+use nffs_compare as calls;
+
+#[allow(dead_code)]
+#[path = "../../../model/tests/document/common.rs"]
+mod common;
+
+#[path = "../../../model/tests/document/bench.rs"]
+mod bench;
+#[path = "../../../model/tests/document/mounting.rs"]
+mod mounting;
+#[path = "../../../model/tests/document/paths.rs"]
+mod paths;
+#[path = "../../../model/tests/document/reading.rs"]
+mod reading;
