@@ -1,7 +1,9 @@
-//! How long the proved report takes, which is a mount and four counts: the figures of docs/FIGURES.md.
+//! How long the proved calls take, each of which mounts anew: the figures of docs/FIGURES.md.
+
+use std::hint::black_box;
+use std::time::Instant;
 
 use nffs_model::forge::Flash;
-use std::time::Instant;
 
 /// A name, and a volume of 65,536 bytes: seven file areas and a scratch area of 8,192 bytes each.
 fn volumes() -> Vec<(&'static str, Flash)> {
@@ -37,24 +39,30 @@ fn volumes() -> Vec<(&'static str, Flash)> {
     vec![("fresh", fresh()), ("63 files, 256 blocks", files), ("the most records", short), ("all damaged", damaged)]
 }
 
-/// The shortest of `rounds` runs, in microseconds.
-fn shortest(rounds: u32, mut run: impl FnMut()) -> f64 {
-    (0..rounds)
-        .map(|_| {
-            let begin = Instant::now();
-            run();
-            begin.elapsed().as_secs_f64() * 1e6
-        })
-        .fold(f64::INFINITY, f64::min)
+/// The shortest of 50 runs, in microseconds.
+fn shortest(mut call: impl FnMut() -> u32) -> f64 {
+    let time = |_| {
+        let begin = Instant::now();
+        black_box(call());
+        begin.elapsed().as_secs_f64() * 1e6
+    };
+    (0..50).map(time).fold(f64::INFINITY, f64::min)
 }
 
 fn main() {
     for (name, flash) in volumes() {
-        let proved = nffs_compare::report(&flash.image, &flash.areas);
-        assert_eq!(proved, nffs_model::report(&flash.image, &flash.areas));
-        let time = shortest(50, || {
-            std::hint::black_box(nffs_compare::report(&flash.image, &flash.areas));
-        });
-        println!("{name:>22}: {time:>8.0} us  {proved:?}");
+        let (image, areas) = (&flash.image[..], &flash.areas[..]);
+        let report = nffs_compare::report(image, areas);
+        assert_eq!(report, nffs_model::report(image, areas));
+        println!("{name}: {report:?}");
+        let mut buffer = [0; 4096];
+        let mut copy = flash.image.clone();
+        let times = [
+            ("report", shortest(|| black_box(nffs_compare::report(image, areas)).number)),
+            ("lookup", shortest(|| black_box(nffs_compare::lookup(image, areas, b"", b"/n")).number)),
+            ("read", shortest(|| black_box(nffs_compare::read_at(image, areas, 0x1000_0000, 0, &mut buffer)).number)),
+            ("format", shortest(|| black_box(nffs_compare::format(&mut copy, areas)))),
+        ];
+        times.iter().for_each(|(call, time)| println!("  {call:>6} {time:>6.0} us"));
     }
 }
