@@ -5,7 +5,7 @@ ghost use Rattle.calls.specs.Areas.{areaList};
 ghost use Rattle.calls.specs.Lookup.{resolve, lookupOf, openOf};
 ghost use Rattle.calls.specs.Read.{readGiven, readAnswer, bufferAfter};
 ghost use Rattle.gather.specs.Gather.{tables};
-ghost use Rattle.lookup.specs.Found.{meaning};
+ghost use Rattle.lookup.specs.Found.{meaning, Kinded};
 ghost use Rattle.mount.specs.Mount.{Slices};
 use calls::Lookup;
 use calls::Opened;
@@ -41,7 +41,8 @@ fn find_with<'a>(
     bspots: &mut [u32],
 ) -> Found
     requires { ⌜ Slices (now image) (now starts) (now spans) (now places) (tables (now iwords) (now iids) (now ispots) (now bwords) (now bids) (now bspots)) ⌝ }
-    ensures { λ r. ⌜ meaning r ≡ resolve (now (image .entry)) (areaList (now (areas .entry))) (now (base .entry)) (now (path .entry)) ⌝ }
+    ensures means { λ r. ⌜ meaning r ≡ resolve (now (image .entry)) (areaList (now (areas .entry))) (now (base .entry)) (now (path .entry)) ⌝ }
+    ensures kind { λ r. ⌜ Kinded r ⌝ }
 {
     let mounted = mount(
         image,
@@ -64,7 +65,8 @@ fn find_with<'a>(
 
 // What a path leads to.
 fn find_path<'a>(image: &[u8], areas: &[u32], base: &'a [u8], path: &'a [u8]) -> Found
-    ensures { λ r. ⌜ meaning r ≡ resolve (now (image .entry)) (areaList (now (areas .entry))) (now (base .entry)) (now (path .entry)) ⌝ }
+    ensures means { λ r. ⌜ meaning r ≡ resolve (now (image .entry)) (areaList (now (areas .entry))) (now (base .entry)) (now (path .entry)) ⌝ }
+    ensures kind { λ r. ⌜ Kinded r ⌝ }
 {
     let mut starts = [0u32; MOST_AREAS];
     let mut spans = [0u32; MOST_AREAS];

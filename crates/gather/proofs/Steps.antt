@@ -1,4 +1,4 @@
--- One turn of each loop, as laws of lists. Assumes nothing.
+-- One turn of each loop, as laws of lists.
 use Prim.Native.Nat.{ℕ, suc, _+_, _≤_, _<_}
 use mathlib.Core.Path.{_≡_, refl, ap}
 use mathlib.Core.Bool.{Bool, true, false, _&&_}

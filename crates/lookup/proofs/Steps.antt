@@ -1,4 +1,4 @@
--- Two lists compared, number by number. Assumes nothing.
+-- Two lists compared, number by number.
 use Prim.Native.Nat.{ℕ, suc, _+_, _≤_, _<_}
 use mathlib.Core.Path.{_≡_, refl, ap}
 use mathlib.Core.Bool.{Bool, true, false, _&&_}

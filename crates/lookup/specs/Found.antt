@@ -34,8 +34,13 @@ onlyOf (One i) = one i
 
 -- what an answer of `resolve` says
 abbrev pub meaning : Told → Found
-meaning (Inode i) = found i
+meaning (Inode i d) = found i
 meaning (Absent n) = absent n
+
+-- the kind told is that of the id
+abbrev pub Kinded : Told → Type 0
+Kinded (Inode i d) = d ≡ isDirectoryId i
+Kinded (Absent n) = Unit {0}
 
 abbrev pub refusalOf : Found → ℕ
 refusalOf (found i) = 0

@@ -7,12 +7,12 @@ ghost use Rattle.volume.specs.Lists.{same, only};
 ghost use Rattle.volume.specs.Counting.{Volume};
 ghost use Rattle.volume.specs.Fate.{isLive, fateOf};
 ghost use Rattle.volume.specs.Path.{goodPath, pathNames};
-ghost use Rattle.volume.specs.Tree.{isEntry, isChild, children, lookupNames};
+ghost use Rattle.volume.specs.Tree.{found, isEntry, isChild, children, lookupNames};
 ghost use Rattle.place_view.specs.Place.{byPlace, blockAt, Lies};
 ghost use Rattle.table.specs.Table.{taken};
 ghost use Rattle.contents.specs.Blocks.{firstOf};
 ghost use Rattle.fate.specs.Fates.{meaning as fateMeant};
-ghost use Rattle.lookup.specs.Found.{InodesOf, InodeTable, onlyOf, meaning, refusalOf, stepOf};
+ghost use Rattle.lookup.specs.Found.{InodesOf, InodeTable, onlyOf, meaning, Kinded, refusalOf, stepOf};
 use fate::Fate;
 use fate::fate_of;
 use fields::load32;
@@ -46,8 +46,8 @@ pub enum Child {
 
 // What a path leads to.
 pub enum Found {
-    // the inode of this id, which tells its kind
-    Inode(u32),
+    // an inode: its id, and whether it is a directory
+    Inode(u32, bool),
     // the number of refusal
     Absent(u32),
 }
@@ -58,10 +58,18 @@ impl Found {
         ensures { λ r. ⌜ r ≡ refusalOf (meaning self) ⌝ }
     {
         match self {
-            Found::Inode(_) => 0,
+            Found::Inode(_, _) => 0,
             Found::Absent(number) => number,
         }
     }
+}
+
+// The inode of an id, with its kind.
+fn inode(id: u32) -> Found
+    ensures means { λ r. ⌜ meaning r ≡ found id ⌝ }
+    ensures kind { λ r. ⌜ Kinded r ⌝ }
+{
+    Found::Inode(id, is_directory_id(id))
 }
 
 fn same_bytes(a: &[u8], b: &[u8]) -> bool
@@ -193,7 +201,8 @@ pub fn enter(
     name: &[u8],
 ) -> Found
     requires { ⌜ InodeTable (now image) (now words) (now ids) (now spots) ⌝ }
-    ensures { λ r. ⌜ ((v : Volume ℕ) → InodesOf (now (image .entry)) (now (words .entry)) (now (ids .entry)) (now (spots .entry)) v → meaning r ≡ stepOf (byPlace (now (image .entry))) v directory (now (name .entry))) ⌝ }
+    ensures means { λ r. ⌜ ((v : Volume ℕ) → InodesOf (now (image .entry)) (now (words .entry)) (now (ids .entry)) (now (spots .entry)) v → meaning r ≡ stepOf (byPlace (now (image .entry))) v directory (now (name .entry))) ⌝ }
+    ensures kind { λ r. ⌜ Kinded r ⌝ }
 {
     if is_directory_id(directory) {} else {
         return Found::Absent(NO_DIRECTORY);
@@ -202,7 +211,7 @@ pub fn enter(
     match child {
         Child::Nobody => Found::Absent(NO_CHILD),
         Child::Several => Found::Absent(MANY_CHILDREN),
-        Child::One(id) => Found::Inode(id),
+        Child::One(id) => inode(id),
     }
 }
 
@@ -217,18 +226,19 @@ pub fn resolve<'a>(
 ) -> Found
     requires { ⌜ InodeTable (now image) (now words) (now ids) (now spots) ⌝ }
     requires { ⌜ goodPath (now base) (now path) ≡ true ⌝ }
-    ensures { λ r. ⌜ ((v : Volume ℕ) → InodesOf (now (image .entry)) (now (words .entry)) (now (ids .entry)) (now (spots .entry)) v → meaning r ≡ lookupNames (byPlace (now (image .entry))) v (pathNames (now (base .entry)) (now (path .entry)))) ⌝ }
+    ensures means { λ r. ⌜ ((v : Volume ℕ) → InodesOf (now (image .entry)) (now (words .entry)) (now (ids .entry)) (now (spots .entry)) v → meaning r ≡ lookupNames (byPlace (now (image .entry))) v (pathNames (now (base .entry)) (now (path .entry)))) ⌝ }
+    ensures kind { λ r. ⌜ Kinded r ⌝ }
 {
     let mut w = start(base, path);
     let mut at = ROOT;
     while has_name(base, path, w) {
         let name = name_at(base, path, w);
         let step = enter(image, words, ids, spots, at, name);
-        let Found::Inode(id) = step else {
+        let Found::Inode(id, _) = step else {
             return step;
         };
         at = id;
         w = after(base, path, w);
     }
-    Found::Inode(at)
+    inode(at)
 }

@@ -1,10 +1,11 @@
 // Lookup, open and read over the tables of a mounted volume: what the calls do once their image is mounted.
 ghost use mathlib.Core.Path.{_≡_};
 ghost use Prim.Native.Nat.{ℕ};
+ghost use mathlib.Core.Bool.{cond};
 ghost use Rattle.volume.specs.Counting.{Volume};
-ghost use Rattle.calls.specs.Lookup.{kindOf, lookupAnswer, fileOnly, openAnswer};
+ghost use Rattle.calls.specs.Lookup.{lookupAnswer, fileOnly, openAnswer};
 ghost use Rattle.place_view.specs.Place.{byPlace};
-ghost use Rattle.lookup.specs.Found.{InodesOf, InodeTable, meaning};
+ghost use Rattle.lookup.specs.Found.{InodesOf, InodeTable, meaning, Kinded};
 ghost use Rattle.contents.specs.Blocks.{BlocksOf, BlockTable};
 ghost use Rattle.reading.specs.Reading.{without};
 ghost use Rattle.mounted_files.specs.Paths.{pathFound};
@@ -41,7 +42,8 @@ pub fn find_mounted<'a>(
     path: &'a [u8],
 ) -> Found
     requires { ⌜ InodeTable (now image) (now words) (now ids) (now spots) ⌝ }
-    ensures { λ r. ⌜ ((v : Volume ℕ) → InodesOf (now (image .entry)) (now (words .entry)) (now (ids .entry)) (now (spots .entry)) v → meaning r ≡ pathFound (byPlace (now (image .entry))) v (now (base .entry)) (now (path .entry))) ⌝ }
+    ensures means { λ r. ⌜ ((v : Volume ℕ) → InodesOf (now (image .entry)) (now (words .entry)) (now (ids .entry)) (now (spots .entry)) v → meaning r ≡ pathFound (byPlace (now (image .entry))) v (now (base .entry)) (now (path .entry))) ⌝ }
+    ensures kind { λ r. ⌜ Kinded r ⌝ }
 {
     if good_path(base, path) {} else {
         return Found::Absent(BAD_PATH);
@@ -49,11 +51,11 @@ pub fn find_mounted<'a>(
     resolve(image, words, ids, spots, base, path)
 }
 
-// The kind of the inode of an id.
-fn kind_of(id: u32) -> u32
-    ensures { λ r. ⌜ r ≡ kindOf id ⌝ }
+// The number of a kind.
+fn kind_number(directory: bool) -> u32
+    ensures { λ r. ⌜ r ≡ cond directory 0 1 ⌝ }
 {
-    if is_directory_id(id) { DIRECTORY } else { FILE }
+    if directory { DIRECTORY } else { FILE }
 }
 
 fn looked_up(number: u32, id: u32, kind: u32) -> Lookup
@@ -64,12 +66,13 @@ fn looked_up(number: u32, id: u32, kind: u32) -> Lookup
 
 // The answer of a lookup: id and kind of what was found.
 pub fn lookup_answer(found: Found) -> Lookup
+    requires { ⌜ Kinded found ⌝ }
     ensures { λ r. ⌜ r ≡ lookupAnswer (meaning found) ⌝ }
 {
-    let Found::Inode(id) = found else {
+    let Found::Inode(id, directory) = found else {
         return looked_up(found.refusal(), 0, 0);
     };
-    looked_up(0, id, kind_of(id))
+    looked_up(0, id, kind_number(directory))
 }
 
 fn opened(number: u32, id: u32) -> Opened
@@ -84,12 +87,13 @@ fn opened(number: u32, id: u32) -> Opened
 
 // The answer of an open: a handle at the start of the file that was found.
 pub fn open_answer(found: Found) -> Opened
+    requires { ⌜ Kinded found ⌝ }
     ensures { λ r. ⌜ r ≡ openAnswer (fileOnly (meaning found)) ⌝ }
 {
-    let Found::Inode(id) = found else {
+    let Found::Inode(id, directory) = found else {
         return opened(found.refusal(), 0);
     };
-    if is_directory_id(id) {
+    if directory {
         return opened(WRONG_KIND, 0);
     }
     opened(0, id)

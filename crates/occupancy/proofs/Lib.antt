@@ -1,3 +1,3 @@
--- The laws that only this crate's functions cite. Assumes nothing.
+-- The laws that only this crate's functions cite.
 pub mod Word
 pub mod Steps

@@ -1,4 +1,4 @@
--- One turn of each loop, and the store of one word, as laws of lists. Assumes nothing.
+-- One turn of each loop, and the store of one word, as laws of lists.
 use mathlib.Core.List.{List, [], _∷_, _++_}
 use mathlib.Core.Path.{_≡_, ap}
 use Prim.Native.Nat.{ℕ, zero, suc, _+_, _*_, _≤_, _<_}

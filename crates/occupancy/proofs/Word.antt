@@ -1,4 +1,4 @@
--- What the machine's operations on one word are to its digits, for words of any width k. Assumes nothing.
+-- What the machine's operations on one word are to its digits, for words of any width k.
 use mathlib.Core.Bool.{cond}
 use mathlib.Core.List.{List, _∷_}
 use mathlib.Core.Path.{_≡_, refl, ap, ap₂, _∙_}

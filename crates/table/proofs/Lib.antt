@@ -1,2 +1,2 @@
--- The laws that only this crate's functions cite. Assumes nothing.
+-- The laws that only this crate's functions cite.
 pub mod Outcomes

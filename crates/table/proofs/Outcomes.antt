@@ -1,4 +1,4 @@
--- The four ways that `keep` ends, as laws of the lists that it leaves. Assumes nothing.
+-- The four ways that `keep` ends, as laws of the lists that it leaves.
 use Prim.Native.Nat.{ℕ, _≤_, _<_}
 use mathlib.Core.Path.{_≡_, refl, sym, _∙_}
 use mathlib.Core.List.{List}

@@ -1,4 +1,4 @@
--- `fate::fate_of` meets its contract: the fate is that of the inode at which the climb is, over the steps that are left. Assumes nothing.
+-- `fate::fate_of` meets its contract: the fate is that of the inode at which the climb is, over the steps that are left.
 use Prim.Native.Nat.{_+_, _≤_}
 use mathlib.Core.Path.{_≡_, sym, ap, _∙_}
 use mathlib.Core.Option.{some}

@@ -1,4 +1,4 @@
--- `fate::live_count` meets its contract: the live among the first i ids and among those left make the whole. Assumes nothing.
+-- `fate::live_count` meets its contract: the live among the first i ids and among those left make the whole.
 use Prim.Native.Nat.{_-_, _<_, _≤_}
 use mathlib.Core.Path.{sym, ap, _∙_}
 use native.Mathlib.Omega.{arith}

@@ -1,4 +1,4 @@
--- `file_calls::find_path` meets its contract. Assumes nothing.
+-- `file_calls::find_path` meets its contract.
 use Rattle.mount.specs.Fresh.{fresh-slices}
 use borrow.Author.Needs.{needs}
 use Rattle.file_calls.proofs.find_path.Statement.{statement}

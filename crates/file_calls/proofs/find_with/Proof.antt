@@ -1,4 +1,4 @@
--- `file_calls::find_with` meets its contract. Assumes nothing.
+-- `file_calls::find_with` meets its contract.
 use mathlib.Core.Path.{_∙_}
 use Rattle.calls.specs.Areas.{areaList}
 use Rattle.listing.specs.Bridge.{placedVolume}
@@ -21,7 +21,7 @@ returns : tie.Need-returns
 returns c =
     let m = at-mount (c .before) in
     let s = start m in
-    path-refused (m .mount .ensures) (s .args .base .now) (s .args .path .now) (c .if1 .taken)
+    (path-refused (m .mount .ensures) (s .args .base .now) (s .args .path .now) (c .if1 .taken), tt)
 
 find-mounted-requires : tie.Need-find-mounted-requires
 find-mounted-requires c κs =
@@ -32,9 +32,11 @@ returns-2 : tie.Need-returns-2
 returns-2 c =
     let e = c .before .before .before .before in
     let m = at-mount (e .before) in
-    let s = start m in
-    c .find-mounted .ensures (placedVolume (s .args .image .now) (areaList (s .args .areas .now))) (mounted-rows (m .mount .ensures) (e .if1 .left) .inodes)
-    ∙ path-is (m .mount .ensures) (s .args .base .now) (s .args .path .now) (e .if1 .left)
+    let s = start m in (
+      c .find-mounted .ensures .0 (placedVolume (s .args .image .now) (areaList (s .args .areas .now))) (mounted-rows (m .mount .ensures) (e .if1 .left) .inodes)
+          ∙ path-is (m .mount .ensures) (s .args .base .now) (s .args .path .now) (e .if1 .left),
+      c .find-mounted .ensures .1,
+    )
 
 pub find-with-spec : {M : Type 1} → statement M
 find-with-spec =

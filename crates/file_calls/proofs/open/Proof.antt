@@ -1,4 +1,4 @@
--- `file_calls::open` meets its contract. Assumes nothing.
+-- `file_calls::open` meets its contract.
 use mathlib.Core.Path.{_∙_}
 use borrow.Author.Needs.{needs}
 use Rattle.calls.specs.Areas.{areaList}
@@ -12,7 +12,7 @@ returns c =
     let f = c .before in
     let s = f .before .before .before .before .before in
     c .open-answer .ensures
-    ∙ open-is (s .args .image .now) (areaList (s .args .areas .now)) (s .args .base .now) (s .args .path .now) (meaning (f .find-path .result)) (f .find-path .ensures)
+    ∙ open-is (s .args .image .now) (areaList (s .args .areas .now)) (s .args .base .now) (s .args .path .now) (meaning (f .find-path .result)) (f .find-path .ensures .0)
 
 pub open-spec : {M : Type 1} → statement M
-open-spec = tie.close (tie.spec (λ c κs. search needs) (λ c κs. search needs) returns)
+open-spec = tie.close (tie.spec (λ c κs. search needs) (λ c κs. c .find-path .ensures .1) returns)

@@ -1,4 +1,4 @@
--- `file_calls::read_at` meets its contract. Assumes nothing.
+-- `file_calls::read_at` meets its contract.
 use Rattle.mount.specs.Fresh.{fresh-slices}
 use borrow.Author.Needs.{needs}
 use Rattle.file_calls.proofs.read_at.Statement.{statement}

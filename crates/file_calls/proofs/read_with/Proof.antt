@@ -1,4 +1,4 @@
--- `file_calls::read_with` meets its contract. Assumes nothing.
+-- `file_calls::read_with` meets its contract.
 use Rattle.calls.specs.Areas.{areaList}
 use Rattle.listing.specs.Bridge.{placedVolume}
 use Rattle.file_calls.specs.Calls.{mounted-rows, mounted-inodes, mounted-blocks, read-refused, read-is}

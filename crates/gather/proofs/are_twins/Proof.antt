@@ -1,4 +1,4 @@
--- `gather::are_twins` meets its contract. Assumes nothing.
+-- `gather::are_twins` meets its contract.
 use Prim.Native.Nat.{_+_, _≤_}
 use mathlib.Core.Path.{sym, ap₂, _∙_}
 use native.Mathlib.Omega.{arith}

@@ -1,4 +1,4 @@
--- `gather::equal` meets its contract: the two are equal if what is left of them is. Assumes nothing.
+-- `gather::equal` meets its contract: the two are equal if what is left of them is.
 use Prim.Native.Nat.{_-_, _≤_}
 use mathlib.Core.Path.{_≡_, refl, sym, _∙_}
 use native.Mathlib.Omega.{arith}

@@ -1,4 +1,4 @@
--- `gather::gather` meets its contract: at i the tables hold the records at the first i places. Assumes nothing.
+-- `gather::gather` meets its contract: at i the tables hold the records at the first i places.
 use Prim.Native.Nat.{ℕ, _-_}
 use mathlib.Core.Path.{_≡_}
 use mathlib.Core.Bool.{cond}

@@ -1,4 +1,4 @@
--- `gather::is_block_at` meets its contract. Assumes nothing.
+-- `gather::is_block_at` meets its contract.
 use borrow.Author.Needs.{needs}
 use Rattle.gather.proofs.is_block_at.Statement.{statement}
 use Rattle.gather.proofs.is_block_at.Tie as tie

@@ -1,4 +1,4 @@
--- `gather::put` meets its contract. Assumes nothing.
+-- `gather::put` meets its contract.
 use mathlib.Core.Path.{sym, _∙_}
 use native.Mathlib.Omega.{arith}
 use Rattle.place_view.specs.Laws.{size-least}

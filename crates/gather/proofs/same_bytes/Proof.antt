@@ -1,4 +1,4 @@
--- `gather::same_bytes` meets its contract. Assumes nothing.
+-- `gather::same_bytes` meets its contract.
 use Prim.Native.Nat.{ℕ, _+_, _-_}
 use mathlib.Core.Path.{_≡_, _∙_}
 use native.Mathlib.Nat.{add-sub-cancel-left}

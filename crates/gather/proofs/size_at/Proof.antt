@@ -1,4 +1,4 @@
--- `gather::size_at` meets its contract. Assumes nothing.
+-- `gather::size_at` meets its contract.
 use mathlib.Core.Path.{sym, _∙_}
 use native.Mathlib.Omega.{arith}
 use Rattle.place_view.specs.Laws.{size-block, size-inode, size-least}

@@ -1,4 +1,4 @@
--- `gather::still_agree` meets its contract: the record agrees with all if it agrees with those from i on. Assumes nothing.
+-- `gather::still_agree` meets its contract: the record agrees with all if it agrees with those from i on.
 use Prim.Native.Nat.{_-_, _≤_}
 use mathlib.Core.Path.{_≡_, refl, sym, _∙_}
 use native.Mathlib.Omega.{arith}

@@ -1,4 +1,4 @@
--- `lookup::enter` meets its contract. Assumes nothing.
+-- `lookup::enter` meets its contract.
 use Prim.Native.Nat.{ℕ}
 use mathlib.Core.Path.{_≡_, sym, ap, _∙_}
 use mathlib.Core.Bool.{true}
@@ -29,16 +29,18 @@ inside f o e v rows =
 returns : tie.Need-returns
 returns c =
     let s = start (c .before) in
-    λ v rows. step-file (byPlace (s .args .image .now)) v (s .args .directory) (s .args .name .now) (sym (c .before .is-directory-id .ensures) ∙ c .if1 .left)
+    ((λ v rows. step-file (byPlace (s .args .image .now)) v (s .args .directory) (s .args .name .now) (sym (c .before .is-directory-id .ensures) ∙ c .if1 .left)), tt)
 
 returns-2 : tie.Need-returns-2
-returns-2 c = inside (c .before .before) nobody (ap onlyOf (c .enum-told .given .1))
+returns-2 c = (inside (c .before .before) nobody (ap onlyOf (c .enum-told .given .1)), tt)
 
 returns-3 : tie.Need-returns-3
-returns-3 c = inside (c .before .before) several (ap onlyOf (c .enum-told2 .given .1))
+returns-3 c = (inside (c .before .before) several (ap onlyOf (c .enum-told2 .given .1)), tt)
 
 returns-4 : tie.Need-returns-4
-returns-4 c = inside (c .before .before .before) (one (c .before .child .given .0 .0)) (ap onlyOf (c .before .child .given .1))
+returns-4 c =
+    let b = c .before in
+    ((λ v rows. c .inode .ensures .0 ∙ inside (b .before .before .before) (one (b .before .child .given .0 .0)) (ap onlyOf (b .before .child .given .1)) v rows), c .inode .ensures .1)
 
 pub enter-spec : {M : Type 1} → statement M
 enter-spec =
@@ -50,6 +52,7 @@ enter-spec =
     (λ c. search needs)
     (λ c. search needs)
     (λ c. search needs)
+    (λ c κs. search needs)
     returns-2
     returns-3
     returns-4)

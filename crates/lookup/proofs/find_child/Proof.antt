@@ -1,4 +1,4 @@
--- `lookup::find_child` meets its contract: the children are the first one found and those after it. Assumes nothing.
+-- `lookup::find_child` meets its contract: the children are the first one found and those after it.
 use Prim.Native.Nat.{_<_}
 use mathlib.Core.Path.{_∙_}
 use native.Mathlib.Omega.{arith}

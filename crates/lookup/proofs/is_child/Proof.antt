@@ -1,4 +1,4 @@
--- `lookup::is_child` meets its contract: each row holds the inode that counts for its id. Assumes nothing.
+-- `lookup::is_child` meets its contract: each row holds the inode that counts for its id.
 use Prim.Native.Nat.{_<_}
 use mathlib.Core.Path.{sym, _∙_}
 use native.Mathlib.Omega.{arith}

@@ -1,4 +1,4 @@
--- `lookup::is_entry` meets its contract: the name's length stands in the header. Assumes nothing.
+-- `lookup::is_entry` meets its contract: the name's length stands in the header.
 use Prim.Native.Nat.{_+_, _≤_}
 use mathlib.Core.Path.{_≡_, sym, ap, _∙_}
 use native.Mathlib.Omega.{arith}

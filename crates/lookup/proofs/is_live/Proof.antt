@@ -1,4 +1,4 @@
--- `lookup::is_live` meets its contract: the fate by the table is that of the volume. Assumes nothing.
+-- `lookup::is_live` meets its contract: the fate by the table is that of the volume.
 use mathlib.Core.Path.{ap, _∙_}
 use borrow.Author.Needs.{needs}
 use Rattle.volume.specs.Fate.{isLive}

@@ -1,4 +1,4 @@
--- `lookup::lives` meets its contract. Assumes nothing.
+-- `lookup::lives` meets its contract.
 use mathlib.Core.Path.{sym, ap}
 use borrow.Author.Needs.{needs}
 use Rattle.volume.specs.Fate.{isLive}

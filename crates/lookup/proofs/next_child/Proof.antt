@@ -1,4 +1,4 @@
--- `lookup::next_child` meets its contract: the first child among the rows that are left is the first of all. Assumes nothing.
+-- `lookup::next_child` meets its contract: the first child among the rows that are left is the first of all.
 use Prim.Native.Nat.{ℕ, _+_, _-_, _≤_, _<_}
 use mathlib.Core.Path.{_≡_, refl, sym, _∙_}
 use mathlib.Core.Bool.{Bool}

@@ -1,4 +1,4 @@
--- `lookup::resolve` meets its contract: the walk from where it is, over the names left, ends as the whole does. Assumes nothing.
+-- `lookup::resolve` meets its contract: the walk from where it is, over the names left, ends as the whole does.
 use Prim.Native.Nat.{ℕ}
 use mathlib.Core.Path.{_≡_, sym, ap, _∙_}
 use mathlib.Core.Bool.{true}
@@ -53,9 +53,11 @@ returns c =
     let n = e .before in
     let t = n .before in
     let l = t .before .before in
-    let s = start (l .before) in
-    λ v rows. walk-fails (byPlace (s .args .image .now)) v (l .loop .at) _ (any t) _ (n .name-at .ensures .first) (meaning (e .enter .result)) (e .enter .ensures v rows)
-    (c .enum-told .given .0 .0) (ap meaning (c .enum-told .given .1)) ∙ l .loop .inv .1 v rows
+    let s = start (l .before) in (
+      (λ v rows. walk-fails (byPlace (s .args .image .now)) v (l .loop .at) _ (any t) _ (n .name-at .ensures .first) (meaning (e .enter .result)) (e .enter .ensures .0 v rows)
+          (c .enum-told .given .0 .0) (ap meaning (c .enum-told .given .1)) ∙ l .loop .inv .1 v rows),
+      e .enter .ensures .1,
+    )
 
 after-requires : tie.Need-after-requires Inv-loop μ-loop
 after-requires c κs =
@@ -79,16 +81,19 @@ loop-again c =
     let s = start (l .before) in (
       c .after .ensures .reached,
       λ v rows.
-          walk-goes-on (byPlace (s .args .image .now)) v (l .loop .at) _ (any t) _ (n .name-at .ensures .first) (meaning (e .enter .result)) (e .enter .ensures v rows)
+          walk-goes-on (byPlace (s .args .image .now)) v (l .loop .at) _ (any t) _ (n .name-at .ensures .first) (meaning (e .enter .result)) (e .enter .ensures .0 v rows)
           (k .step .given .0 .0) (ap meaning (k .step .given .1)) _ (c .after .ensures .rest)
           ∙ l .loop .inv .1 v rows,
     )
 
 returns-2 : tie.Need-returns-2 Inv-loop μ-loop
 returns-2 c =
-    let l = c .before .before in
-    let s = start (l .before) in
-    λ v rows. walk-ends (byPlace (s .args .image .now)) v (l .loop .at) _ (sym (c .before .has-name .ensures) ∙ c .if1 .left) ∙ l .loop .inv .1 v rows
+    let e = c .before in
+    let l = e .before .before in
+    let s = start (l .before) in (
+      (λ v rows. c .inode .ensures .0 ∙ walk-ends (byPlace (s .args .image .now)) v (l .loop .at) _ (sym (e .before .has-name .ensures) ∙ e .if1 .left) ∙ l .loop .inv .1 v rows),
+      c .inode .ensures .1,
+    )
 
 pub resolve-spec : {M : Type 1} → statement M
 resolve-spec =
@@ -107,4 +112,5 @@ resolve-spec =
     after-requires
     loop-less
     loop-again
+    (λ c κs. search needs)
     returns-2)

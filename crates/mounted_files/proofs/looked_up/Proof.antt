@@ -1,4 +1,4 @@
--- `mounted_files::looked_up` meets its contract. Assumes nothing.
+-- `mounted_files::looked_up` meets its contract.
 use mathlib.Core.Path.{refl}
 use Rattle.mounted_files.proofs.looked_up.Statement.{statement}
 use Rattle.mounted_files.proofs.looked_up.Tie as tie

@@ -1,10 +1,16 @@
--- `mounted_files::lookup_answer` meets its contract. Assumes nothing.
-use mathlib.Core.Path.{ap, _∙_}
+-- `mounted_files::lookup_answer` meets its contract.
+use mathlib.Core.Path.{_≡_, ap, subst, _∙_}
+use mathlib.Core.Bool.{Bool, cond}
+use Rattle.format.specs.Ids.{isDirectoryId}
 use borrow.Author.Needs.{needs}
-use Rattle.lookup.specs.Found.{meaning}
+use Rattle.lookup.specs.Found.{meaning, Kinded}
 use Rattle.mounted_files.specs.Paths.{lookup-absent, lookup-found}
 use Rattle.mounted_files.proofs.lookup_answer.Statement.{statement}
 use Rattle.mounted_files.proofs.lookup_answer.Tie as tie
+
+-- the kind told is that of the id
+kind : (k : tie.After-found) → k .found .given .0 .1 .0 ≡ isDirectoryId (k .found .given .0 .0)
+kind k = subst Kinded (k .found .given .1) (k .before .before .pre)
 
 returns : tie.Need-returns
 returns c =
@@ -18,7 +24,7 @@ returns-2 c =
     let n = c .before in
     let k = n .before .before in
     c .looked-up2 .ensures
-    ∙ lookup-found (meaning (k .before .before .args .found)) (k .found .given .0 .0) (ap meaning (k .found .given .1)) (n .kind-of .result) (n .kind-of .ensures)
+    ∙ lookup-found (meaning (k .before .before .args .found)) (k .found .given .0 .0) (ap meaning (k .found .given .1)) (n .kind-number .result) (n .kind-number .ensures ∙ ap (λ (d : Bool). cond d 0 1) (kind k))
 
 pub lookup-answer-spec : {M : Type 1} → statement M
 lookup-answer-spec =

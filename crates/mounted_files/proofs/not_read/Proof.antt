@@ -1,4 +1,4 @@
--- `mounted_files::not_read` meets its contract. Assumes nothing.
+-- `mounted_files::not_read` meets its contract.
 use mathlib.Core.Path.{refl}
 use Rattle.mounted_files.proofs.not_read.Statement.{statement}
 use Rattle.mounted_files.proofs.not_read.Tie as tie

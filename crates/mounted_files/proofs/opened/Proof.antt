@@ -1,4 +1,4 @@
--- `mounted_files::opened` meets its contract. Assumes nothing.
+-- `mounted_files::opened` meets its contract.
 use mathlib.Core.Path.{refl}
 use Rattle.mounted_files.proofs.opened.Statement.{statement}
 use Rattle.mounted_files.proofs.opened.Tie as tie

@@ -1,4 +1,4 @@
--- `mounted_files::read_mounted` meets its contract. Assumes nothing.
+-- `mounted_files::read_mounted` meets its contract.
 use mathlib.Core.Path.{sym, _∙_}
 use Rattle.mounted_files.specs.Reads.{reads-nothing, reads-directory, reads-file}
 use borrow.Author.Needs.{needs}

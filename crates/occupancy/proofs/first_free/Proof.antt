@@ -1,4 +1,4 @@
--- `occupancy::first_free` meets its contract: the lowest free place is 64 for each full word passed and what is found from i on. Assumes nothing.
+-- `occupancy::first_free` meets its contract: the lowest free place is 64 for each full word passed and what is found from i on.
 use Prim.Native.Nat.{_+_, _-_, _*_, _≤_}
 use mathlib.Core.Path.{_≡_, ap}
 use native.Mathlib.Omega.{arith}

@@ -1,4 +1,4 @@
--- `occupancy::first_free_in_word` meets its contract. Assumes nothing.
+-- `occupancy::first_free_in_word` meets its contract.
 use lib.Count.{trailing-le}
 use borrow.Author.Needs.{needs}
 use Rattle.occupancy.proofs.Word.{trailing-not, trailing-small}

@@ -1,4 +1,4 @@
--- `occupancy::occupy` meets its contract: the place is the word's number times 64 and the place in the word. Assumes nothing.
+-- `occupancy::occupy` meets its contract: the place is the word's number times 64 and the place in the word.
 use Prim.Native.Nat.{_/_, _%_}
 use native.Mathlib.Nat.{div-add-mod'}
 use native.Mathlib.Omega.{arith}

@@ -1,4 +1,4 @@
--- `occupancy::position` meets its contract: the position is i and what is found from i on. Assumes nothing.
+-- `occupancy::position` meets its contract: the position is i and what is found from i on.
 use Prim.Native.Nat.{_+_, _-_, _≤_}
 use mathlib.Core.Path.{_≡_}
 use native.Mathlib.Omega.{arith}

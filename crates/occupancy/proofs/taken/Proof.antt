@@ -1,4 +1,4 @@
--- `occupancy::taken` meets its contract: the number taken is the count and what is taken from i on. Assumes nothing.
+-- `occupancy::taken` meets its contract: the number taken is the count and what is taken from i on.
 use Prim.Native.Nat.{_+_, _-_, _*_, _≤_}
 use mathlib.Core.Path.{_≡_, ap}
 use native.Mathlib.Omega.{arith}

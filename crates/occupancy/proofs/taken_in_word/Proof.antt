@@ -1,4 +1,4 @@
--- `occupancy::taken_in_word` meets its contract. Assumes nothing.
+-- `occupancy::taken_in_word` meets its contract.
 use native.Mathlib.Omega.{arith}
 use lib.Count.{ones-le}
 use Rattle.occupancy.proofs.Word.{ones-total}

@@ -1,4 +1,4 @@
--- `occupancy::with_place` meets its contract: the shift is a power of two. Assumes nothing.
+-- `occupancy::with_place` meets its contract: the shift is a power of two.
 use native.Mathlib.Nat.{one-mul}
 use native.Mathlib.Omega.{arith}
 use lib.Dec.{lit<}

@@ -1,4 +1,4 @@
--- `table::find` meets its contract. Assumes nothing.
+-- `table::find` meets its contract.
 use mathlib.Core.Path.{_≡_, sym}
 use native.Mathlib.Omega.{arith}
 use Rattle.table.specs.Table.{taken, rowOf}

@@ -1,4 +1,4 @@
--- `table::keep` meets its contract: it ends in one of four ways. Assumes nothing.
+-- `table::keep` meets its contract: it ends in one of four ways.
 use Prim.Native.Nat.{_+_, _≤_, _<_}
 use mathlib.Core.Path.{_≡_}
 use native.Mathlib.Omega.{arith}
