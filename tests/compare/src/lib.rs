@@ -4,7 +4,7 @@ use nffs_model::compare::Engine;
 use nffs_model::{Create, Handle, Lookup, Open, Read, Report};
 
 // Not exported yet: the model's calls stand in, so that sequences reach every state.
-pub use nffs_model::{append, collect, create, read, unlink};
+pub use nffs_model::{append, collect, create, unlink};
 
 /// The exported calls and the layouts of their answers. A slice passes as a pointer and then a length.
 mod raw {
@@ -121,6 +121,13 @@ pub fn read_at(image: &[u8], areas: &[u32], id: u32, position: u32, buffer: &mut
         )
     };
     Read { number: r.number, given: r.first, headers: r.second }
+}
+
+/// The proved read by value, with a handle's position moved by the bytes given.
+pub fn read(image: &[u8], areas: &[u32], handle: &mut Handle, buffer: &mut [u8]) -> Read {
+    let read = read_at(image, areas, handle.id, handle.position, buffer);
+    handle.position += read.given;
+    read
 }
 
 /// The calls of this crate as one engine.
