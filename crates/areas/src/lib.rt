@@ -11,6 +11,9 @@ use records::record_size;
 // The length of an area's header.
 pub const HEADER_SIZE: usize = 24;
 
+// The id of a scratch area.
+pub const SCRATCH_ID: u8 = 255;
+
 const MAGIC1: u32 = 0xb98a31e2;
 
 const MAGIC2: u32 = 0x7fb0428c;

@@ -1,7 +1,7 @@
--- Lists of area descriptors as slices of numbers, and what checks 1 to 4 find of them.
+-- Lists of area descriptors as slices of numbers, and what check 1 finds of them.
 pub mod Described
 pub mod Steps
 pub mod Listing
-pub mod Kinds
-pub mod Checks
+pub mod Good
+pub mod Description
 pub mod Places

@@ -20,7 +20,7 @@ use Rattle.calls.specs.Format.{emptyArea, longestLength, Labelled, numbered, la
 use Rattle.calls.specs.declared.Descriptor.{Descriptor}
 use Rattle.flash.specs.Laws.{length-put, put-within}
 use Rattle.descriptors.specs.Described.{areaOf, described, described-step, described-end}
-use Rattle.descriptors.specs.Kinds.{Good, Fits, fits-at}
+use Rattle.descriptors.specs.Good.{Good, Fits, fits-at}
 
 -- the areas of a good list, few enough for one byte of id each, and their image
 pub record Lent (image : Bytes) (os ls : List ℕ) : Type 0 where

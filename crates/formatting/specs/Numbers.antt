@@ -14,7 +14,7 @@ use Rattle.calls.specs.Mount.{badDescription}
 use Rattle.calls.specs.Format.{formatNumber, formatted, imageFormatted}
 use Rattle.calls.specs.declared.Descriptor.{Descriptor}
 use Rattle.descriptors.specs.Described.{described, described-length}
-use Rattle.descriptors.specs.Checks.{GoodList, description-good, listed-good}
+use Rattle.descriptors.specs.Description.{GoodList, description-good, listed-good}
 use Rattle.formatting.specs.Areas.{Lent}
 
 module _ (image : Bytes) (ds : List Descriptor) where

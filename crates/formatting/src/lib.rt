@@ -9,8 +9,8 @@ ghost use Rattle.calls.specs.Format.{emptyArea, labelled, blanked, rooted, form
 ghost use Rattle.descriptors.specs.Described.{described};
 ghost use Rattle.formatting.specs.Areas.{Lent, longestOf, scratchHere, firstFile};
 use areas::HEADER_SIZE;
+use areas::SCRATCH_ID;
 use descriptors::MOST_AREAS;
-use descriptors::SCRATCH_ID;
 use descriptors::list_good_areas;
 use encode::write_area_header;
 use encode::write_inode;

@@ -10,9 +10,9 @@ use Rattle.calls.specs.Areas.{mostAreas, fileAreas}
 use Rattle.calls.specs.Refusal.{firstRefusal}
 use Rattle.calls.specs.Mount.{acceptedRecords, volume, mountNumber}
 use Rattle.calls.specs.declared.Descriptor.{Descriptor}
-use Rattle.descriptors.specs.Checks.{recordChecks, mount-refused, mount-goes-on, Checked, Split}
-use Rattle.descriptors.specs.Places.{AreasPass, checked-pass, files-few, file-fits, files-room}
-use Rattle.descriptors.specs.declared.Areas.{Areas}
+use Rattle.area_kinds.specs.Checks.{recordChecks, mount-refused, mount-goes-on, Checked, Split}
+use Rattle.area_kinds.specs.Places.{AreasPass, checked-pass, files-few, file-fits, files-room}
+use Rattle.area_kinds.specs.declared.Areas.{Areas}
 use Rattle.listing.specs.Listing.{Fit, Files}
 use Rattle.gather.specs.Gather.{Tables}
 use Rattle.mount.specs.Mount.{checksIn, Gets, Mounts, refusedMount}

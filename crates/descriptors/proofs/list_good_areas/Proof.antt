@@ -6,7 +6,7 @@ use lib.Seq.{length-take-le}
 use Rattle.calls.specs.Areas.{mostAreas}
 use Rattle.format_laws.specs.Tests.{via}
 use Rattle.descriptors.specs.Listing.{Copied}
-use Rattle.descriptors.specs.Checks.{not-good, bad-size, list-empty, list-long, list-bad, list-good}
+use Rattle.descriptors.specs.Description.{not-good, bad-size, list-empty, list-long, list-bad, list-good}
 use native.Mathlib.Omega.{arith}
 use borrow.Author.Needs.{needs}
 use Rattle.descriptors.proofs.list_good_areas.Statement.{statement}

@@ -3,7 +3,7 @@ use Prim.Native.Nat.{_+_, _≤_, _<_}
 use mathlib.Core.Path.{refl, _∙_}
 use native.Mathlib.Omega.{arith}
 use lib.ListN.{length, getD}
-use Rattle.descriptors.specs.Kinds.{fits-at}
+use Rattle.descriptors.specs.Good.{fits-at}
 use Rattle.formatting.specs.Areas.{first-small, root-put}
 use borrow.Author.Needs.{needs}
 use Rattle.formatting.proofs.write_root.Statement.{statement}

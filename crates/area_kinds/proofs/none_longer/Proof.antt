@@ -1,0 +1,52 @@
+-- `area_kinds::none_longer` meets its contract.
+use Prim.Native.Nat.{_-_}
+use mathlib.Core.Path.{_≡_, refl, sym, _∙_}
+use lib.ListN.{length, drop, drop-of-length-le}
+use lib.Dec.{leb}
+use borrow.Author.Tests.{le-leb, lt-leb}
+use Rattle.volume.specs.Lists.{all}
+use Rattle.descriptors.specs.Steps.{drop-step, all-passes, all-fails, all-ends}
+use borrow.Author.Needs.{needs}
+use Rattle.area_kinds.proofs.none_longer.Statement.{statement}
+use Rattle.area_kinds.proofs.none_longer.Tie as tie
+
+abbrev Inv-loop : tie.InvT-loop
+Inv-loop lengths most i₀ i = all (λ n. leb n most) (drop i lengths) ≡ all (λ n. leb n most) lengths
+
+abbrev μ-loop : tie.MeasureT-loop
+μ-loop lengths most i₀ i = length lengths - i
+
+loop-holds : tie.Need-loop-holds Inv-loop μ-loop
+loop-holds c = refl
+
+returns : tie.Need-returns Inv-loop μ-loop
+returns c =
+    let t = c .before .before in
+    let l = t .before in
+    sym (all-fails (drop-step _ _ (t .loop-test .taken)) _ (lt-leb _ _ (c .if1 .taken))) ∙ l .loop .inv
+
+loop-again : tie.Need-loop-again Inv-loop μ-loop
+loop-again c =
+    let t = c .before .before in
+    let l = t .before in
+    sym (all-passes (drop-step _ _ (t .loop-test .taken)) _ (le-leb _ _ (c .if1 .left))) ∙ l .loop .inv
+
+returns-2 : tie.Need-returns-2 Inv-loop μ-loop
+returns-2 c =
+    let l = c .before in
+    sym (all-ends (drop-of-length-le (l .before .args .lengths .now) (c .loop-test .left)) _) ∙ l .loop .inv
+
+pub none-longer-spec : {M : Type 1} → statement M
+none-longer-spec =
+    tie.close
+    (tie.spec
+    Inv-loop
+    μ-loop
+    loop-holds
+    (λ c. search needs)
+    (λ c. search needs)
+    returns
+    (λ c. search needs)
+    (λ c. search needs)
+    loop-again
+    returns-2)

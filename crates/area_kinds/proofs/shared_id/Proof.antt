@@ -1,0 +1,99 @@
+-- `area_kinds::shared_id` meets its contract.
+use Prim.Native.Nat.{_+_, _-_}
+use mathlib.Core.Path.{_≡_, sym, ap, _∙_}
+use mathlib.Core.Bool.{not}
+use lib.ListN.{length, drop, getD}
+use Rattle.volume.specs.Lists.{all}
+use Rattle.calls.specs.Mount.{sharedAreaId}
+use Rattle.format_laws.specs.Bytes.{rest-part}
+use Rattle.format_laws.specs.Tests.{via}
+use Rattle.descriptors.specs.Described.{areaOf, described, described-step, described-end}
+use Rattle.descriptors.specs.Steps.{pairwise, pairs-pass, pairs-fail, pairs-end}
+use Rattle.descriptors.specs.Good.{fits-at, header-at, good-later}
+use Rattle.area_kinds.specs.Kinds.{ownId, shared-pairs}
+use borrow.Author.Needs.{needs}
+use native.Mathlib.Omega.{arith}
+use Rattle.area_kinds.proofs.shared_id.Statement.{statement}
+use Rattle.area_kinds.proofs.shared_id.Tie as tie
+
+abbrev Inv-loop : tie.InvT-loop
+Inv-loop image offsets lengths i₀ i = not (pairwise (ownId image) (described (drop i offsets) (drop i lengths))) ≡ sharedAreaId image (described offsets lengths)
+
+abbrev μ-loop : tie.MeasureT-loop
+μ-loop image offsets lengths i₀ i = length offsets - i
+
+-- what was asked of the later areas
+tested : (c : tie.After-no-id Inv-loop μ-loop) → let l = c .before .before .before .before .before .before in let s = l .before .before .before .before in
+    c .no-id .result
+    ≡ all (ownId (s .args .image .now) (areaOf (getD (s .args .offsets .now) (l .loop .i) 0) (getD (s .args .lengths .now) (l .loop .i) 0)))
+    (described (drop (l .loop .i + 1) (s .args .offsets .now)) (drop (l .loop .i + 1) (s .args .lengths .now)))
+tested c =
+    let a = c .before .before .before in
+    let t = a .before .before in
+    let l = t .before in
+    let s = l .before .before .before .before in
+    let e = rw (rest-part (s .args .offsets .now) (l .loop .i + 1), rest-part (s .args .lengths .now) (l .loop .i + 1)) at (c .no-id .ensures) in
+    rw (a .area-id .ensures .is _ (header-at _ _ _ (s .pre) _ (t .loop-test .taken))) at e
+
+loop-holds : tie.Need-loop-holds Inv-loop μ-loop
+loop-holds c = sym (shared-pairs _ _)
+
+area-id-requires : tie.Need-area-id-requires Inv-loop μ-loop
+area-id-requires c κs =
+    let t = c .before in
+    let s = t .before .before .before .before .before in
+    let f = fits-at (length (s .args .image .now)) (s .args .offsets .now) (s .args .lengths .now) (s .pre) (t .before .loop .i) (t .loop-test .taken) in
+    omega arith
+
+no-id-requires : tie.Need-no-id-requires Inv-loop μ-loop
+no-id-requires c κs =
+    let l = c .before .before .before .before .before in
+    let s = l .before .before .before .before in
+    rw (rest-part (s .args .offsets .now) (l .loop .i + 1), rest-part (s .args .lengths .now) (l .loop .i + 1)) (good-later _ _ _ (s .pre) (l .loop .i + 1))
+
+returns : tie.Need-returns Inv-loop μ-loop
+returns c =
+    let g = c .before in
+    let a = g .before .before .before in
+    let l = a .before .before .before in
+    let s = l .before .before .before .before in
+    sym (ap not (pairs-fail (described-step _ _ _ (s .pre .pairs) (a .before .before .loop-test .taken)) _ (via (tested g) (c .if1 .left)))) ∙ l .loop .inv
+
+loop-again : tie.Need-loop-again Inv-loop μ-loop
+loop-again c =
+    let g = c .before in
+    let a = g .before .before .before in
+    let l = a .before .before .before in
+    let s = l .before .before .before .before in
+    sym (ap not (pairs-pass (described-step _ _ _ (s .pre .pairs) (a .before .before .loop-test .taken)) _ (via (tested g) (c .if1 .taken)))) ∙ l .loop .inv
+
+returns-2 : tie.Need-returns-2 Inv-loop μ-loop
+returns-2 c =
+    let l = c .before in
+    let s = l .before .before .before .before in
+    sym (ap not (pairs-end (described-end (s .args .offsets .now) (s .args .lengths .now) _ (c .loop-test .left)) _)) ∙ l .loop .inv
+
+pub shared-id-spec : {M : Type 1} → statement M
+shared-id-spec =
+    tie.close
+    (tie.spec
+    Inv-loop
+    μ-loop
+    loop-holds
+    (λ c. search needs)
+    (λ c. search needs)
+    (λ c. search needs)
+    area-id-requires
+    (λ c. search needs)
+    (λ c. search needs)
+    (λ c. search needs)
+    (λ c. search needs)
+    (λ c. search needs)
+    (λ c. search needs)
+    (λ c. search needs)
+    (λ c. search needs)
+    no-id-requires
+    returns
+    (λ c. search needs)
+    loop-again
+    returns-2)
