@@ -1,3 +1,2 @@
--- The damage of areas, and the report by the tables.
-pub mod Damage
+-- The report by the tables of a mount.
 pub mod Counts

@@ -1,4 +1,4 @@
--- the arguments, from where the areas are checked; and the ways there
+-- `mount::mount` meets its contract.
 use Prim.Native.Nat.{_≤_}
 use mathlib.Core.Path.{sym}
 use native.Mathlib.Omega.{arith}
@@ -10,6 +10,7 @@ use borrow.Author.Needs.{needs}
 use Rattle.mount.proofs.mount.Statement.{statement}
 use Rattle.mount.proofs.mount.Tie as tie
 
+-- the arguments, from where the areas are checked; and the ways there
 abbrev start : tie.After-check-areas → tie.Start
 start a = a .before .before .before .before .before .before .before .before .before .before .before .before .before .before
 
@@ -68,11 +69,15 @@ mount-records-requires c κs =
       empty = s .pre .empty;
     }
 
-same-length-3 : tie.Need-same-length-3
-same-length-3 c = at-areas (at-pass (at-records (c .before .before))) .check-areas .kept .1 .1 .0
+-- where the areas are refused, where the records are, and where the mount passes
+abbrev refusal : tie.After-refused → tie.After-check-areas
+refusal c = c .before .before .before .before .before .before .before
 
-same-length-4 : tie.Need-same-length-4
-same-length-4 c = at-areas (at-pass (at-records (c .before .before))) .check-areas .kept .1 .1 .1 .0
+abbrev refused-there : tie.After-refused2 → tie.After-mount-records
+refused-there c = at-records (c .before .before)
+
+abbrev passed : tie.After-scratch → tie.After-mount-records
+passed c = at-records (c .before .before)
 
 returns-2 : tie.Need-returns-2
 returns-2 c =
@@ -104,8 +109,8 @@ mount-spec =
     (tie.spec
     (λ c κs. search needs)
     (λ c κs. search needs)
-    (λ c. search needs)
-    (λ c. search needs)
+    (λ c. refusal c .check-areas .kept .1 .1 .0)
+    (λ c. refusal c .check-areas .kept .1 .1 .1 .0)
     returns
     slice-reshare-prefix-mount-records
     slice-aggregate-mount-records
@@ -113,23 +118,23 @@ mount-spec =
     slice-aggregate-mount-records-2
     mount-records-requires
     (λ c κs. search needs)
-    same-length-3
-    same-length-4
-    (λ c. search needs)
-    (λ c. search needs)
-    (λ c. search needs)
-    (λ c. search needs)
-    (λ c. search needs)
-    (λ c. search needs)
-    (λ c. search needs)
+    (λ c. at-areas (at-pass (refused-there c)) .check-areas .kept .1 .1 .0)
+    (λ c. at-areas (at-pass (refused-there c)) .check-areas .kept .1 .1 .1 .0)
+    (λ c. refused-there c .mount-records .kept .1 .1 .1 .0)
+    (λ c. refused-there c .mount-records .kept .1 .1 .1 .1 .0)
+    (λ c. refused-there c .mount-records .kept .1 .1 .1 .1 .1 .0)
+    (λ c. refused-there c .mount-records .kept .1 .1 .1 .1 .1 .1 .0)
+    (λ c. refused-there c .mount-records .kept .1 .1 .1 .1 .1 .1 .1 .0)
+    (λ c. refused-there c .mount-records .kept .1 .1 .1 .1 .1 .1 .1 .1 .0)
+    (λ c. refused-there c .mount-records .kept .1 .1 .1 .1 .1 .1 .1 .1 .1 .0)
     returns-2
-    (λ c. search needs)
-    (λ c. search needs)
-    (λ c. search needs)
-    (λ c. search needs)
-    (λ c. search needs)
-    (λ c. search needs)
-    (λ c. search needs)
-    (λ c. search needs)
-    (λ c. search needs)
+    (λ c. at-areas (at-pass (passed c)) .check-areas .kept .1 .1 .0)
+    (λ c. at-areas (at-pass (passed c)) .check-areas .kept .1 .1 .1 .0)
+    (λ c. passed c .mount-records .kept .1 .1 .1 .0)
+    (λ c. passed c .mount-records .kept .1 .1 .1 .1 .0)
+    (λ c. passed c .mount-records .kept .1 .1 .1 .1 .1 .0)
+    (λ c. passed c .mount-records .kept .1 .1 .1 .1 .1 .1 .0)
+    (λ c. passed c .mount-records .kept .1 .1 .1 .1 .1 .1 .1 .0)
+    (λ c. passed c .mount-records .kept .1 .1 .1 .1 .1 .1 .1 .1 .0)
+    (λ c. passed c .mount-records .kept .1 .1 .1 .1 .1 .1 .1 .1 .1 .0)
     returns-3)

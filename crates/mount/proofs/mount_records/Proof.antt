@@ -1,4 +1,4 @@
--- the arguments, from where the places are listed; and the way there from where the records are gathered
+-- `mount::mount_records` meets its contract.
 use mathlib.Core.Path.{_≡_, sym, ap, _∙_}
 use mathlib.Core.Bool.{cond}
 use native.Mathlib.Omega.{arith}
@@ -13,6 +13,7 @@ use borrow.Author.Needs.{needs}
 use Rattle.mount.proofs.mount_records.Statement.{statement}
 use Rattle.mount.proofs.mount_records.Tie as tie
 
+-- the arguments, from where the places are listed; and the way there from where the records are gathered
 abbrev start : tie.After-list-records → tie.Start
 start l = l .before .before .before .before .before .before .before .before .before .before .before .before
 
@@ -34,6 +35,13 @@ ready l =
 -- where the root was sought: no refusal came before
 abbrev at-root : tie.After-find → tie.Else1
 at-root f = f .before .before .before .before
+
+-- where it is not found, and where it is
+abbrev missing : tie.After-enum-told2 → tie.After-gather
+missing c = at-gather (at-root (c .before .before) .before)
+
+abbrev found : tie.After-enum-told → tie.After-gather
+found c = at-gather (at-root (c .before .before) .before)
 
 -- the table of inodes holds those of the file areas
 rooted : (f : tie.After-find) → let g = at-gather (at-root f .before) in let s = start (at-list g) in
@@ -97,30 +105,30 @@ mount-records-spec =
     (tie.spec
     (λ c κs. search needs)
     gather-requires
-    (λ c. search needs)
-    (λ c. search needs)
-    (λ c. search needs)
-    (λ c. search needs)
-    (λ c. search needs)
-    (λ c. search needs)
-    (λ c. search needs)
+    (λ c. at-list (at-gather (c .before)) .list-records .kept .1 .1 .1 .0)
+    (λ c. at-gather (c .before) .gather .kept .1 .1 .1 .0)
+    (λ c. at-gather (c .before) .gather .kept .1 .1 .1 .1 .0)
+    (λ c. at-gather (c .before) .gather .kept .1 .1 .1 .1 .1 .0)
+    (λ c. at-gather (c .before) .gather .kept .1 .1 .1 .1 .1 .1 .0)
+    (λ c. at-gather (c .before) .gather .kept .1 .1 .1 .1 .1 .1 .1 .0)
+    (λ c. at-gather (c .before) .gather .kept .1 .1 .1 .1 .1 .1 .1 .1 .0)
     returns
     (λ c κs. search needs)
     (λ c. search needs)
     (λ c. search needs)
-    (λ c. search needs)
-    (λ c. search needs)
-    (λ c. search needs)
-    (λ c. search needs)
-    (λ c. search needs)
-    (λ c. search needs)
-    (λ c. search needs)
+    (λ c. at-list (missing c) .list-records .kept .1 .1 .1 .0)
+    (λ c. missing c .gather .kept .1 .1 .1 .0)
+    (λ c. missing c .gather .kept .1 .1 .1 .1 .0)
+    (λ c. missing c .gather .kept .1 .1 .1 .1 .1 .0)
+    (λ c. missing c .gather .kept .1 .1 .1 .1 .1 .1 .0)
+    (λ c. missing c .gather .kept .1 .1 .1 .1 .1 .1 .1 .0)
+    (λ c. missing c .gather .kept .1 .1 .1 .1 .1 .1 .1 .1 .0)
     returns-2
-    (λ c. search needs)
-    (λ c. search needs)
-    (λ c. search needs)
-    (λ c. search needs)
-    (λ c. search needs)
-    (λ c. search needs)
-    (λ c. search needs)
+    (λ c. at-list (found c) .list-records .kept .1 .1 .1 .0)
+    (λ c. found c .gather .kept .1 .1 .1 .0)
+    (λ c. found c .gather .kept .1 .1 .1 .1 .0)
+    (λ c. found c .gather .kept .1 .1 .1 .1 .1 .0)
+    (λ c. found c .gather .kept .1 .1 .1 .1 .1 .1 .0)
+    (λ c. found c .gather .kept .1 .1 .1 .1 .1 .1 .1 .0)
+    (λ c. found c .gather .kept .1 .1 .1 .1 .1 .1 .1 .1 .0)
     returns-3)

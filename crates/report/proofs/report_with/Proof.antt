@@ -1,4 +1,4 @@
--- the arguments, from the mount; and the way there
+-- `report::report_with` meets its contract.
 use Prim.Native.Nat.{_≤_}
 use mathlib.Core.Path.{sym}
 use native.Mathlib.Omega.{arith}
@@ -10,11 +10,18 @@ use borrow.Author.Needs.{needs}
 use Rattle.report.proofs.report_with.Statement.{statement}
 use Rattle.report.proofs.report_with.Tie as tie
 
+-- the arguments, from the mount; and the ways there
 abbrev start : tie.After-mount → tie.Start
 start m = m .before .before .before .before .before .before .before .before .before .before .before .before .before .before .before .before .before .before .before .before .before
 
 abbrev at-mount : tie.After-struct-known → tie.After-mount
 at-mount k = k .before .before .before .before .before .before .before .before .before .before .before .before .before .before .before .before .before .before .before
+
+abbrev refused : tie.After-refused-report → tie.After-mount
+refused c = at-mount (c .before .before)
+
+abbrev mounted : tie.After-report-mounted → tie.After-mount
+mounted c = at-mount (c .before .before .before .before .before .before .before)
 
 -- the slices of the file areas are as long as they were lent
 starts-long : (m : tie.After-mount) → mostAreas ≤ length (m .mount .last .1 .1 .0)
@@ -31,31 +38,31 @@ returns c =
     report-refused (s .args .image .now) (areaList (s .args .areas .now)) (m .mount .result) (m .mount .last .1 .1 .0) (m .mount .last .1 .1 .1 .0) (m .mount .last .1 .1 .1 .1 .0)
     (tables (m .mount .last .1 .1 .1 .1 .1 .0) (m .mount .last .1 .1 .1 .1 .1 .1 .0) (m .mount .last .1 .1 .1 .1 .1 .1 .1 .0)
     (m .mount .last .1 .1 .1 .1 .1 .1 .1 .1 .0) (m .mount .last .1 .1 .1 .1 .1 .1 .1 .1 .1 .0) (m .mount .last .1 .1 .1 .1 .1 .1 .1 .1 .1 .1 .0))
-    (m .mount .ensures) (t .if1 .taken) (c .refused .result) (c .refused .ensures)
+    (m .mount .ensures) (t .if1 .taken) (c .refused-report .result) (c .refused-report .ensures)
 
-slice-reshare-prefix-sum-up : tie.Need-slice-reshare-prefix-sum-up
-slice-reshare-prefix-sum-up c = let m = at-mount (c .before) in omega (arith, m .mount .ensures .state (c .if1 .left) .few, starts-long m)
+slice-reshare-prefix-report-mounted : tie.Need-slice-reshare-prefix-report-mounted
+slice-reshare-prefix-report-mounted c = let m = at-mount (c .before) in omega (arith, m .mount .ensures .state (c .if1 .left) .few, starts-long m)
 
-slice-aggregate-sum-up : tie.Need-slice-aggregate-sum-up
-slice-aggregate-sum-up c =
+slice-aggregate-report-mounted : tie.Need-slice-aggregate-report-mounted
+slice-aggregate-report-mounted c =
     let e = c .before in
     let m = at-mount (e .before) in
     omega (arith, m .mount .ensures .state (e .if1 .left) .few, starts-long m, length-take (m .mount .result .files) (m .mount .last .1 .1 .0))
 
-slice-reshare-prefix-sum-up-2 : tie.Need-slice-reshare-prefix-sum-up-2
-slice-reshare-prefix-sum-up-2 c =
+slice-reshare-prefix-report-mounted-2 : tie.Need-slice-reshare-prefix-report-mounted-2
+slice-reshare-prefix-report-mounted-2 c =
     let e = c .before in
     let m = at-mount (e .before) in
     omega (arith, m .mount .ensures .state (e .if1 .left) .few, spans-long m)
 
-slice-aggregate-sum-up-2 : tie.Need-slice-aggregate-sum-up-2
-slice-aggregate-sum-up-2 c =
+slice-aggregate-report-mounted-2 : tie.Need-slice-aggregate-report-mounted-2
+slice-aggregate-report-mounted-2 c =
     let e = c .before .before in
     let m = at-mount (e .before) in
     omega (arith, m .mount .ensures .state (e .if1 .left) .few, spans-long m, length-take (m .mount .result .files) (m .mount .last .1 .1 .1 .0))
 
-sum-up-requires : tie.Need-sum-up-requires
-sum-up-requires c κs =
+report-mounted-requires : tie.Need-report-mounted-requires
+report-mounted-requires c κs =
     let e = c .before .before .before .before .before in
     let t = at-mount (e .before) .mount .ensures .state (e .if1 .left) in
     (t .fit, t .records .good .inodes)
@@ -68,7 +75,7 @@ returns-2 c =
     report-is (s .args .image .now) (areaList (s .args .areas .now)) (m .mount .result) (m .mount .last .1 .1 .0) (m .mount .last .1 .1 .1 .0) (m .mount .last .1 .1 .1 .1 .0)
     (tables (m .mount .last .1 .1 .1 .1 .1 .0) (m .mount .last .1 .1 .1 .1 .1 .1 .0) (m .mount .last .1 .1 .1 .1 .1 .1 .1 .0)
     (m .mount .last .1 .1 .1 .1 .1 .1 .1 .1 .0) (m .mount .last .1 .1 .1 .1 .1 .1 .1 .1 .1 .0) (m .mount .last .1 .1 .1 .1 .1 .1 .1 .1 .1 .1 .0))
-    (m .mount .ensures) (e .if1 .left) (c .sum-up .result) (c .sum-up .ensures)
+    (m .mount .ensures) (e .if1 .left) (c .report-mounted .result) (c .report-mounted .ensures)
 
 pub report-with-spec : {M : Type 1} → statement M
 report-with-spec =
@@ -76,28 +83,28 @@ report-with-spec =
     (tie.spec
     (λ c κs. search needs)
     (λ c κs. search needs)
-    (λ c. search needs)
-    (λ c. search needs)
-    (λ c. search needs)
-    (λ c. search needs)
-    (λ c. search needs)
-    (λ c. search needs)
-    (λ c. search needs)
-    (λ c. search needs)
-    (λ c. search needs)
+    (λ c. refused c .mount .kept .1 .1 .0)
+    (λ c. refused c .mount .kept .1 .1 .1 .0)
+    (λ c. refused c .mount .kept .1 .1 .1 .1 .0)
+    (λ c. refused c .mount .kept .1 .1 .1 .1 .1 .0)
+    (λ c. refused c .mount .kept .1 .1 .1 .1 .1 .1 .0)
+    (λ c. refused c .mount .kept .1 .1 .1 .1 .1 .1 .1 .0)
+    (λ c. refused c .mount .kept .1 .1 .1 .1 .1 .1 .1 .1 .0)
+    (λ c. refused c .mount .kept .1 .1 .1 .1 .1 .1 .1 .1 .1 .0)
+    (λ c. refused c .mount .kept .1 .1 .1 .1 .1 .1 .1 .1 .1 .1 .0)
     returns
-    slice-reshare-prefix-sum-up
-    slice-aggregate-sum-up
-    slice-reshare-prefix-sum-up-2
-    slice-aggregate-sum-up-2
-    sum-up-requires
-    (λ c. search needs)
-    (λ c. search needs)
-    (λ c. search needs)
-    (λ c. search needs)
-    (λ c. search needs)
-    (λ c. search needs)
-    (λ c. search needs)
-    (λ c. search needs)
-    (λ c. search needs)
+    slice-reshare-prefix-report-mounted
+    slice-aggregate-report-mounted
+    slice-reshare-prefix-report-mounted-2
+    slice-aggregate-report-mounted-2
+    report-mounted-requires
+    (λ c. mounted c .mount .kept .1 .1 .0)
+    (λ c. mounted c .mount .kept .1 .1 .1 .0)
+    (λ c. mounted c .mount .kept .1 .1 .1 .1 .0)
+    (λ c. mounted c .mount .kept .1 .1 .1 .1 .1 .0)
+    (λ c. mounted c .mount .kept .1 .1 .1 .1 .1 .1 .0)
+    (λ c. mounted c .mount .kept .1 .1 .1 .1 .1 .1 .1 .0)
+    (λ c. mounted c .mount .kept .1 .1 .1 .1 .1 .1 .1 .1 .0)
+    (λ c. mounted c .mount .kept .1 .1 .1 .1 .1 .1 .1 .1 .1 .0)
+    (λ c. mounted c .mount .kept .1 .1 .1 .1 .1 .1 .1 .1 .1 .1 .0)
     returns-2)

@@ -13,7 +13,7 @@ use Rattle.calls.specs.Report.{stretchesIn, damagedIn}
 use Rattle.descriptors.specs.Described.{described, described-step, described-end}
 use Rattle.descriptors.specs.Places.{totalLength}
 use Rattle.listing.specs.Listing.{Fit}
-use Rattle.report.specs.declared.Damage.{Damage}
+use Rattle.mounted_report.specs.declared.Damage.{Damage}
 
 unfoldable pub damageIn : Bytes → List ℕ → List ℕ → Damage
 damageIn image os ls = record { stretches = stretchesIn image (described os ls); skipped = damagedIn image (described os ls) }

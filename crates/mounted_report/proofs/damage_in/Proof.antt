@@ -1,4 +1,4 @@
--- `report::damage_in` meets its contract.
+-- `mounted_report::damage_in` meets its contract.
 use Prim.Native.Nat.{ℕ, _+_, _-_, _≤_, _<_}
 use mathlib.Core.Path.{_≡_}
 use mathlib.Core.List.{List}
@@ -7,9 +7,9 @@ use native.Mathlib.Nat.{add-sub-cancel-left}
 use borrow.Author.Needs.{needs}
 use lib.ListN.{length, getD, take, drop}
 use Rattle.areas.specs.Area.{readingOf}
-use Rattle.report.specs.Damage.{Going, going-begins, going-on, going-ends, sums, sums-within}
-use Rattle.report.proofs.damage_in.Statement.{statement}
-use Rattle.report.proofs.damage_in.Tie as tie
+use Rattle.mounted_report.specs.Damage.{Going, going-begins, going-on, going-ends, sums, sums-within}
+use Rattle.mounted_report.proofs.damage_in.Statement.{statement}
+use Rattle.mounted_report.proofs.damage_in.Tie as tie
 
 abbrev Inv-loop : tie.InvT-loop
 Inv-loop image starts spans stretches₀ skipped₀ i₀ stretches skipped i = Going image starts spans stretches skipped i

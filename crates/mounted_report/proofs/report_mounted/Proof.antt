@@ -1,10 +1,10 @@
--- `report::sum_up` meets its contract.
+-- `mounted_report::report_mounted` meets its contract.
 use native.Mathlib.Omega.{arith}
 use Rattle.table.specs.Table.{taken}
-use Rattle.report.specs.Counts.{summed, live-few}
+use Rattle.mounted_report.specs.Summary.{summed, live-few}
 use borrow.Author.Needs.{needs}
-use Rattle.report.proofs.sum_up.Statement.{statement}
-use Rattle.report.proofs.sum_up.Tie as tie
+use Rattle.mounted_report.proofs.report_mounted.Statement.{statement}
+use Rattle.mounted_report.proofs.report_mounted.Tie as tie
 
 cast-t11 : tie.Need-cast-t11
 cast-t11 c =
@@ -22,8 +22,8 @@ returns c =
     summed (a .image .now) (a .starts .now) (a .spans .now) (a .words .now) (a .ids .now) (a .spots .now) (t .taken .result) (l .live-count .result) (d .damage-in .result)
     (t .taken .ensures .0) (l .live-count .ensures) (d .damage-in .ensures .0)
 
-pub sum-up-spec : {M : Type 1} → statement M
-sum-up-spec =
+pub report-mounted-spec : {M : Type 1} → statement M
+report-mounted-spec =
     tie.close
     (tie.spec
     (λ c κs. search needs)
