@@ -38,7 +38,7 @@ pub extern "C" fn nffs_lookup<'a>(
 ) -> Lookup
     ensures { λ r. ⌜ r ≡ lookupOf (now (image .entry)) (areaList (now (areas .entry))) (now (base .entry)) (now (path .entry)) ⌝ }
 {
-    file_calls::lookup(image, areas, base, path)
+    path_calls::lookup(image, areas, base, path)
 }
 
 // Opens the file of a path, at position 0.
@@ -51,7 +51,7 @@ pub extern "C" fn nffs_open<'a>(
 ) -> Opened
     ensures { λ r. ⌜ r ≡ openOf (now (image .entry)) (areaList (now (areas .entry))) (now (base .entry)) (now (path .entry)) ⌝ }
 {
-    file_calls::open(image, areas, base, path)
+    path_calls::open(image, areas, base, path)
 }
 
 // Reads the file of an id from a position on, into the front of the buffer; a refused read leaves the buffer as it is.
@@ -66,5 +66,5 @@ pub extern "C" fn nffs_read_at(
     ensures answer { λ r. ⌜ r ≡ readAnswer (readGiven (now (image .entry)) (areaList (now (areas .entry))) id position (length (now (buffer .entry)))) ⌝ }
     ensures bytes { λ r. ⌜ now (buffer .exit) ≡ bufferAfter (readGiven (now (image .entry)) (areaList (now (areas .entry))) id position (length (now (buffer .entry)))) (now (buffer .entry)) ⌝ }
 {
-    file_calls::read_at(image, areas, id, position, buffer)
+    read_calls::read_at(image, areas, id, position, buffer)
 }

@@ -1,2 +1,0 @@
--- The calls on files by the tables of a mount.
-pub mod Calls

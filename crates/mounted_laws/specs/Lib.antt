@@ -1,0 +1,2 @@
+-- The mounted state, as the calls use it.
+pub mod State

@@ -1,0 +1,2 @@
+-- Lookup and open.
+pub mod Calls

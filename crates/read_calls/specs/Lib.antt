@@ -1,0 +1,2 @@
+-- The read by the tables of a mount.
+pub mod Calls
