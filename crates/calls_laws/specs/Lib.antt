@@ -1,3 +1,4 @@
 -- Laws of mounting.
 pub mod Checks
 pub mod Records
+pub mod Reads

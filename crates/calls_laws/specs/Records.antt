@@ -1,11 +1,11 @@
 -- The records of an image's file areas, by membership: each is acceptable, so that the volume they make is sound.
-use Prim.Native.Nat.{_<_}
-use mathlib.Core.Path.{_≡_, refl, sym}
+use Prim.Native.Nat.{_≤_, _<_}
+use mathlib.Core.Path.{_≡_, refl, sym, ap}
 use mathlib.Core.Logic.{inl, inr, ⊎-elim}
 use mathlib.Core.List.{List, [], _∷_, List·Memᴰ, List·Memᴰ·head, List·Memᴰ·tail, List·Memᴰ·append-cases, List·Memᴰ·not-nil}
 use mathlib.Core.List.{Memᴰ·append-left, Memᴰ·append-right, Memᴰ·map, Memᴰ·of-map, Memᴰ·cast}
 use native.Mathlib.Omega.{arith}
-use lib.ListN.{take, drop}
+use lib.ListN.{length, take, drop, length-take, length-drop}
 use Rattle.format.specs.Bytes.{Bytes}
 use Rattle.format.specs.AreaHeader.{areaHeaderSize}
 use Rattle.format.specs.Record.{inode, block, recordSize}
@@ -68,6 +68,23 @@ records-accepted image fs b m =
     let k = rw (records-from recordSize (areaBytes image (s .area))) at (s .taken-there) in
     let t = from-each recordSize records-lawful (areaBytes image (s .area)) areaHeaderSize (s .one) k in
     rw (← s .bytes-are, t .is) (front-acceptable (drop (s .one .place) (areaBytes image (s .area))) (t .accepted))
+
+-- and no longer than the image
+pub records-short : (image : Bytes) (fs : List Descriptor) (b : Bytes) → List·Memᴰ b (recordsIn image fs) → length b ≤ length image
+records-short image fs b m =
+    let s = stored image fs b m in
+    let k = rw (records-from recordSize (areaBytes image (s .area))) at (s .taken-there) in
+    let t = from-each recordSize records-lawful (areaBytes image (s .area)) areaHeaderSize (s .one) k in
+    let rest = drop (s .one .place) (areaBytes image (s .area)) in
+    omega (
+      arith,
+      ap length (s .bytes-are),
+      ap length (t .is),
+      length-take (recordSize rest) rest,
+      length-drop (s .one .place) (areaBytes image (s .area)),
+      length-take (s .area .length) (drop (s .area .offset) image),
+      length-drop (s .area .offset) image,
+    )
 
 pub records-sound : (image : Bytes) (fs : List Descriptor) → Sound byBytes (volumeOf byBytes (recordsIn image fs))
 records-sound image fs = sound (recordsIn image fs) (records-accepted image fs)
