@@ -4,8 +4,9 @@ ghost use Rattle.calls.specs.Areas.{areaList};
 ghost use Rattle.calls.specs.Report.{reportOf};
 ghost use Rattle.calls.specs.Format.{formatNumber, imageFormatted};
 ghost use Rattle.calls.specs.Lookup.{lookupOf, openOf};
-ghost use Rattle.calls.specs.Read.{readGiven, readAnswer, bufferAfter};
+ghost use Rattle.calls.specs.Read.{readGiven, readAnswer, bufferAfter, handleAfter};
 ghost use lib.ListN.{length};
+use calls::Handle;
 use calls::Lookup;
 use calls::Opened;
 use calls::ReadAnswer;
@@ -67,4 +68,19 @@ pub extern "C" fn nffs_read_at(
     ensures bytes { λ r. ⌜ now (buffer .exit) ≡ bufferAfter (readGiven (now (image .entry)) (areaList (now (areas .entry))) id position (length (now (buffer .entry)))) (now (buffer .entry)) ⌝ }
 {
     read_calls::read_at(image, areas, id, position, buffer)
+}
+
+// Reads the file of a handle from its position on, and moves the position behind what was given; a refused read leaves handle and buffer as they are.
+#[no_mangle]
+pub extern "C" fn nffs_read(
+    image: &[u8],
+    areas: &[u32],
+    h: &mut Handle,
+    buffer: &mut [u8],
+) -> ReadAnswer
+    ensures { λ r. ⌜ (r ≡ readAnswer (readGiven (now (image .entry)) (areaList (now (areas .entry))) (now (h .entry) .id) (now (h .entry) .position) (length (now (buffer .entry)))))
+        × (now (h .exit) ≡ handleAfter (readGiven (now (image .entry)) (areaList (now (areas .entry))) (now (h .entry) .id) (now (h .entry) .position) (length (now (buffer .entry)))) (now (h .entry)))
+        × (now (buffer .exit) ≡ bufferAfter (readGiven (now (image .entry)) (areaList (now (areas .entry))) (now (h .entry) .id) (now (h .entry) .position) (length (now (buffer .entry)))) (now (buffer .entry))) ⌝ }
+{
+    handle_calls::read(image, areas, h, buffer)
 }
