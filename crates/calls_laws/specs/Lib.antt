@@ -2,3 +2,4 @@
 pub mod Checks
 pub mod Records
 pub mod Reads
+pub mod Unused

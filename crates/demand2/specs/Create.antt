@@ -40,7 +40,8 @@ use Rattle.demand2.specs.Mounted.{agreed-inodes, agreed-blocks, accepted
 use Rattle.demand2.specs.NewInode.{InodeNew, inode-new}
 use Rattle.demand2.specs.Store.{OneStored, one-stored}
 use Rattle.demand2.specs.Places.{place-found, all-placed}
-use Rattle.demand2.specs.Unused.{Unused, Smallest, unused-smallest, unnamed-unused, few-named}
+use Rattle.calls_laws.specs.Unused.{Smallest, unused-smallest}
+use Rattle.demand2.specs.Unused.{Unused, unnamed-unused, few-named}
 use Rattle.demand2.specs.Names.{GoodName, good-name, last-mem, names-split}
 use Rattle.demand2.specs.Found.{passed-check, lookup-refused, root-there, found-lives, found-once, resolved, resolve-alike}
 use Rattle.demand2.specs.NewRecord.{IsInode, inode-made, WrittenOne, written-one, no-blocks}

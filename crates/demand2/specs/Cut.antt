@@ -8,6 +8,7 @@ use lib.ListN.{length, take, drop, length-take, length-drop, take-append-drop}
 use Rattle.format.specs.Bytes.{Bytes}
 use Rattle.format.specs.Record.{longestData}
 use Rattle.format.specs.BlockSize.{greatestBlock}
+use Rattle.format_laws.specs.BlockSize.{block-bounds}
 use Rattle.format_laws.specs.Crc.{Octets}
 use Rattle.volume_laws.specs.Tests.{or-is-false, eqb-false}
 use Rattle.calls.specs.Areas.{fileAreas, shortestArea}
@@ -62,12 +63,11 @@ shortest-least (d ∷ e ∷ fs) n h =
 -- writers' blocks hold some bytes, and no more than a block may
 module _ (image : Bytes) (ds : List Descriptor) (p : Passes image ds) where
   block-size : (1 ≤ greatestBlock (shortestLength (fileAreas image ds))) × (greatestBlock (shortestLength (fileAreas image ds)) ≤ longestData)
-  unfolding greatestBlock wrongAreas
+  unfolding wrongAreas
   block-size =
       let n = or-is-false _ _ (p .areas) .0 in
-      let s = shortest-least (fileAreas image ds) (eqb-false _ 0 n)
-      (λ d m. area-lengths image ds (p .described) d (file-listed image ds d m) .0) in
-      (omega arith, omega arith)
+      block-bounds (shortestLength (fileAreas image ds)) (shortest-least (fileAreas image ds) (eqb-false _ 0 n)
+      (λ d m. area-lengths image ds (p .described) d (file-listed image ds d m) .0))
 
   pub pieces-joined : (text : Bytes) → joinedBytes (piecesOf (fileAreas image ds) text) ≡ text
   unfolding piecesOf

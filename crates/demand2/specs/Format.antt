@@ -42,7 +42,7 @@ use Rattle.demand2.specs.Area.{Whole, erased-clean, erased-starts, erase
 use Rattle.demand2.specs.Store.{freePlace, Fits, OneStored, one-stored, same-file-areas, same-scratch-areas, same-area-ids, same-described}
 use Rattle.demand2.specs.Store.{file-listed, same-area}
 use Rattle.demand2.specs.Places.{few-areas, area-lengths, Distinct, areas-distinct, files-distinct}
-use Rattle.demand2.specs.Unused.{upwards, upwards-nodup, upwards-length}
+use Rattle.calls_laws.specs.Unused.{upwards, upwards-nodup, upwards-length}
 use Rattle.demand2.specs.Found.{passed-check}
 use Rattle.demand2.specs.NewRecord.{inode-made}
 use Rattle.demand2.specs.Labels.{areaOf, labelOf, isFileLabel, labelled-areas, longest-bounds, longest-there, Labels, labels}

@@ -14,7 +14,7 @@ use Rattle.volume.specs.Lists.{keep}
 use Rattle.volume_laws.specs.Tests.{eqb-false, eqb-differ}
 use Rattle.calls.specs.Format.{longestLength, Labelled, numbered, labelled}
 use Rattle.calls.specs.declared.Descriptor.{Descriptor}
-use Rattle.demand2.specs.Unused.{upwards}
+use Rattle.calls_laws.specs.Unused.{upwards}
 
 abbrev pub areaOf : Labelled → Descriptor
 areaOf l = l .area

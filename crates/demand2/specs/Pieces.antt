@@ -29,7 +29,7 @@ use Rattle.calls_laws.specs.Records.{volume-sound}
 use Rattle.demand2.specs.Area.{Whole}
 use Rattle.demand2.specs.Store.{freePlace, Fits, OneStored, one-stored}
 use Rattle.demand2.specs.Places.{Written, written, all-written}
-use Rattle.demand2.specs.Unused.{Smallest, unused-smallest}
+use Rattle.calls_laws.specs.Unused.{Smallest, unused-smallest}
 use Rattle.demand2.specs.Added.{Same, Added, added-ids, same-count}
 use Rattle.demand2.specs.Mounted.{agreed-blocks, agreed-inodes, accepted-kind, few-ids, ids-few, blocks-added, inodes-same, still-passes}
 use Rattle.demand2.specs.NewRecord.{IsBlock, block-made}

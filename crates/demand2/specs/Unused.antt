@@ -1,28 +1,23 @@
 -- Ids for new records: the smallest of their range that no accepted record names.
-use Prim.Native.Nat.{ℕ, zero, suc, _+_, _*_, _≤_, _<_}
+use Prim.Native.Nat.{ℕ, zero, suc, _+_, _*_, _≤_}
 use mathlib.Core.Path.{_≡_, refl, sym, ap}
-use mathlib.Core.Logic.{_≢_, ⊎-elim}
-use mathlib.Core.Bool.{Bool, true, false, cond, not}
-use mathlib.Core.List.{List, [], _∷_, List·Memᴰ, List·Memᴰ·head, List·Memᴰ·tail, List·Memᴰ·cases-cons, List·Memᴰ·not-nil, Memᴰ·append-left}
-use mathlib.Core.List.{Memᴰ·append-right, Memᴰ·cast}
+use mathlib.Core.Logic.{_≢_}
+use mathlib.Core.Bool.{false, not}
+use mathlib.Core.List.{List, [], _∷_, List·Memᴰ, List·Memᴰ·head, List·Memᴰ·tail, Memᴰ·append-left, Memᴰ·append-right, Memᴰ·cast}
 use native.Mathlib.Omega.{arith}
-use native.Mathlib.Decide.{ℕ-discrete, decLt}
 use lib.ListN.{length, take, drop, length-append, length-map, length-take, length-drop}
-use lib.Dec.{T, eqb, eqb→eq, eqb-refl, T-not, not-T}
 use Rattle.format.specs.Bytes.{Bytes}
 use Rattle.format.specs.AreaHeader.{isFileArea}
 use Rattle.format.specs.Record.{recordId, recordLink, blockPrevious, recordSize}
 use Rattle.format.specs.Reading.{Acceptor, Placed, Part, taken, stretch, skip, parts, placed, areaParts, areaRecords}
-use Rattle.volume.specs.Lists.{all}
 use Rattle.volume.specs.View.{byBytes}
 use Rattle.volume.specs.Counting.{Volume, volumeOf}
-use Rattle.volume_laws.specs.Tests.{true→T, not-is-false}
-use Rattle.volume_laws.specs.Lists.{all-mem, not-all, keep-shorter}
-use Rattle.volume_laws.specs.Once.{Nodup, pigeons}
+use Rattle.volume_laws.specs.Lists.{keep-shorter}
 use Rattle.calls.specs.Areas.{areaBytes, fileAreas, largestImage}
 use Rattle.calls.specs.Mount.{recordsOf, bytesOf, recordsIn, acceptedRecords, volume, badDescription}
-use Rattle.calls.specs.Storing.{namedByInodes, namedByBlocks, namedIds, isAmong, unusedFrom, unusedId}
+use Rattle.calls.specs.Storing.{namedByInodes, namedByBlocks, namedIds}
 use Rattle.calls.specs.declared.Descriptor.{Descriptor}
+use Rattle.calls_laws.specs.Unused.{inodes-name, blocks-name}
 use Rattle.demand2.specs.Store.{file-listed}
 use Rattle.demand2.specs.Places.{few-areas, area-lengths}
 
@@ -33,104 +28,6 @@ pub record Unused (v : Volume Bytes) (i : ℕ) : Type 0 where
   pub no-block : (r : Bytes) → List·Memᴰ r (v .blocks) → recordId r ≢ i
   pub no-owner : (r : Bytes) → List·Memᴰ r (v .blocks) → recordLink r ≢ i
   pub no-previous : (r : Bytes) → List·Memᴰ r (v .blocks) → blockPrevious r ≢ i
-
--- ---- the search
-
-among : (i : ℕ) (l : List ℕ) → T (isAmong i l) → List·Memᴰ i l
-unfolding isAmong
-among i l t =
-    let n = not-all (λ j. not (eqb i j)) l (T-not (all (λ j. not (eqb i j)) l) t) in
-    Memᴰ·cast (eqb→eq i (n .0) (true→T (not-is-false (eqb i (n .0)) (n .2)))) (n .1)
-
-not-among : (i : ℕ) (l : List ℕ) → ¬ T (isAmong i l) → ¬ List·Memᴰ i l
-unfolding isAmong
-not-among i l n m = n (not-T (all (λ j. not (eqb i j)) l) (λ t. T-not (eqb i i) (all-mem (λ j. not (eqb i j)) l t m) (eqb-refl i)))
-
--- what is found is the smallest from i on that is not among l, if it is found before the search ends
-record Sought (k i : ℕ) (l : List ℕ) (r : ℕ) : Type 0 where
-  from : i ≤ r
-  within : r ≤ i + k
-  passed : (j : ℕ) → i ≤ j → j < r → List·Memᴰ j l
-  stopped : r < i + k → ¬ List·Memᴰ r l
-
-sought : (k i : ℕ) (l : List ℕ) → Sought k i l (unusedFrom k i l)
-unfolding unusedFrom
-sought zero i l = record { from = omega arith; within = omega arith; passed = λ j h g. absurd (omega arith); stopped = λ h. absurd (omega arith) }
-sought (suc k) i l = go (isAmong i l) refl (sought k (suc i) l)
-  where
-    first : (r j : ℕ) → Sought k (suc i) l r → T (isAmong i l) → i ≤ j → j < r → Dec (j ≡ i) → List·Memᴰ j l
-    first r j s t h g (yes e) = Memᴰ·cast e (among i l t)
-    first r j s t h g (no e) = s .passed j (omega arith) g
-
-    go : (b : Bool) → isAmong i l ≡ b → Sought k (suc i) l (unusedFrom k (suc i) l) → Sought (suc k) i l (cond b (unusedFrom k (suc i) l) i)
-    go true e s = record {
-      from = omega (arith, s .from);
-      within = omega (arith, s .within);
-      passed = λ j h g. first _ j s (true→T e) h g (ℕ-discrete j i);
-      stopped = λ h. s .stopped (omega arith);
-    }
-    go false e s = record {
-      from = omega arith;
-      within = omega arith;
-      passed = λ j h g. absurd (omega arith);
-      stopped = λ h. not-among i l (λ t. rw e at t);
-    }
-
--- n numbers from i on
-unfoldable pub upwards : ℕ → ℕ → List ℕ
-upwards zero i = []
-upwards (suc n) i = i ∷ upwards n (suc i)
-
-pub upwards-mem : (n i : ℕ) {j : ℕ} → List·Memᴰ j (upwards n i) → (i ≤ j) × (j < i + n)
-unfolding upwards
-upwards-mem zero i m = absurd (List·Memᴰ·not-nil m)
-upwards-mem (suc n) i m =
-    ⊎-elim (λ e. (omega arith, omega arith)) (λ k. let h = upwards-mem n (suc i) k in (omega (arith, h .0), omega (arith, h .1)))
-    (List·Memᴰ·cases-cons m)
-
-pub upwards-nodup : (n i : ℕ) → Nodup (upwards n i)
-unfolding upwards
-upwards-nodup zero i = tt
-upwards-nodup (suc n) i = ((λ m. let h = upwards-mem n (suc i) m in omega (arith, h .0)), upwards-nodup n (suc i))
-
-pub upwards-length : (n i : ℕ) → length (upwards n i) ≡ n
-unfolding upwards
-upwards-length zero i = refl
-upwards-length (suc n) i = ap suc (upwards-length n (suc i))
-
--- "the smallest id of their range": of more numbers than l has members, one is not among them
-pub record Smallest (first : ℕ) (l : List ℕ) (i : ℕ) : Type 0 where
-  pub from : first ≤ i
-  pub near : i ≤ first + length l
-  pub unused : ¬ List·Memᴰ i l
-  pub smallest : (j : ℕ) → first ≤ j → j < i → List·Memᴰ j l
-
-pub unused-smallest : (first : ℕ) (l : List ℕ) → Smallest first l (unusedId first l)
-unfolding unusedId
-unused-smallest first l = record { from = s .from; near = s .within; unused = free; smallest = s .passed }
-  where
-    r : ℕ
-    r = unusedFrom (length l) first l
-
-    s : Sought (length l) first l r
-    s = sought (length l) first l
-
-    each : List·Memᴰ r l → (j : ℕ) → List·Memᴰ j (upwards (suc (length l)) first) → r ≡ first + length l → List·Memᴰ j l
-    each m j k e = go (decLt j r) (upwards-mem (suc (length l)) first k)
-      where
-        go : Dec (j < r) → (first ≤ j) × (j < first + suc (length l)) → List·Memᴰ j l
-        go (yes h) u = s .passed j (u .0) h
-        go (no h) u = let q : j ≡ r = omega (arith, u .1) in Memᴰ·cast q m
-
-    free : ¬ List·Memᴰ r l
-    free m = go (decLt r (first + length l))
-      where
-        go : Dec (r < first + length l) → ⊥
-        go (yes h) = s .stopped h m
-        go (no h) =
-            let e : r ≡ first + length l = omega (arith, s .within) in
-            let p = pigeons (upwards (suc (length l)) first) l (upwards-nodup (suc (length l)) first) (λ j k. each m j k e) in
-            omega (arith, upwards-length (suc (length l)) first)
 
 -- ---- what records name
 
@@ -220,16 +117,6 @@ records-count image [] h = omega arith
 records-count image (d ∷ fs) h =
     let i = records-count image fs (λ e m. h e (List·Memᴰ·tail m)) in
     omega (arith, length-append (bytesOf (recordsOf image d)) (recordsIn image fs), area-count image d, h d (List·Memᴰ·head refl))
-
-inodes-name : (rs : List Bytes) → length (namedByInodes rs) ≡ 2 * length rs
-unfolding namedByInodes
-inodes-name [] = refl
-inodes-name (r ∷ rs) = omega (arith, inodes-name rs)
-
-blocks-name : (rs : List Bytes) → length (namedByBlocks rs) ≡ 3 * length rs
-unfolding namedByBlocks
-blocks-name [] = refl
-blocks-name (r ∷ rs) = omega (arith, blocks-name rs)
 
 -- eight areas of 65,536 bytes hold no more records than they have bytes, and none names more than three ids
 abbrev pub mostNamed : ℕ

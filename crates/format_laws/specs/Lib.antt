@@ -7,3 +7,4 @@ pub mod Taken
 pub mod Clean
 pub mod Encoding
 pub mod Tests
+pub mod BlockSize

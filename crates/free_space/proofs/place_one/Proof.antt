@@ -1,0 +1,47 @@
+-- `free_space::place_one` meets its contract.
+use native.Mathlib.Omega.{arith}
+use borrow.Author.Needs.{needs}
+use lib.ListN.{length-take}
+use Rattle.free_space.specs.Areas.{place-found}
+use Rattle.free_space.proofs.place_one.Statement.{statement}
+use Rattle.free_space.proofs.place_one.Tie as tie
+
+slice-aggregate-take-place : tie.Need-slice-aggregate-take-place
+slice-aggregate-take-place c =
+    let f = c .before .before .before in
+    omega (arith, length-take (f .find-spaces .result) (f .find-spaces .last .1 .1 .1 .0), f .find-spaces .ensures .1 .0)
+
+slice-aggregate-take-place-2 : tie.Need-slice-aggregate-take-place-2
+slice-aggregate-take-place-2 c =
+    let f = c .before .before .before .before in
+    omega (arith, length-take (f .find-spaces .result) (f .find-spaces .last .1 .1 .1 .1 .0), f .find-spaces .ensures .1 .1)
+
+take-place-requires : tie.Need-take-place-requires
+take-place-requires c κs =
+    let f = c .before .before .before .before in
+    let s = f .before .before .before .before .before .before in
+    let n = f .find-spaces .result in
+    let e = f .find-spaces .ensures .1 in
+    (omega (arith, length-take n (f .find-spaces .last .1 .1 .1 .0), length-take n (f .find-spaces .last .1 .1 .1 .1 .0), e .0, e .1), s .pre .1 .1)
+
+returns : tie.Need-returns
+returns c =
+    let t = c .before in
+    let f = t .before .before .before .before .before in
+    let s = f .before .before .before .before .before .before in
+    place-found (s .args .image .now) (s .args .offsets .now) (s .args .lengths .now) (s .args .n) _ _ (t .take-place .result) _ (s .pre .0)
+    (f .find-spaces .ensures .0) (t .take-place .ensures)
+
+pub place-one-spec : {M : Type 1} → statement M
+place-one-spec =
+    tie.close
+    (tie.spec
+    (λ c. search needs)
+    (λ c. search needs)
+    (λ c κs. search needs)
+    (λ c. search needs)
+    slice-aggregate-take-place
+    (λ c. search needs)
+    slice-aggregate-take-place-2
+    take-place-requires
+    returns)

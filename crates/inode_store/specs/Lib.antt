@@ -1,0 +1,3 @@
+-- One inode stored, and what the mounted inodes tell.
+pub mod Stored
+pub mod Mounted

@@ -1,0 +1,2 @@
+-- Unlink by the tables of a mounted volume.
+pub mod Unlinking
