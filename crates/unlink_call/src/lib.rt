@@ -1,0 +1,94 @@
+// Unlink. It works on the bytes alone, as if the image were mounted anew.
+ghost use mathlib.Core.Path.{_≡_};
+ghost use Rattle.calls.specs.Areas.{areaList};
+ghost use Rattle.calls.specs.Unlink.{unlinkOf, imageUnlinked};
+ghost use Rattle.gather.specs.Gather.{tables};
+ghost use Rattle.mount.specs.Mount.{Slices};
+use descriptors::MOST_AREAS;
+use mount::BLOCK_WORDS;
+use mount::INODE_WORDS;
+use mount::MOST_BLOCKS;
+use mount::MOST_INODES;
+use mount::MOST_RECORDS;
+use mount::mount;
+use unlinking::unlink_mounted;
+
+// Unlinks, with slices lent for the mount.
+fn unlink_with<'a>(
+    image: &mut [u8],
+    areas: &[u32],
+    base: &'a [u8],
+    path: &'a [u8],
+    starts: &mut [u32],
+    spans: &mut [u32],
+    places: &mut [u32],
+    iwords: &mut [u64],
+    iids: &mut [u32],
+    ispots: &mut [u32],
+    bwords: &mut [u64],
+    bids: &mut [u32],
+    bspots: &mut [u32],
+) -> u32
+    requires { ⌜ Slices (now image) (now starts) (now spans) (now places) (tables (now iwords) (now iids) (now ispots) (now bwords) (now bids) (now bspots)) ⌝ }
+    ensures number { λ r. ⌜ r ≡ unlinkOf (now (image .entry)) (areaList (now (areas .entry))) (now (base .entry)) (now (path .entry)) ⌝ }
+    ensures stored { λ r. ⌜ now (image .exit) ≡ imageUnlinked (now (image .entry)) (areaList (now (areas .entry))) (now (base .entry)) (now (path .entry)) ⌝ }
+{
+    let mounted = mount(
+        &*image,
+        areas,
+        &mut *starts,
+        &mut *spans,
+        &mut *places,
+        &mut *iwords,
+        &mut *iids,
+        &mut *ispots,
+        &mut *bwords,
+        &mut *bids,
+        &mut *bspots,
+    );
+    let files = mounted.files;
+    if mounted.number != 0 {
+        return mounted.number;
+    }
+    unlink_mounted(
+        &mut *image,
+        &starts[..files],
+        &spans[..files],
+        &*iwords,
+        &*iids,
+        &*ispots,
+        base,
+        path,
+    )
+}
+
+// Unlinks what a path leads to: the number of refusal, and what lies below a directory goes with it.
+pub fn unlink<'a>(image: &mut [u8], areas: &[u32], base: &'a [u8], path: &'a [u8]) -> u32
+    ensures number { λ r. ⌜ r ≡ unlinkOf (now (image .entry)) (areaList (now (areas .entry))) (now (base .entry)) (now (path .entry)) ⌝ }
+    ensures stored { λ r. ⌜ now (image .exit) ≡ imageUnlinked (now (image .entry)) (areaList (now (areas .entry))) (now (base .entry)) (now (path .entry)) ⌝ }
+{
+    let mut starts = [0u32; MOST_AREAS];
+    let mut spans = [0u32; MOST_AREAS];
+    let mut places = [0u32; MOST_RECORDS];
+    let mut iwords = [0u64; INODE_WORDS];
+    let mut iids = [0u32; MOST_INODES];
+    let mut ispots = [0u32; MOST_INODES];
+    let mut bwords = [0u64; BLOCK_WORDS];
+    let mut bids = [0u32; MOST_BLOCKS];
+    let mut bspots = [0u32; MOST_BLOCKS];
+    unlink_with(
+        &mut *image,
+        areas,
+        base,
+        path,
+        &mut starts[..],
+        &mut spans[..],
+        &mut places[..],
+        &mut iwords[..],
+        &mut iids[..],
+        &mut ispots[..],
+        &mut bwords[..],
+        &mut bids[..],
+        &mut bspots[..],
+    )
+}
