@@ -1,5 +1,5 @@
 -- Ids marked in a window, and the smallest that is not.
-use Prim.Native.Nat.{ℕ, zero, suc, _+_, _-_, _*_, _≤_, _<_}
+use Prim.Native.Nat.{ℕ, suc, _+_, _-_, _*_, _≤_, _<_}
 use mathlib.Core.Path.{_≡_, refl, sym, subst⁻¹, _∙_}
 use mathlib.Core.Logic.{_≢_}
 use mathlib.Core.Bool.{Bool, true, false, cond, not, _&&_, _||_}
@@ -13,15 +13,12 @@ use borrow.Author.Tests.{eq-eqb, ne-eqb}
 use Rattle.format.specs.Bytes.{Bytes}
 use Rattle.format.specs.Record.{recordId, recordLink, blockPrevious}
 use Rattle.volume.specs.Lists.{keep, all}
-use Rattle.volume.specs.View.{View, byBytes}
 use Rattle.volume.specs.Counting.{volumeOf}
 use Rattle.volume_laws.specs.Tests.{true→T, T→true, not-T→false}
-use Rattle.volume_laws.specs.Map.{overVolume}
 use Rattle.calls.specs.Storing.{namedByInodes, namedByBlocks, namedIds, isAmong, unusedId}
 use Rattle.calls_laws.specs.Unused.{among, not-among, Smallest, unused-smallest, inodes-name, blocks-name}
 use Rattle.place_view.specs.Place.{blockAt, bytesAt, byPlace}
 use Rattle.place_view.specs.Laws.{place-views}
-use Rattle.occupancy.specs.Position.{First}
 use Rattle.occupancy.specs.Occupancy.{places, capacity, firstZero}
 use Rattle.occupancy.specs.Laws.{position-only, length-places, fresh-places}
 use Rattle.unused_ids.specs.Window.{Marks, namedAt, withNames, namesOf}

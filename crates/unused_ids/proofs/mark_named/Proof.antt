@@ -1,7 +1,5 @@
 -- `unused_ids::mark_named` meets its contract: the names of the records from `left` on are marked.
-use mathlib.Core.Path.{_∙_}
 use native.Mathlib.Omega.{arith}
-use borrow.Author.Needs.{needs}
 use Rattle.unused_ids.specs.Laws.{Marking, marking-begins, marking-on, marking-ends}
 use Rattle.unused_ids.proofs.mark_named.Statement.{statement}
 use Rattle.unused_ids.proofs.mark_named.Tie as tie

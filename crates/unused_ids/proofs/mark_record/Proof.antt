@@ -1,11 +1,10 @@
 -- `unused_ids::mark_record` meets its contract.
 use Prim.Native.Nat.{_+_, _≤_}
-use mathlib.Core.Path.{sym, ap, subst, _∙_}
+use mathlib.Core.Path.{sym, _∙_}
 use native.Mathlib.Omega.{arith}
 use borrow.Author.Needs.{needs}
 use lib.ListN.{length}
 use Rattle.place_view.specs.Laws.{size-least}
-use Rattle.unused_ids.specs.Window.{Marks}
 use Rattle.unused_ids.proofs.mark_record.Statement.{statement}
 use Rattle.unused_ids.proofs.mark_record.Tie as tie
 

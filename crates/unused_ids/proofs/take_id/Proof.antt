@@ -1,9 +1,7 @@
 -- `unused_ids::take_id` meets its contract.
 use mathlib.Core.Path.{_≡_, sym, _∙_}
 use Prim.Native.Nat.{_+_}
-use native.Mathlib.Omega.{arith}
 use borrow.Author.Needs.{needs}
-use lib.ListN.{set}
 use Rattle.calls.specs.Storing.{unusedId}
 use Rattle.occupancy.specs.Occupancy.{places, firstZero}
 use Rattle.unused_ids.specs.Laws.{unused-is, unused-taken}

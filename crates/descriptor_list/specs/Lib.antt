@@ -1,0 +1,3 @@
+-- A list of descriptors as numbers.
+pub mod Entries
+pub mod Numbers

@@ -1,0 +1,182 @@
+// The pieces that an append cuts its data into: how long they are, which ids and places they get, and their stores.
+// Ids and places are all found before the first store, so that all pieces are written or none.
+ghost use mathlib.Core.Path.{_≡_};
+ghost use Prim.Native.Nat.{min, _+_, _-_, _/_, _≤_, _<_};
+ghost use lib.ListN.{length};
+ghost use Rattle.format.specs.Record.{block};
+ghost use Rattle.format.specs.BlockSize.{greatestBlock};
+ghost use Rattle.format.specs.Encoding.{blockBytes};
+ghost use Rattle.calls.specs.Areas.{mostAreas};
+ghost use Rattle.calls.specs.Image.{put};
+ghost use Rattle.calls.specs.Storing.{spaces, storeAll};
+ghost use Rattle.descriptors.specs.Described.{described};
+ghost use Rattle.listing.specs.Listing.{Fit};
+ghost use Rattle.place_view.specs.Place.{AllLie};
+ghost use Rattle.unused_ids.specs.Window.{namedAt};
+ghost use Rattle.free_space.specs.Spaces.{spacesOf};
+ghost use Rattle.pieces.specs.Cut.{pieces, shortestOf};
+ghost use Rattle.pieces.specs.Plan.{idsFor, placesFor, storesOf};
+ghost use Rattle.pieces.specs.Laws.{plannedOf, Ready};
+use descriptors::MOST_AREAS;
+use encode::write_block;
+use free_space::Place;
+use free_space::find_spaces;
+use free_space::take_place;
+use records::BlockHeader;
+use records::LONGEST_DATA;
+use unused_ids::ID_WORDS;
+use unused_ids::mark_named;
+use unused_ids::take_id;
+
+// The first id of a block.
+const FIRST_BLOCK_ID: u32 = 0x80000000;
+
+// The length of the shortest area.
+pub fn shortest(lengths: &[u32]) -> u32
+    requires { ⌜ 0 < length (now lengths) ⌝ }
+    ensures { λ r. ⌜ r ≡ shortestOf (now (lengths .entry)) ⌝ }
+{
+    let mut least = lengths[0];
+    let mut i = 1;
+    while i < lengths.len() {
+        let length = lengths[i];
+        if length < least {
+            least = length;
+            i += 1;
+        } else {
+            i += 1;
+        }
+    }
+    least
+}
+
+// The smaller of two numbers.
+fn smaller(a: usize, b: usize) -> usize
+    ensures { λ r. ⌜ r ≡ min a b ⌝ }
+{
+    if a < b {
+        return a;
+    }
+    b
+}
+
+// The greatest block size of writers, by the shortest file area's length: the one function that knows this rule.
+pub fn greatest_block(shortest: u32) -> usize
+    requires { ⌜ 128 ≤ shortest ⌝ }
+    ensures { λ r. ⌜ r ≡ greatestBlock shortest ⌝ }
+{
+    smaller(
+        LONGEST_DATA as usize,
+        (shortest / 2) as usize - BlockHeader::SIZE,
+    )
+}
+
+// How many pieces of `size` bytes data of a length is cut into.
+pub fn piece_count(length: usize, size: usize) -> usize
+    requires { ⌜ (1 ≤ size) × (size ≤ 65536) × (length ≤ 65536) ⌝ }
+    ensures { λ r. ⌜ r ≡ (length + (size - 1)) / size ⌝ }
+{
+    (length + (size - 1)) / size
+}
+
+// Takes a place for each piece; answers whether there is room for all.
+fn take_places(
+    froms: &mut [u32],
+    ends: &[u32],
+    text: &[u8],
+    size: usize,
+    places: &mut [u32],
+) -> bool
+    requires { ⌜ (length (now froms) ≡ length (now ends)) × (1 ≤ size) × (size ≤ 2048) ⌝ }
+    requires { ⌜ length (now places) ≡ length (pieces size (now text)) ⌝ }
+    ensures { λ r. ⌜ placesFor (spacesOf (now (froms .entry)) (now (ends .entry))) (pieces size (now (text .entry))) ≡ plannedOf r (now (places .exit)) ⌝ }
+{
+    let mut start = 0;
+    let mut i = 0;
+    while start < text.len() {
+        let n = smaller(size, text.len() - start);
+        let Place::At(at) = take_place(&mut *froms, ends, BlockHeader::SIZE + n) else {
+            return false;
+        };
+        places[i] = at;
+        i += 1;
+        start += n;
+    }
+    true
+}
+
+// Finds a place in the areas for each piece; answers whether there is room for all.
+pub fn plan_places(
+    image: &[u8],
+    offsets: &[u32],
+    lengths: &[u32],
+    text: &[u8],
+    size: usize,
+    places: &mut [u32],
+) -> bool
+    requires { ⌜ Fit (now image) (now offsets) (now lengths) ⌝ }
+    requires { ⌜ (length (now offsets) ≤ mostAreas) × (1 ≤ size) × (size ≤ 2048) ⌝ }
+    requires { ⌜ length (now places) ≡ length (pieces size (now text)) ⌝ }
+    ensures { λ r. ⌜ placesFor (spaces (now (image .entry)) (described (now (offsets .entry)) (now (lengths .entry)))) (pieces size (now (text .entry))) ≡ plannedOf r (now (places .exit)) ⌝ }
+{
+    let mut froms = [0u32; MOST_AREAS];
+    let mut ends = [0u32; MOST_AREAS];
+    let n = find_spaces(image, offsets, lengths, &mut froms[..], &mut ends[..]);
+    take_places(&mut froms[..n], &ends[..n], text, size, &mut *places)
+}
+
+// The smallest block ids that no record names, in order, none of them twice.
+pub fn plan_ids(image: &[u8], records: &[u32], ids: &mut [u32])
+    requires { ⌜ AllLie (now image) (now records) (length (now records)) ⌝ }
+    requires { ⌜ (length (now records) ≤ 3276) × (length (now ids) ≤ 256) ⌝ }
+    ensures { λ _. ⌜ now (ids .exit) ≡ idsFor (namedAt (now (image .entry)) (now (records .entry))) (length (now (ids .entry))) ⌝ }
+{
+    let mut words = [0u64; ID_WORDS];
+    mark_named(image, records, &mut words[..], FIRST_BLOCK_ID);
+    let mut i = 0;
+    while i < ids.len() {
+        ids[i] = take_id(&mut words[..], FIRST_BLOCK_ID);
+        i += 1;
+    }
+}
+
+// Stores one piece as a block of the file.
+fn store_piece(image: &mut [u8], at: u32, id: u32, file: u32, previous: u32, piece: &[u8])
+    requires { ⌜ (at + (block .headerSize + length (now piece)) ≤ length (now image)) × (length (now piece) ≤ 2048) ⌝ }
+    ensures { λ _. ⌜ now (image .exit) ≡ put (now (image .entry)) at (blockBytes id 0 file previous (now (piece .entry))) ⌝ }
+{
+    let header = BlockHeader {
+        id,
+        sequence: 0,
+        owner: file,
+        previous,
+        length: piece.len() as u32,
+    };
+    write_block(&mut *image, at as usize, header, piece);
+}
+
+// Stores the pieces, each naming the one before; the first names the file's last block.
+pub fn store_pieces(
+    image: &mut [u8],
+    ids: &[u32],
+    places: &[u32],
+    text: &[u8],
+    size: usize,
+    file: u32,
+    last: u32,
+)
+    requires { ⌜ Ready size (now text) (now ids) (now places) (now image) ⌝ }
+    ensures { λ _. ⌜ now (image .exit) ≡ storeAll (now (image .entry)) (storesOf (now (ids .entry)) file last (pieces size (now (text .entry))) (now (places .entry))) ⌝ }
+{
+    let mut previous = last;
+    let mut from = 0;
+    let mut i = 0;
+    while from < text.len() {
+        let end = from + smaller(size, text.len() - from);
+        let id = ids[i];
+        store_piece(&mut *image, places[i], id, file, previous, &text[from..end]);
+        previous = id;
+        from = end;
+        i += 1;
+    }
+}
