@@ -1,22 +1,19 @@
--- Copies written back to back: they fit where their source fitted, and read as the copies in a clean area.
-use Prim.Native.Nat.{ℕ, _+_, _≤_, _<_}
+-- Copies written back to back read as the copies in a clean area.
+use Prim.Native.Nat.{ℕ, _+_, _<_}
 use mathlib.Core.Path.{_≡_, refl, sym, ap, _∙_}
-use mathlib.Core.Bool.{Bool, true, false, cond, not, _&&_}
+use mathlib.Core.Bool.{true}
 use mathlib.Core.List.{List, [], _∷_, _++_, append-assoc, List·Memᴰ, List·Memᴰ·head, List·Memᴰ·tail, Memᴰ·of-map}
 use native.Mathlib.Omega.{arith}
-use lib.ListN.{length, take, drop, replicate, length-append}
+use lib.ListN.{length, take, drop, replicate}
 use lib.Seq.{drop-drop, take-take, take-append-seam, drop-append-seam, length-take-le}
 use Rattle.format.specs.Bytes.{Bytes}
 use Rattle.format.specs.AreaHeader.{areaHeaderSize}
-use Rattle.format.specs.Record.{recordSize}
-use Rattle.format.specs.Reading.{Acceptor, ERASED, Part, taken, stretch, Placed, parts, placed, areaParts, areaRecords, areaClean}
-use Rattle.format_laws.specs.Reading.{Lawful, joined, parts-joined, records-lawful}
+use Rattle.format.specs.Reading.{Acceptor, ERASED, taken, Placed, areaRecords, areaClean}
+use Rattle.format_laws.specs.Reading.{Lawful}
 use Rattle.format_laws.specs.Taken.{recordsFrom, records-from, from-take, from-each}
 use Rattle.format_laws.specs.Clean.{Clean, free, next, erased-records, clean-area}
-use Rattle.volume.specs.Lists.{keep, same}
-use Rattle.volume.specs.Counting.{Volume}
 use Rattle.calls.specs.Mount.{bytesOf}
-use Rattle.calls.specs.Collect.{counts, drops, firstPlaces, copies, joinedBytes}
+use Rattle.calls.specs.Collect.{copies, joinedBytes}
 use Rattle.demand2.specs.Area.{Whole, followed}
 
 module _ (size : Acceptor) (ok : Lawful size) where
@@ -44,24 +41,6 @@ module _ (size : Acceptor) (ok : Lawful size) where
       let r = reads-from cs h area areaHeaderSize n e in
       (ap bytesOf (records-from size area) ∙ r .0, clean-area size ok area (r .1))
 
-  -- what is taken is no longer than what it is taken from
-  placed-room : (p : ℕ) (l : List Part) → length (joinedBytes (bytesOf (placed p l))) ≤ length (joined l)
-  unfolding placed joined joinedBytes
-  placed-room p [] = omega arith
-  placed-room p (taken r ∷ l) =
-      let h = placed-room (p + length r) l in
-      omega (arith, length-append r (joinedBytes (bytesOf (placed (p + length r) l))), length-append r (joined l))
-  placed-room p (stretch s ∷ l) = let h = placed-room (p + length s) l in omega (arith, length-append s (joined l))
-
-  taken-room : (area : Bytes) → length (joinedBytes (bytesOf (areaRecords size area))) ≤ length (drop areaHeaderSize area)
-  unfolding areaRecords areaParts
-  taken-room area =
-      omega (
-        arith,
-        placed-room areaHeaderSize (parts size (drop areaHeaderSize area) 0),
-        ap length (parts-joined size (ok .inside) (drop areaHeaderSize area) 0 (omega arith)),
-      )
-
   -- a record that is taken is whole
   pub taken-whole : (area b : Bytes) → List·Memᴰ b (bytesOf (areaRecords size area)) → Whole size b
   taken-whole area b m =
@@ -80,35 +59,3 @@ module _ (size : Acceptor) (ok : Lawful size) where
       at p k =
           let t = from-each size ok area areaHeaderSize p (rw (records-from size area) at k) in
           rw (t .is) (front-whole (drop (p .place) area) (t .accepted))
-
--- ---- a part of some records is no longer than they are
-
-keep-room : (f : Bytes → Bool) (cs : List Bytes) → length (joinedBytes (keep f cs)) ≤ length (joinedBytes cs)
-unfolding keep joinedBytes
-keep-room f [] = omega arith
-keep-room f (c ∷ cs) = go (f c) (keep-room f cs)
-  where
-    go : (b : Bool) → length (joinedBytes (keep f cs)) ≤ length (joinedBytes cs)
-        → length (joinedBytes (cond b (c ∷ keep f cs) (keep f cs))) ≤ length (c ++ joinedBytes cs)
-    go true h = omega (arith, length-append c (joinedBytes (keep f cs)), length-append c (joinedBytes cs))
-    go false h = omega (arith, length-append c (joinedBytes cs))
-
-first-room : (cs : List Bytes) → length (joinedBytes (firstPlaces cs)) ≤ length (joinedBytes cs)
-unfolding firstPlaces joinedBytes
-first-room [] = omega arith
-first-room (c ∷ cs) =
-    let h = first-room cs in
-    let k = keep-room (λ d. not (same c d)) (firstPlaces cs) in
-    omega (arith, length-append c (joinedBytes (keep (λ d. not (same c d)) (firstPlaces cs))), length-append c (joinedBytes cs))
-
-pub copies-fit : (v : Volume Bytes) (area : Bytes) (elsewhere : List Bytes)
-    → length (joinedBytes (copies v (bytesOf (areaRecords recordSize area)) elsewhere)) ≤ length (drop areaHeaderSize area)
-unfolding copies
-copies-fit v area elsewhere =
-    let rs = bytesOf (areaRecords recordSize area) in
-    omega (
-      arith,
-      taken-room recordSize records-lawful area,
-      first-room rs,
-      keep-room (λ b. counts v b && not (drops v rs elsewhere b)) (firstPlaces rs),
-    )

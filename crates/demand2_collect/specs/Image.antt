@@ -30,13 +30,14 @@ use Rattle.calls.specs.Collect.{collectOf}
 use Rattle.calls.specs.declared.Descriptor.{Descriptor}
 use Rattle.calls_laws.specs.Checks.{Passes, passes, InArea, area-fits, areas-apart}
 use Rattle.calls_laws.specs.Records.{Stored, stored, stored-mem}
+use Rattle.collect_laws.specs.Room.{copies-fit}
 use Rattle.flash.specs.Apart.{Apart}
 use Rattle.flash.specs.Laws.{length-put, part-put, part-outside, byte-outside}
 use Rattle.demand2.specs.Store.{same-area, area-length}
 use Rattle.demand2.specs.Places.{area-lengths}
 use Rattle.demand2.specs.Format.{empty-length, empty-scratch}
 use Rattle.demand2_collect.specs.Copies.{copy-from, Moved}
-use Rattle.demand2_collect.specs.Filled.{reads-back, taken-whole, copies-fit}
+use Rattle.demand2_collect.specs.Filled.{reads-back, taken-whole}
 
 -- ---- the source area
 

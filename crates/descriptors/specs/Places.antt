@@ -36,7 +36,7 @@ disjoint-clear d e t =
     (or-cases (leb (areaEnd d) (e .offset)) (leb (areaEnd e) (d .offset)) (T→true t))
 
 -- the first and the later ones of areas that do not overlap
-split-first : (d : Descriptor) (l : List Descriptor) → T (allDisjoint (d ∷ l)) → ((e : Descriptor) → List·Memᴰ e l → Clear d e) × T (allDisjoint l)
+pub split-first : (d : Descriptor) (l : List Descriptor) → T (allDisjoint (d ∷ l)) → ((e : Descriptor) → List·Memᴰ e l → Clear d e) × T (allDisjoint l)
 unfolding allDisjoint
 split-first d l t =
     let p = and-T (all (disjoint d) l) (allDisjoint l) t in

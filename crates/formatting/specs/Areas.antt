@@ -34,7 +34,7 @@ lent-kept e l = record { small = rw e (l .small); few = l .few; good = rw e (l .
 
 -- ---- one area
 
-drop-erased : (k n : ℕ) → drop k (erased n) ≡ erased (n - k)
+pub drop-erased : (k n : ℕ) → drop k (erased n) ≡ erased (n - k)
 drop-erased zero n = rw (sub-zero n)
 drop-erased (suc k) zero = rw (zero-sub (suc k))
 drop-erased (suc k) (suc n) = rw (suc-sub-suc n k) (drop-erased k n)
@@ -44,14 +44,14 @@ unfolding put
 over-erased b n = rw (zero-add (length b), drop-erased (length b) n)
 
 -- a header written over erased bytes
-pub headed : (x : Bytes) (o n id : ℕ) → o + n ≤ length x → areaHeaderSize ≤ n
-    → put (put x o (erased n)) o (areaHeader n 0 id) ≡ put x o (emptyArea n 0 id)
+pub headed : (x : Bytes) (o n count id : ℕ) → o + n ≤ length x → areaHeaderSize ≤ n
+    → put (put x o (erased n)) o (areaHeader n count id) ≡ put x o (emptyArea n count id)
 unfolding emptyArea
-headed x o n id h g =
-    let k = header-size n 0 id in
+headed x o n count id h g =
+    let k = header-size n count id in
     let e = length-replicate n ERASED in
-    rw (add-zero) at (put-within x o (erased n) 0 (areaHeader n 0 id) (omega arith) (omega arith))
-    ∙ ap (put x o) (over-erased (areaHeader n 0 id) n ∙ rw k)
+    rw (add-zero) at (put-within x o (erased n) 0 (areaHeader n count id) (omega arith) (omega arith))
+    ∙ ap (put x o) (over-erased (areaHeader n count id) n ∙ rw k)
 
 -- ---- the longest
 

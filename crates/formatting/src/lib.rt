@@ -24,13 +24,13 @@ const BAD_DESCRIPTION: u32 = 1;
 const FEW_AREAS: u32 = 3;
 
 // Erases an area and writes its header.
-fn write_area(image: &mut [u8], offset: u32, span: u32, id: u8)
+pub fn write_area(image: &mut [u8], offset: u32, span: u32, count: u8, id: u8)
     requires { ⌜ (offset + span ≤ length (now image)) × (areaHeaderSize ≤ span) × (length (now image) ≤ 65536) ⌝ }
-    ensures { λ _. ⌜ now (image .exit) ≡ put (now (image .entry)) offset (emptyArea span 0 id) ⌝ }
+    ensures { λ _. ⌜ now (image .exit) ≡ put (now (image .entry)) offset (emptyArea span count id) ⌝ }
 {
     let at = offset as usize;
     erase(&mut *image, at, span as usize);
-    write_area_header(&mut *image, at, span, 0, id);
+    write_area_header(&mut *image, at, span, count, id);
 }
 
 // The length of the longest area.
@@ -73,11 +73,11 @@ fn write_areas(image: &mut [u8], offsets: &[u32], lengths: &[u32], most: u32)
         let offset = offsets[i];
         let span = lengths[i];
         if is_scratch(placed, span, most) {
-            write_area(&mut *image, offset, span, SCRATCH_ID);
+            write_area(&mut *image, offset, span, 0, SCRATCH_ID);
             placed = true;
             i += 1;
         } else {
-            write_area(&mut *image, offset, span, next);
+            write_area(&mut *image, offset, span, 0, next);
             next += 1;
             i += 1;
         }

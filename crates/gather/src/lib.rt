@@ -52,7 +52,7 @@ pub fn size_at(image: &[u8], p: usize) -> usize
 }
 
 // Whether the records at `p` and `q` have the same bytes.
-fn same_bytes(image: &[u8], p: u32, q: u32) -> bool
+pub fn same_bytes(image: &[u8], p: u32, q: u32) -> bool
     requires { ⌜ Lies (now image) p ⌝ }
     requires { ⌜ Lies (now image) q ⌝ }
     ensures { λ r. ⌜ r ≡ byPlace (now (image .entry)) .same p q ⌝ }

@@ -57,7 +57,7 @@ places-bytes image (d ∷ fs) =
     ∙ ap₂ (λ (x y : List Bytes). x ++ y) (starts-bytes image d (recordsOf image d) (record-bytes image d)) (places-bytes image fs)
 
 -- what stands at each place listed lies in the image
-starts-each : (base p : ℕ) (l : List Placed) → List·Memᴰ p (starts base l) → (r : Placed) × List·Memᴰ r l × (p ≡ base + r .place)
+pub starts-each : (base p : ℕ) (l : List Placed) → List·Memᴰ p (starts base l) → (r : Placed) × List·Memᴰ r l × (p ≡ base + r .place)
 unfolding starts
 starts-each base p [] m = absurd (List·Memᴰ·not-nil m)
 starts-each base p (r ∷ l) m =

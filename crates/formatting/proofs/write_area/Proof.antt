@@ -10,7 +10,7 @@ returns c =
     let w = c .before .before in
     let e = w .before .before .before .before in
     let s = e .before .before .before in
-    rw (e .erase .ensures) at (w .write-area-header .ensures) ∙ headed _ _ _ _ (s .pre .0) (s .pre .1)
+    rw (e .erase .ensures) at (w .write-area-header .ensures) ∙ headed _ _ _ _ _ (s .pre .0) (s .pre .1)
 
 pub write-area-spec : {M : Type 1} → statement M
 write-area-spec =

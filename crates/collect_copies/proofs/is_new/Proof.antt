@@ -1,0 +1,61 @@
+-- `collect_copies::is_new` meets its contract: no record is of the same bytes if none of those left is.
+use Prim.Native.Nat.{_-_}
+use mathlib.Core.Path.{_≡_, refl, sym, _∙_}
+use lib.ListN.{length, drop}
+use borrow.Author.Needs.{needs}
+use Rattle.collect_copies.specs.Copied.{noneSame}
+use Rattle.collect_copies.specs.Loops.{same-fails, same-on, same-ends}
+use Rattle.collect_copies.proofs.is_new.Statement.{statement}
+use Rattle.collect_copies.proofs.is_new.Tie as tie
+
+abbrev Inv-loop : tie.InvT-loop
+Inv-loop image listed p i₀ i = noneSame image (drop i listed) p ≡ noneSame image listed p
+
+abbrev μ-loop : tie.MeasureT-loop
+μ-loop image listed p i₀ i = length listed - i
+
+-- the arguments, from the head of the loop
+abbrev start : tie.At-loop Inv-loop μ-loop → tie.Start Inv-loop μ-loop
+start l = l .before .before .before
+
+loop-holds : tie.Need-loop-holds Inv-loop μ-loop
+loop-holds c = refl
+
+same-bytes-requires : tie.Need-same-bytes-requires Inv-loop μ-loop
+same-bytes-requires c κs =
+    let t = c .before in
+    let s = start (t .before) in
+    (s .pre .0 (t .before .loop .i) (t .loop-test .taken), s .pre .1)
+
+returns : tie.Need-returns Inv-loop μ-loop
+returns c =
+    let k = c .before in
+    let t = k .before .before in
+    let l = t .before in
+    sym (same-fails _ _ _ _ (t .loop-test .taken) (sym (k .same-bytes .ensures) ∙ c .if1 .taken)) ∙ l .loop .inv
+
+loop-again : tie.Need-loop-again Inv-loop μ-loop
+loop-again c =
+    let k = c .before in
+    let t = k .before .before in
+    let l = t .before in
+    sym (same-on _ _ _ _ (t .loop-test .taken) (sym (k .same-bytes .ensures) ∙ c .if1 .left)) ∙ l .loop .inv
+
+returns-2 : tie.Need-returns-2 Inv-loop μ-loop
+returns-2 c = let l = c .before in sym (same-ends _ _ _ _ (c .loop-test .left)) ∙ l .loop .inv
+
+pub is-new-spec : {M : Type 1} → statement M
+is-new-spec =
+    tie.close
+    (tie.spec
+    Inv-loop
+    μ-loop
+    loop-holds
+    (λ c. search needs)
+    (λ c. search needs)
+    same-bytes-requires
+    returns
+    (λ c. search needs)
+    (λ c. search needs)
+    loop-again
+    returns-2)

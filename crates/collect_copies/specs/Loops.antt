@@ -1,0 +1,129 @@
+-- The loops of the choice: one more place, or the end.
+use Prim.Native.Nat.{ℕ, zero, suc, _+_, _≤_, _<_}
+use mathlib.Core.Path.{_≡_, refl, sym, ap, subst, _∙_}
+use mathlib.Core.Bool.{Bool, true, false, cond}
+use mathlib.Core.List.{List, [], _∷_, _++_, append-nil, List·Memᴰ, List·Memᴰ·head, List·Memᴰ·tail, List·Memᴰ·not-nil}
+use native.Mathlib.Omega.{arith}
+use native.Mathlib.Numerals.{add-one}
+use lib.ListN.{length, take, drop, getD, set, length-set, length-append, drop-of-length-le}
+use lib.Seq.{drop-cons, take-all, take-suc, take-suc-set, length-take-le}
+use Rattle.format.specs.Bytes.{Bytes}
+use Rattle.volume.specs.Lists.{keep, all}
+use Rattle.volume_laws.specs.Lists.{keep-append, keep-mem}
+use Rattle.place_view.specs.Place.{byPlace, Lies, AllLie}
+use Rattle.table.specs.Laws.{getD-mem}
+use Rattle.gather.specs.Gather.{Tables}
+use Rattle.collect_copies.specs.Copied.{inside, holds, unheld, copied, firstAt, copiedPlaces, noneSame, Lent}
+use Rattle.collect_copies.specs.First.{first-snoc, first-mem, few-copied}
+
+-- ---- the records that hold one, from i on
+
+module _ (image : Bytes) (o n : ℕ) (ps : List ℕ) (id : ℕ) (block : Bool) (i : ℕ) where
+  abbrev here : Bool
+  here = holds image id block (inside o n (getD ps i 0)) (getD ps i 0)
+
+  pub unheld-fails : i < length ps → here ≡ true → unheld image o n (drop i ps) id block ≡ false
+  unfolding unheld all
+  unheld-fails h e = rw (drop-cons ps i 0 h, e)
+
+  pub unheld-on : i < length ps → here ≡ false → unheld image o n (drop i ps) id block ≡ unheld image o n (drop (i + 1) ps) id block
+  unfolding unheld all
+  unheld-on h e = rw (drop-cons ps i 0 h, e, add-one)
+
+  pub unheld-ends : length ps ≤ i → unheld image o n (drop i ps) id block ≡ true
+  unfolding unheld all
+  unheld-ends h = rw (drop-of-length-le ps h)
+
+-- ---- the records of the same bytes, from i on
+
+module _ (image : Bytes) (l : List ℕ) (p i : ℕ) where
+  pub same-fails : i < length l → byPlace image .same (getD l i 0) p ≡ true → noneSame image (drop i l) p ≡ false
+  unfolding noneSame all
+  same-fails h e = rw (drop-cons l i 0 h, e)
+
+  pub same-on : i < length l → byPlace image .same (getD l i 0) p ≡ false → noneSame image (drop i l) p ≡ noneSame image (drop (i + 1) l) p
+  unfolding noneSame all
+  same-on h e = rw (drop-cons l i 0 h, e, add-one)
+
+  pub same-ends : length l ≤ i → noneSame image (drop i l) p ≡ true
+  unfolding noneSame all
+  same-ends h = rw (drop-of-length-le l h)
+
+-- ---- the copies listed
+
+-- the records at the places of a list lie in the image
+lies-mem : (image : Bytes) (ps : List ℕ) → AllLie image ps (length ps) → {p : ℕ} → List·Memᴰ p ps → Lies image p
+lies-mem image (q ∷ ps) h (List·Memᴰ·head e) = rw e (h 0 (omega arith))
+lies-mem image (q ∷ ps) h (List·Memᴰ·tail m) = lies-mem image ps (λ i l. h (suc i) (omega arith)) m
+
+take-mem : (i : ℕ) (ps : List ℕ) {p : ℕ} → List·Memᴰ p (take i ps) → List·Memᴰ p ps
+take-mem zero ps m = absurd (List·Memᴰ·not-nil m)
+take-mem (suc i) [] m = m
+take-mem (suc i) (q ∷ ps) (List·Memᴰ·head e) = List·Memᴰ·head e
+take-mem (suc i) (q ∷ ps) (List·Memᴰ·tail m) = List·Memᴰ·tail (take-mem i ps m)
+
+-- the first k of l are the copies among the first i places
+pub record Choosing (image : Bytes) (o n : ℕ) (ps : List ℕ) (t : Tables) (l₀ l : List ℕ) (k i : ℕ) : Type 0 where
+  pub long : length l ≡ length l₀
+  pub fits : k ≤ length l
+  pub is : take k l ≡ firstAt image (keep (copied image o n ps t) (take i ps))
+
+module _ (image : Bytes) (o n : ℕ) (ps : List ℕ) (t : Tables) (l₀ : List ℕ) where
+  pub choosing-begins : Choosing image o n ps t l₀ l₀ 0 0
+  unfolding firstAt keep
+  choosing-begins = record { long = refl; fits = omega arith; is = refl }
+
+  module _ (l : List ℕ) (k i : ℕ) (c : Choosing image o n ps t l₀ l k i) where
+    abbrev p : ℕ
+    p = getD ps i 0
+
+    pub choosing-lie : AllLie image ps (length ps) → AllLie image (take k l) (length (take k l))
+    choosing-lie h j b =
+        let m : List·Memᴰ (getD (take k l) j 0) (firstAt image (keep (copied image o n ps t) (take i ps)))
+        = subst (λ z. List·Memᴰ (getD (take k l) j 0) z) (c .is) (getD-mem (take k l) j b) in
+        lies-mem image ps h (take-mem i ps (keep-mem (copied image o n ps t) (take i ps) (first-mem image (keep (copied image o n ps t) (take i ps)) m) .0))
+
+    pub choosing-ends : length ps ≤ i → take k l ≡ copiedPlaces image o n ps t
+    unfolding copiedPlaces
+    choosing-ends h = c .is ∙ rw (take-all i ps h)
+
+    module _ (h : i < length ps) where
+      -- the places passed, with one more
+      more : take (i + 1) ps ≡ take i ps ++ (p ∷ [])
+      more = rw add-one (take-suc ps i 0 h)
+
+      pub choosing-passes : copied image o n ps t p ≡ false → Choosing image o n ps t l₀ l k (i + 1)
+      unfolding keep
+      choosing-passes e = record {
+        long = c .long;
+        fits = c .fits;
+        is = c .is ∙ ap (firstAt image) (sym (ap (keep (copied image o n ps t)) more ∙ keep-append (copied image o n ps t) (take i ps) (p ∷ [])
+            ∙ rw (e, append-nil (keep (copied image o n ps t) (take i ps)))));
+      }
+
+      module _ (e : copied image o n ps t p ≡ true) where
+        kept : firstAt image (keep (copied image o n ps t) (take (i + 1) ps)) ≡ take k l ++ cond (noneSame image (take k l) p) (p ∷ []) []
+        unfolding keep
+        kept =
+            ap (firstAt image) (ap (keep (copied image o n ps t)) more ∙ keep-append (copied image o n ps t) (take i ps) (p ∷ []) ∙ rw e)
+            ∙ first-snoc image (keep (copied image o n ps t) (take i ps)) p
+            ∙ rw (sym (c .is))
+
+        pub choosing-again : noneSame image (take k l) p ≡ false → Choosing image o n ps t l₀ l k (i + 1)
+        choosing-again s = record { long = c .long; fits = c .fits; is = sym (kept ∙ rw (s, append-nil (take k l))) }
+
+        module _ (s : noneSame image (take k l) p ≡ true) where
+          with-one : firstAt image (keep (copied image o n ps t) (take (i + 1) ps)) ≡ take k l ++ (p ∷ [])
+          with-one = kept ∙ rw s
+
+          pub choosing-room : Lent image ps t (length l₀) → k < length l
+          choosing-room b =
+              let f = few-copied image o n ps t (b .good) (take (i + 1) ps) in
+              omega (arith, ap length with-one, length-append (take k l) (p ∷ []), length-take-le k l (c .fits), b .room, c .long)
+
+          pub choosing-takes : k < length l → Choosing image o n ps t l₀ (set l k p) (k + 1) (i + 1)
+          choosing-takes r = record {
+            long = length-set l k p ∙ c .long;
+            fits = omega (arith, length-set l k p);
+            is = rw (add-one k) (take-suc-set l k p r ∙ sym with-one);
+          }

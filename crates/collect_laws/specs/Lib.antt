@@ -1,0 +1,2 @@
+-- Laws of a collection.
+pub mod Room

@@ -1,0 +1,2 @@
+-- The source area of a collection.
+pub mod Source

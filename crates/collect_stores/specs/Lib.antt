@@ -1,0 +1,5 @@
+-- The stores of a collection, as laws of images.
+pub mod Records
+pub mod Moving
+pub mod Filled
+pub mod Moved

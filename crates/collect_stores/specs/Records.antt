@@ -1,0 +1,99 @@
+-- Records of an image that stand apart from what is stored: their sizes and bytes stay.
+use Prim.Native.Nat.{ℕ, suc, _+_, _≤_, _<_}
+use mathlib.Core.Path.{_≡_, refl, sym, ap, ap₂, _∙_}
+use mathlib.Core.Bool.{Bool, true, false}
+use mathlib.Core.List.{List, [], _∷_, _++_, map, append-assoc, append-nil}
+use native.Mathlib.Omega.{arith}
+use native.Mathlib.Numerals.{add-one}
+use lib.ListN.{length, take, drop, getD, length-append, length-take, length-drop, take-append-drop}
+use lib.Seq.{take-suc}
+use lib.Dec.{eqb}
+use Rattle.format.specs.Bytes.{Bytes, byteAt, le16, le32}
+use Rattle.format.specs.Record.{block}
+use Rattle.format_laws.specs.Bytes.{same-byte, same-le16, same-le32, drop-byte, drop-le16, drop-le32}
+use Rattle.calls.specs.Image.{part}
+use Rattle.calls.specs.Collect.{joinedBytes}
+use Rattle.place_view.specs.Place.{blockAt, sizeAt, bytesAt, Lies}
+use Rattle.place_view.specs.Laws.{size-block, size-inode, size-least}
+
+-- the records at some places, one behind the other
+unfoldable pub moved : Bytes → List ℕ → Bytes
+moved image ps = joinedBytes (map (bytesAt image) ps)
+
+-- ---- one record
+
+module _ (x y : Bytes) (p : ℕ) (same : part y p (sizeAt x p) ≡ part x p (sizeAt x p)) where
+  abbrev n : ℕ
+  n = sizeAt x p
+
+  word : (i : ℕ) → i + 4 ≤ n → le32 y (p + i) ≡ le32 x (p + i)
+  word i h = sym (drop-le32 p y i) ∙ same-le32 n (drop p y) (drop p x) same i h ∙ drop-le32 p x i
+
+  half : (i : ℕ) → i + 2 ≤ n → le16 y (p + i) ≡ le16 x (p + i)
+  half i h = sym (drop-le16 p y i) ∙ same-le16 n (drop p y) (drop p x) same i h ∙ drop-le16 p x i
+
+  byte : (i : ℕ) → i < n → byteAt y (p + i) ≡ byteAt x (p + i)
+  byte i h = sym (drop-byte p y i) ∙ same-byte n (drop p y) (drop p x) same i h ∙ drop-byte p x i
+
+  kind-stays : blockAt y p ≡ blockAt x p
+  kind-stays = let z : p + 0 ≡ p = omega arith in ap (λ m. eqb m (block .magic)) (rw z at (word 0 (omega (arith, size-least x p))))
+
+  pub size-stays : sizeAt y p ≡ sizeAt x p
+  size-stays = go (blockAt x p) refl
+    where
+      go : (b : Bool) → blockAt x p ≡ b → sizeAt y p ≡ sizeAt x p
+      go true e =
+          let k = size-block x p e in
+          size-block y p (kind-stays ∙ e) ∙ rw (half 20 (omega arith)) (sym k)
+      go false e =
+          let k = size-inode x p e in
+          size-inode y p (kind-stays ∙ e) ∙ rw (byte 17 (omega (arith, size-least x p))) (sym k)
+
+  pub bytes-stay : bytesAt y p ≡ bytesAt x p
+  unfolding bytesAt
+  bytes-stay = rw size-stays same
+
+-- ---- records one behind the other
+
+pub moved-none : (x : Bytes) → moved x [] ≡ []
+unfolding moved joinedBytes
+moved-none x = refl
+
+joined-append : (a b : List Bytes) → joinedBytes (a ++ b) ≡ joinedBytes a ++ joinedBytes b
+unfolding joinedBytes
+joined-append [] b = refl
+joined-append (c ∷ a) b = ap (λ l. c ++ l) (joined-append a b) ∙ sym (append-assoc c (joinedBytes a) (joinedBytes b))
+
+map-append : (f : ℕ → Bytes) (l m : List ℕ) → map f (l ++ m) ≡ map f l ++ map f m
+map-append f [] m = refl
+map-append f (a ∷ l) m = ap (λ x. f a ∷ x) (map-append f l m)
+
+pub moved-append : (x : Bytes) (l m : List ℕ) → moved x (l ++ m) ≡ moved x l ++ moved x m
+unfolding moved
+moved-append x l m = ap joinedBytes (map-append (bytesAt x) l m) ∙ joined-append (map (bytesAt x) l) (map (bytesAt x) m)
+
+-- the first i and one more
+pub moved-more : (x : Bytes) (ps : List ℕ) (i : ℕ) → i < length ps → moved x (take (i + 1) ps) ≡ moved x (take i ps) ++ bytesAt x (getD ps i 0)
+unfolding moved joinedBytes
+moved-more x ps i h =
+    rw (add-one, take-suc ps i 0 h) (moved-append x (take i ps) (getD ps i 0 ∷ []) ∙ rw (append-nil (bytesAt x (getD ps i 0))))
+
+-- the first i are no longer than all
+pub moved-within : (x : Bytes) (ps : List ℕ) (i : ℕ) → length (moved x (take i ps)) ≤ length (moved x ps)
+moved-within x ps i =
+    let e = ap (moved x) (take-append-drop i ps) in
+    let f = ap length (moved-append x (take i ps) (drop i ps)) in
+    omega (arith, ap length e, length-append (moved x (take i ps)) (moved x (drop i ps)))
+
+pub bytes-long : (x : Bytes) (p : ℕ) → Lies x p → length (bytesAt x p) ≡ sizeAt x p
+unfolding bytesAt
+bytes-long x p h = omega (arith, length-take (sizeAt x p) (drop p x), length-drop p x)
+
+-- images that agree on every record
+pub moved-same : (x y : Bytes) (ps : List ℕ) → ((i : ℕ) → i < length ps → bytesAt y (getD ps i 0) ≡ bytesAt x (getD ps i 0)) → moved y ps ≡ moved x ps
+unfolding moved
+moved-same x y ps h = ap joinedBytes (go ps h)
+  where
+    go : (l : List ℕ) → ((i : ℕ) → i < length l → bytesAt y (getD l i 0) ≡ bytesAt x (getD l i 0)) → map (bytesAt y) l ≡ map (bytesAt x) l
+    go [] h = refl
+    go (p ∷ l) h = ap₂ (λ (b : Bytes) (m : List Bytes). b ∷ m) (h 0 (omega arith)) (go l (λ i k. h (suc i) (omega arith)))
