@@ -5,7 +5,12 @@ ghost use Rattle.calls.specs.Report.{reportOf};
 ghost use Rattle.calls.specs.Format.{formatNumber, imageFormatted};
 ghost use Rattle.calls.specs.Lookup.{lookupOf, openOf};
 ghost use Rattle.calls.specs.Read.{readGiven, readAnswer, bufferAfter, handleAfter};
+ghost use Rattle.calls.specs.Create.{createOf, imageCreated};
+ghost use Rattle.calls.specs.Append.{appendOf, imageAppended};
+ghost use Rattle.calls.specs.Unlink.{unlinkOf, imageUnlinked};
+ghost use Rattle.calls.specs.Collect.{collectOf, imageCollected};
 ghost use lib.ListN.{length};
+use calls::Created;
 use calls::Handle;
 use calls::Lookup;
 use calls::Opened;
@@ -83,4 +88,57 @@ pub extern "C" fn nffs_read(
         × (now (buffer .exit) ≡ bufferAfter (readGiven (now (image .entry)) (areaList (now (areas .entry))) (now (h .entry) .id) (now (h .entry) .position) (length (now (buffer .entry)))) (now (buffer .entry))) ⌝ }
 {
     handle_calls::read(image, areas, h, buffer)
+}
+
+// Makes an empty directory (kind 0) or file (any other kind) at a path. A refused create changes no byte.
+#[no_mangle]
+pub extern "C" fn nffs_create<'a>(
+    image: &mut [u8],
+    areas: &[u32],
+    base: &'a [u8],
+    path: &'a [u8],
+    kind: u32,
+) -> Created
+    ensures answer { λ r. ⌜ r ≡ createOf (now (image .entry)) (areaList (now (areas .entry))) (now (base .entry)) (now (path .entry)) kind ⌝ }
+    ensures image { λ _. ⌜ now (image .exit) ≡ imageCreated (now (image .entry)) (areaList (now (areas .entry))) (now (base .entry)) (now (path .entry)) kind ⌝ }
+{
+    create_call::create(image, areas, base, path, kind)
+}
+
+// Appends bytes to a file, all or none: the number of refusal, or 0. A refused append changes no byte.
+#[no_mangle]
+pub extern "C" fn nffs_append<'a>(
+    image: &mut [u8],
+    areas: &[u32],
+    base: &'a [u8],
+    path: &'a [u8],
+    text: &[u8],
+) -> u32
+    ensures number { λ r. ⌜ r ≡ appendOf (now (image .entry)) (areaList (now (areas .entry))) (now (base .entry)) (now (path .entry)) (now (text .entry)) ⌝ }
+    ensures image { λ _. ⌜ now (image .exit) ≡ imageAppended (now (image .entry)) (areaList (now (areas .entry))) (now (base .entry)) (now (path .entry)) (now (text .entry)) ⌝ }
+{
+    append_call::append(image, areas, base, path, text)
+}
+
+// Deletes what a path leads to, and with a directory all below it: the number of refusal, or 0. A refused unlink changes no byte.
+#[no_mangle]
+pub extern "C" fn nffs_unlink<'a>(
+    image: &mut [u8],
+    areas: &[u32],
+    base: &'a [u8],
+    path: &'a [u8],
+) -> u32
+    ensures number { λ r. ⌜ r ≡ unlinkOf (now (image .entry)) (areaList (now (areas .entry))) (now (base .entry)) (now (path .entry)) ⌝ }
+    ensures image { λ _. ⌜ now (image .exit) ≡ imageUnlinked (now (image .entry)) (areaList (now (areas .entry))) (now (base .entry)) (now (path .entry)) ⌝ }
+{
+    unlink_call::unlink(image, areas, base, path)
+}
+
+// Moves what counts of one file area to the scratch area, and makes that file area the scratch area: the number of refusal, or 0.
+#[no_mangle]
+pub extern "C" fn nffs_collect(image: &mut [u8], areas: &[u32]) -> u32
+    ensures number { λ r. ⌜ r ≡ collectOf (now (image .entry)) (areaList (now (areas .entry))) ⌝ }
+    ensures image { λ _. ⌜ now (image .exit) ≡ imageCollected (now (image .entry)) (areaList (now (areas .entry))) ⌝ }
+{
+    collect_call::collect(image, areas)
 }
