@@ -3,9 +3,6 @@
 use nffs_model::compare::Engine;
 use nffs_model::{Create, Handle, Lookup, Open, Read, Report};
 
-// Not exported yet: the model's calls stand in, so that sequences reach every state.
-pub use nffs_model::{append, collect, create, unlink};
-
 /// The exported calls and the layouts of their answers. A slice passes as a pointer and then a length.
 mod raw {
     #[repr(C)]
@@ -23,6 +20,19 @@ mod raw {
         pub number: u32,
         pub first: u32,
         pub second: u32,
+    }
+
+    #[repr(C)]
+    pub struct Two {
+        pub number: u32,
+        pub id: u32,
+    }
+
+    /// A file handle, whose position a read moves.
+    #[repr(C)]
+    pub struct Handle {
+        pub id: u32,
+        pub position: u32,
     }
 
     extern "C" {
@@ -58,6 +68,49 @@ mod raw {
             buffer: *mut u8,
             buffer_len: usize,
         ) -> Three;
+        pub fn nffs_read(
+            image: *const u8,
+            image_len: usize,
+            areas: *const u32,
+            areas_len: usize,
+            handle: *mut Handle,
+            buffer: *mut u8,
+            buffer_len: usize,
+        ) -> Three;
+        pub fn nffs_create(
+            image: *mut u8,
+            image_len: usize,
+            areas: *const u32,
+            areas_len: usize,
+            base: *const u8,
+            base_len: usize,
+            path: *const u8,
+            path_len: usize,
+            kind: u32,
+        ) -> Two;
+        pub fn nffs_append(
+            image: *mut u8,
+            image_len: usize,
+            areas: *const u32,
+            areas_len: usize,
+            base: *const u8,
+            base_len: usize,
+            path: *const u8,
+            path_len: usize,
+            text: *const u8,
+            text_len: usize,
+        ) -> u32;
+        pub fn nffs_unlink(
+            image: *mut u8,
+            image_len: usize,
+            areas: *const u32,
+            areas_len: usize,
+            base: *const u8,
+            base_len: usize,
+            path: *const u8,
+            path_len: usize,
+        ) -> u32;
+        pub fn nffs_collect(image: *mut u8, image_len: usize, areas: *const u32, areas_len: usize) -> u32;
     }
 }
 
@@ -123,11 +176,80 @@ pub fn read_at(image: &[u8], areas: &[u32], id: u32, position: u32, buffer: &mut
     Read { number: r.number, given: r.first, headers: r.second }
 }
 
-/// The proved read by value, with a handle's position moved by the bytes given.
 pub fn read(image: &[u8], areas: &[u32], handle: &mut Handle, buffer: &mut [u8]) -> Read {
-    let read = read_at(image, areas, handle.id, handle.position, buffer);
-    handle.position += read.given;
-    read
+    let mut moved = raw::Handle { id: handle.id, position: handle.position };
+    // SAFETY: the call stays inside the slices, and handle and buffer are lent to it alone.
+    let r = unsafe {
+        raw::nffs_read(
+            image.as_ptr(),
+            image.len(),
+            areas.as_ptr(),
+            areas.len(),
+            &mut moved,
+            buffer.as_mut_ptr(),
+            buffer.len(),
+        )
+    };
+    handle.id = moved.id;
+    handle.position = moved.position;
+    Read { number: r.number, given: r.first, headers: r.second }
+}
+
+pub fn create(image: &mut [u8], areas: &[u32], base: &[u8], path: &[u8], kind: u32) -> Create {
+    // SAFETY: the call stays inside the slices, and the image is lent to it alone.
+    let r = unsafe {
+        raw::nffs_create(
+            image.as_mut_ptr(),
+            image.len(),
+            areas.as_ptr(),
+            areas.len(),
+            base.as_ptr(),
+            base.len(),
+            path.as_ptr(),
+            path.len(),
+            kind,
+        )
+    };
+    Create { number: r.number, id: r.id }
+}
+
+pub fn append(image: &mut [u8], areas: &[u32], base: &[u8], path: &[u8], data: &[u8]) -> u32 {
+    // SAFETY: the call stays inside the slices, and the image is lent to it alone.
+    unsafe {
+        raw::nffs_append(
+            image.as_mut_ptr(),
+            image.len(),
+            areas.as_ptr(),
+            areas.len(),
+            base.as_ptr(),
+            base.len(),
+            path.as_ptr(),
+            path.len(),
+            data.as_ptr(),
+            data.len(),
+        )
+    }
+}
+
+pub fn unlink(image: &mut [u8], areas: &[u32], base: &[u8], path: &[u8]) -> u32 {
+    // SAFETY: the call stays inside the slices, and the image is lent to it alone.
+    unsafe {
+        raw::nffs_unlink(
+            image.as_mut_ptr(),
+            image.len(),
+            areas.as_ptr(),
+            areas.len(),
+            base.as_ptr(),
+            base.len(),
+            path.as_ptr(),
+            path.len(),
+        )
+    }
+}
+
+pub fn collect(image: &mut [u8], areas: &[u32]) -> u32 {
+    // SAFETY: the call stays inside the slices, and the image is lent to it alone.
+    unsafe { raw::nffs_collect(image.as_mut_ptr(), image.len(), areas.as_ptr(), areas.len()) }
 }
 
 /// The calls of this crate as one engine.

@@ -8,9 +8,13 @@ mod common;
 
 #[path = "../../../model/tests/document/bench.rs"]
 mod bench;
+#[path = "../../../model/tests/document/collecting.rs"]
+mod collecting;
 #[path = "../../../model/tests/document/mounting.rs"]
 mod mounting;
 #[path = "../../../model/tests/document/paths.rs"]
 mod paths;
 #[path = "../../../model/tests/document/reading.rs"]
 mod reading;
+#[path = "../../../model/tests/document/writing.rs"]
+mod writing;

@@ -4,13 +4,17 @@ use nffs_compare::Proved;
 use nffs_model::compare::{compare, Model};
 
 /// The numbers that each call must have answered somewhere, so that no rule is passed over.
-const REACHED: [(&str, &[u32]); 6] = [
+const REACHED: [(&str, &[u32]); 10] = [
     ("Format", &[0, 1, 3]),
     ("Report", &[0, 1, 2, 3, 4, 5, 6, 7]),
-    ("Lookup", &[0, 1, 3, 5, 6, 7, 8, 9, 10, 11]),
-    ("Open", &[0, 1, 3, 5, 6, 7, 8, 9, 10, 11]),
-    ("Read", &[0, 1, 3, 5, 6, 7, 9, 11, 13, 14]),
-    ("ReadAt", &[0, 1, 3, 5, 6, 7, 9, 11, 13, 14]),
+    ("Lookup", &[0, 1, 2, 3, 4, 5, 6, 7, 8, 9, 10, 11]),
+    ("Open", &[0, 1, 2, 3, 4, 5, 6, 7, 8, 9, 10, 11]),
+    ("Read", &[0, 1, 2, 3, 4, 5, 6, 7, 9, 11, 13, 14]),
+    ("ReadAt", &[0, 1, 2, 3, 4, 5, 6, 7, 9, 11, 13, 14]),
+    ("Create", &[0, 1, 2, 3, 4, 5, 6, 7, 8, 9, 10, 11, 12, 15]),
+    ("Append", &[0, 1, 2, 3, 4, 5, 6, 7, 8, 9, 10, 11, 13, 15]),
+    ("Unlink", &[0, 1, 2, 3, 4, 5, 6, 7, 8, 9, 10, 11, 15, 16]),
+    ("Collect", &[0, 1, 2, 3, 4, 5, 6, 7, 17]),
 ];
 
 fn run(seeds: std::ops::Range<u64>) {

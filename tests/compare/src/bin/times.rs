@@ -1,8 +1,10 @@
-//! How long the proved calls take, each of which mounts anew: the figures of docs/FIGURES.md.
+//! How long the proved calls take, each of which mounts anew, and how long the model's take: the figures of docs/FIGURES.md.
 
 use std::hint::black_box;
 use std::time::Instant;
 
+use nffs_compare::Proved;
+use nffs_model::compare::{Engine, Model};
 use nffs_model::forge::Flash;
 
 /// A name, and a volume of 65,536 bytes: seven file areas and a scratch area of 8,192 bytes each.
@@ -17,11 +19,17 @@ fn volumes() -> Vec<(&'static str, Flash)> {
         flash
     };
 
-    let mut files = fresh();
-    let name = [b'n'; 200];
-    (0..63).all(|k| (0..7).any(|area| files.inode(area, 0x1000_0000 + k, 0, 0, &name)));
-    let data = [0xa5; 150];
-    (0..256).all(|k| (0..7).any(|area| files.block(area, 0x8000_0000 + k, 0, 0x1000_0000 + k % 63, 0xffff_ffff, &data)));
+    // files of four or five blocks; nearly every byte is taken, and each table has room for a few more
+    let mut full = fresh();
+    for k in 0..60u8 {
+        let name = [&[b'n'; 80][..], &[b'0' + k]].concat();
+        assert!((0..7).any(|area| full.inode(area, 0x1000_0000 + u32::from(k), 0, 0, &name)));
+    }
+    let data = [0xa5; 170];
+    for k in 0..250 {
+        let previous = if k < 60 { 0xffff_ffff } else { 0x8000_0000 + k - 60 };
+        assert!((0..7).any(|area| full.block(area, 0x8000_0000 + k, 0, 0x1000_0000 + k % 60, previous, &data)));
+    }
 
     let mut short = fresh();
     for sequence in 0.. {
@@ -36,33 +44,52 @@ fn volumes() -> Vec<(&'static str, Flash)> {
         let end = damaged.offset(area) + damaged.length(area);
         damaged.image[at..end].fill(0);
     }
-    vec![("fresh", fresh()), ("63 files, 256 blocks", files), ("the most records", short), ("all damaged", damaged)]
+    vec![("fresh", fresh()), ("nearly full", full), ("the most records", short), ("all damaged", damaged)]
 }
 
-/// The shortest of 50 runs, in microseconds.
-fn shortest(mut call: impl FnMut() -> u32) -> f64 {
+/// The path of the first file of the nearly full volume.
+fn first_file() -> Vec<u8> {
+    [&b"/"[..], &[b'n'; 80], b"0"].concat()
+}
+
+/// One call on one engine: the number that it answers.
+type Call = (&'static str, fn(&dyn Engine, &mut [u8], &[u32]) -> u32);
+
+const CALLS: [Call; 10] = [
+    ("format", |e, image, areas| e.format(image, areas)),
+    ("report", |e, image, areas| e.report(image, areas).number),
+    ("lookup", |e, image, areas| e.lookup(image, areas, b"", &first_file()).number),
+    ("open", |e, image, areas| e.open(image, areas, b"", &first_file()).number),
+    ("read", |e, image, areas| e.read_at(image, areas, 0x1000_0000, 0, &mut [0; 4096]).number),
+    ("create", |e, image, areas| e.create(image, areas, b"", b"/new", 1).number),
+    ("append", |e, image, areas| e.append(image, areas, b"", &first_file(), &[7; 100])),
+    ("append 2,000", |e, image, areas| e.append(image, areas, b"", &first_file(), &[7; 2000])),
+    ("unlink", |e, image, areas| e.unlink(image, areas, b"", &first_file())),
+    ("collect", |e, image, areas| e.collect(image, areas)),
+];
+
+/// The shortest of 50 runs in microseconds, each on the same bytes, and the number answered.
+fn shortest(engine: &dyn Engine, flash: &Flash, call: Call) -> (f64, u32) {
+    let mut number = 0;
+    let mut image = flash.image.clone();
     let time = |_| {
+        image.copy_from_slice(&flash.image);
         let begin = Instant::now();
-        black_box(call());
+        number = black_box(call.1(engine, &mut image, &flash.areas));
         begin.elapsed().as_secs_f64() * 1e6
     };
-    (0..50).map(time).fold(f64::INFINITY, f64::min)
+    let least = (0..50).map(time).fold(f64::INFINITY, f64::min);
+    (least, number)
 }
 
 fn main() {
+    println!("| Image | Call | Answer | Microseconds | The model's | Ratio |\n|---|---|---|---|---|---|");
     for (name, flash) in volumes() {
-        let (image, areas) = (&flash.image[..], &flash.areas[..]);
-        let report = nffs_compare::report(image, areas);
-        assert_eq!(report, nffs_model::report(image, areas));
-        println!("{name}: {report:?}");
-        let mut buffer = [0; 4096];
-        let mut copy = flash.image.clone();
-        let times = [
-            ("report", shortest(|| black_box(nffs_compare::report(image, areas)).number)),
-            ("lookup", shortest(|| black_box(nffs_compare::lookup(image, areas, b"", b"/n")).number)),
-            ("read", shortest(|| black_box(nffs_compare::read_at(image, areas, 0x1000_0000, 0, &mut buffer)).number)),
-            ("format", shortest(|| black_box(nffs_compare::format(&mut copy, areas)))),
-        ];
-        times.iter().for_each(|(call, time)| println!("  {call:>6} {time:>6.0} us"));
+        for call in CALLS {
+            let (ours, number) = shortest(&Proved, &flash, call);
+            let (model, expected) = shortest(&Model::default(), &flash, call);
+            assert_eq!(number, expected, "{name}, {}", call.0);
+            println!("| {name} | {} | {number} | {ours:.0} | {model:.0} | {:.2} |", call.0, ours / model);
+        }
     }
 }
