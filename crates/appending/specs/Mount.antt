@@ -6,7 +6,6 @@ use mathlib.Core.List.{List, List·Memᴰ}
 use native.Mathlib.Omega.{arith}
 use lib.ListN.{length, take, getD, length-take}
 use lib.Seq.{length-take-le, take-length}
-use lib.Dec.{T}
 use borrow.Author.Tests.{eqb-false, ne-eqb}
 use Rattle.format.specs.Bytes.{Bytes}
 use Rattle.format.specs.AreaHeader.{isFileArea}

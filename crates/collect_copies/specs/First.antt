@@ -9,7 +9,7 @@ use lib.ListN.{length, take, length-map}
 use lib.Seq.{length-take-le}
 use lib.Dec.{T, T-not}
 use Rattle.format.specs.Bytes.{Bytes, le32}
-use Rattle.volume.specs.Lists.{keep, all, same, has}
+use Rattle.volume.specs.Lists.{keep, all, same}
 use Rattle.volume_laws.specs.Tests.{T→true, true→T, not-T→false, and-T, has-some}
 use Rattle.volume_laws.specs.Lists.{same-refl, same-eq, keep-append, keep-comm, keep-mem, keep-map}
 use Rattle.volume_laws.specs.Once.{Nodup, pigeons}

@@ -1,13 +1,10 @@
 -- A list of descriptors as numbers. Document 01, "What a call is given": "The list ends at the first length 0 or at its end".
-use Prim.Native.Nat.{ℕ, zero, suc, _+_, _-_, _*_, _≤_, _<_}
-use mathlib.Core.Path.{_≡_, refl, sym, ap, _∙_}
-use mathlib.Core.List.{List, [], _∷_, _++_}
+use Prim.Native.Nat.{ℕ, _+_, _-_, _*_}
+use mathlib.Core.List.{List, [], _∷_}
 use mathlib.Core.Bool.{Bool, true, false}
-use native.Mathlib.Omega.{arith}
-use lib.ListN.{length, take, replicate, set}
+use lib.ListN.{length, replicate, set}
 use lib.Dec.{eqb, ltb}
-use borrow.Author.Tests.{eqb-true, eqb-false, ltb-true, ltb-false, ne-eqb}
-use Rattle.calls.specs.Areas.{listed, paired, areaList, mostAreas}
+use Rattle.calls.specs.Areas.{mostAreas}
 use Rattle.calls.specs.declared.Descriptor.{Descriptor}
 use Rattle.descriptor_list.specs.declared.Areas.{Areas}
 use Rattle.descriptor_list.specs.declared.Seen.{Seen}
