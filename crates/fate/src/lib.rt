@@ -45,7 +45,8 @@ pub fn fate_of(image: &[u8], words: &[u64], ids: &[u32], spots: &[u32], id: u32)
     Fate::Orphan // it goes on, so it loops
 }
 
-fn is_live(f: Fate) -> bool
+// Whether a fate is to live.
+pub fn lives(f: Fate) -> bool
     ensures { λ r. ⌜ r ≡ isLive (meaning f) ⌝ }
 {
     match f {
@@ -65,7 +66,7 @@ pub fn live_count(image: &[u8], words: &[u64], ids: &[u32], spots: &[u32]) -> us
     let mut i = 0;
     while i < n {
         let f = fate_of(image, words, ids, spots, ids[i]);
-        if is_live(f) {
+        if lives(f) {
             live += 1;
             i += 1;
         } else {

@@ -3,10 +3,10 @@ ghost use mathlib.Core.Path.{_≡_};
 ghost use mathlib.Core.List.{[], _∷_, _++_};
 ghost use Prim.Native.Nat.{_+_, _≤_};
 ghost use lib.ListN.{length, take};
-ghost use Rattle.volume.specs.Lists.{same};
 ghost use Rattle.volume.specs.Counting.{allAgree};
 ghost use Rattle.place_view.specs.Place.{blockAt, sizeAt, byPlace, Lies, AllLie};
 ghost use Rattle.gather.specs.Gather.{tables, AllGood, twins, Puts, Ready, Gathered};
+use bytes::equal;
 use fields::load16;
 use fields::load32;
 use fields::wide;
@@ -14,23 +14,6 @@ use records::BlockHeader;
 use records::InodeHeader;
 use table::Kept;
 use table::keep;
-
-// Whether two parts of an image are equal.
-fn equal(a: &[u8], b: &[u8]) -> bool
-    ensures { λ r. ⌜ r ≡ same (now (a .entry)) (now (b .entry)) ⌝ }
-{
-    if a.len() != b.len() {
-        return false;
-    }
-    let mut at = 0;
-    while at < a.len() {
-        if a[at] != b[at] {
-            return false;
-        }
-        at += 1;
-    }
-    true
-}
 
 // Whether the record at `p` is a block.
 pub fn is_block_at(image: &[u8], p: usize) -> bool

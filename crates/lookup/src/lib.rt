@@ -3,7 +3,7 @@ ghost use mathlib.Core.Path.{_≡_};
 ghost use mathlib.Core.Bool.{true, false};
 ghost use Prim.Native.Nat.{ℕ, _+_, _≤_, _<_};
 ghost use lib.ListN.{take, drop, getD};
-ghost use Rattle.volume.specs.Lists.{same, only};
+ghost use Rattle.volume.specs.Lists.{only};
 ghost use Rattle.volume.specs.Counting.{Volume};
 ghost use Rattle.volume.specs.Fate.{isLive, fateOf};
 ghost use Rattle.volume.specs.Path.{goodPath, pathNames};
@@ -11,10 +11,10 @@ ghost use Rattle.volume.specs.Tree.{found, isEntry, isChild, children, lookupNa
 ghost use Rattle.place_view.specs.Place.{byPlace, blockAt, Lies};
 ghost use Rattle.table.specs.Table.{taken};
 ghost use Rattle.contents.specs.Blocks.{firstOf};
-ghost use Rattle.fate.specs.Fates.{meaning as fateMeant};
 ghost use Rattle.lookup.specs.Found.{InodesOf, InodeTable, onlyOf, meaning, Kinded, refusalOf, stepOf};
-use fate::Fate;
+use bytes::equal;
 use fate::fate_of;
+use fate::lives;
 use fields::load32;
 use fields::wide;
 use occupancy::taken;
@@ -22,6 +22,7 @@ use paths::after;
 use paths::has_name;
 use paths::name_at;
 use paths::start;
+use records::InodeHeader;
 use records::is_directory_id;
 
 // The id of the root directory.
@@ -33,9 +34,6 @@ const NO_CHILD: u32 = 9;
 const MANY_CHILDREN: u32 = 10;
 
 const NO_DIRECTORY: u32 = 11;
-
-// The size of an inode's header, behind which its name stands.
-const HEADER_SIZE: usize = 20;
 
 // The live children of a directory that have one name.
 pub enum Child {
@@ -72,22 +70,6 @@ fn inode(id: u32) -> Found
     Found::Inode(id, is_directory_id(id))
 }
 
-fn same_bytes(a: &[u8], b: &[u8]) -> bool
-    ensures { λ r. ⌜ r ≡ same (now (a .entry)) (now (b .entry)) ⌝ }
-{
-    if a.len() != b.len() {
-        return false;
-    }
-    let mut i = 0;
-    while i < a.len() {
-        if a[i] != b[i] {
-            return false;
-        }
-        i += 1;
-    }
-    true
-}
-
 // Whether the inode at `p` names the directory as its parent and has the name.
 fn is_entry(image: &[u8], p: u32, directory: u32, name: &[u8]) -> bool
     requires { ⌜ Lies (now image) p ⌝ }
@@ -98,19 +80,9 @@ fn is_entry(image: &[u8], p: u32, directory: u32, name: &[u8]) -> bool
     if load32(image, at + 12) != directory {
         return false;
     }
-    let start = at + HEADER_SIZE;
+    let start = at + InodeHeader::SIZE;
     let end = start + wide(image[at + 17]) as usize;
-    same_bytes(&image[start..end], name)
-}
-
-fn lives(f: Fate) -> bool
-    ensures { λ r. ⌜ r ≡ isLive (fateMeant f) ⌝ }
-{
-    match f {
-        Fate::Live => true,
-        Fate::Dead => false,
-        Fate::Orphan => false,
-    }
+    equal(&image[start..end], name)
 }
 
 // Whether the inode of an id is live.

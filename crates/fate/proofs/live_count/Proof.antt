@@ -57,7 +57,7 @@ loop-again c =
     let l = n .before in
     let a = start l .args in
     count-one (liveBy (byPlace (a .image .now)) (taken (a .words .now)) (a .ids .now) (a .spots .now)) (taken (a .words .now)) (a .ids .now) (room l)
-    (l .loop .live) (l .loop .i) (l .loop .inv) (below n) (ap isLive (sym (c .before .before .fate-of .ensures)) ∙ sym (c .before .is-live .ensures) ∙ c .if1 .taken)
+    (l .loop .live) (l .loop .i) (l .loop .inv) (below n) (ap isLive (sym (c .before .before .fate-of .ensures)) ∙ sym (c .before .lives .ensures) ∙ c .if1 .taken)
 
 add-i-2 : tie.Need-add-i-2 Inv-loop μ-loop
 add-i-2 c = let n = c .before .before .before .before in omega (arith, below n, room (n .before), n .before .loop .inv .few)
@@ -71,7 +71,7 @@ loop-again-2 c =
     let l = n .before in
     let a = start l .args in
     count-none (liveBy (byPlace (a .image .now)) (taken (a .words .now)) (a .ids .now) (a .spots .now)) (taken (a .words .now)) (a .ids .now) (room l)
-    (l .loop .live) (l .loop .i) (l .loop .inv) (below n) (ap isLive (sym (c .before .before .fate-of .ensures)) ∙ sym (c .before .is-live .ensures) ∙ c .if1 .left)
+    (l .loop .live) (l .loop .i) (l .loop .inv) (below n) (ap isLive (sym (c .before .before .fate-of .ensures)) ∙ sym (c .before .lives .ensures) ∙ c .if1 .left)
 
 returns : tie.Need-returns Inv-loop μ-loop
 unfolding liveRows

@@ -29,8 +29,8 @@ returns c =
 shared-slice-read-wide : tie.Need-shared-slice-read-wide
 shared-slice-read-wide c = omega (arith, lies (c .before .before .before .before .before))
 
-part-same-bytes-end : tie.Need-part-same-bytes-end
-part-same-bytes-end c = omega (arith, lies (c .before .before .before .before .before .before), c .wide .ensures)
+part-equal-end : tie.Need-part-equal-end
+part-equal-end c = omega (arith, lies (c .before .before .before .before .before .before), c .wide .ensures)
 
 returns-2 : tie.Need-returns-2
 returns-2 c =
@@ -39,8 +39,8 @@ returns-2 c =
     let l = e .before in
     let s = l .before .before .before in
     let image = s .args .image .now in
-    let told : c .same-bytes .result ≡ same (take (byteAt image (s .args .p + 17)) (drop (s .args .p + 20) image)) (s .args .name .now)
-    = rw (add-sub-cancel-left, w .wide .ensures .0) at (c .same-bytes .ensures) in
+    let told : c .equal .result ≡ same (take (byteAt image (s .args .p + 17)) (drop (s .args .p + 20) image)) (s .args .name .now)
+    = rw (add-sub-cancel-left, w .wide .ensures .0) at (c .equal .ensures) in
     told
     ∙ ap (λ (n : Bytes). same n (s .args .name .now)) (sym (name-at image (s .args .p) (s .pre .1)))
     ∙ sym (entry-here (byPlace image) (s .args .directory) (s .args .name .now) (s .args .p) (sym (l .load32 .ensures) ∙ e .if1 .left))
@@ -60,6 +60,6 @@ is-entry-spec =
     (λ c. search needs)
     (λ c. search needs)
     (λ c. search needs)
-    part-same-bytes-end
+    part-equal-end
     (λ c κs. search needs)
     returns-2)
