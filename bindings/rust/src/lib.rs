@@ -174,6 +174,16 @@ pub fn lookup(image: &[u8], areas: &[Area], base: &[u8], path: &[u8]) -> Result<
 }
 
 /// Opens the file of a path, at position 0.
+///
+/// ```
+/// # use nffs::{Area, Refusal};
+/// # let mut flash = [0; 2 * 4096];
+/// # let areas = Area::row::<2>(4096);
+/// # nffs::format(&mut flash, &areas)?;
+/// assert_eq!(nffs::open(&flash, &areas, b"", b"/dose"), Err(Refusal::NOT_FOUND));
+/// assert_eq!(nffs::open(&flash, &areas, b"", b"/"), Err(Refusal::WRONG_KIND));
+/// # Ok::<(), Refusal>(())
+/// ```
 pub fn open(image: &[u8], areas: &[Area], base: &[u8], path: &[u8]) -> Result<Handle, Refusal> {
     let r = raw::open(image, areas, base, path);
     Refusal::check(r.number)?;
@@ -208,6 +218,20 @@ pub fn read(
 }
 
 /// The same as [`read`] with id and position by value.
+///
+/// ```
+/// # use nffs::{Area, Kind, Refusal};
+/// # let mut flash = [0; 2 * 4096];
+/// # let areas = Area::row::<2>(4096);
+/// # nffs::format(&mut flash, &areas)?;
+/// let id = nffs::create(&mut flash, &areas, b"", b"/dose", Kind::File)?;
+/// nffs::append(&mut flash, &areas, b"", b"/dose", b"20 mSv")?;
+/// let mut unit = [0; 3];
+/// nffs::read_at(&flash, &areas, id, 3, &mut unit)?;
+/// assert_eq!(&unit, b"mSv");
+/// assert_eq!(nffs::read_at(&flash, &areas, id, 7, &mut unit), Err(Refusal::PAST_END));
+/// # Ok::<(), Refusal>(())
+/// ```
 pub fn read_at(
     image: &[u8],
     areas: &[Area],
@@ -245,6 +269,19 @@ pub fn create(
 }
 
 /// Appends data to a file, all of it or nothing; at most [`APPEND_MOST`] bytes.
+///
+/// ```
+/// # use nffs::{Area, Kind, Refusal};
+/// # let mut flash = [0; 2 * 4096];
+/// # let areas = Area::row::<2>(4096);
+/// # nffs::format(&mut flash, &areas)?;
+/// # nffs::create(&mut flash, &areas, b"", b"/dose", Kind::File)?;
+/// let before = flash;
+/// let refused = nffs::append(&mut flash, &areas, b"", b"/dose", &[0; 5000]);
+/// assert_eq!(refused, Err(Refusal::NO_ROOM));
+/// assert_eq!(flash, before);
+/// # Ok::<(), Refusal>(())
+/// ```
 pub fn append(
     image: &mut [u8],
     areas: &[Area],
