@@ -216,7 +216,7 @@ static inline uint8_t *nffs_bytes_to_write(void *bytes, size_t length) {
 
 static inline const uint32_t *nffs_numbers(const nffs_area *areas, size_t area_count) {
     static const uint32_t none = 0;
-    return area_count == 0 ? &none : &areas->offset;
+    return area_count == 0 ? &none : (const uint32_t *)areas;
 }
 
 static inline size_t nffs_text_length(const char *text) {

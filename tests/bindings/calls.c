@@ -50,13 +50,13 @@ static void layouts(void) {
         uint32_t after[4];
     } report;
     memset(&report, 0xa5, sizeof report);
-    report.answer = nffs_report(image, sizeof image, &areas[0].offset, 4);
+    report.answer = nffs_report(image, sizeof image, nffs_numbers(areas, 2), 4);
     CHECK(report.answer.number == NFFS_OK && report.answer.inodes == 1 && report.answer.live == 1);
     CHECK(report.answer.stretches == 0 && report.answer.skipped == 0);
     CHECK(all((const uint8_t *)report.before, sizeof report.before, 0xa5));
     CHECK(all((const uint8_t *)report.after, sizeof report.after, 0xa5));
 
-    const nffs_lookup_answer root = nffs_lookup(image, sizeof image, &areas[0].offset, 4, (const uint8_t *)"", 0, (const uint8_t *)"/", 1);
+    const nffs_lookup_answer root = nffs_lookup(image, sizeof image, nffs_numbers(areas, 2), 4, (const uint8_t *)"", 0, (const uint8_t *)"/", 1);
     CHECK(root.number == NFFS_OK && root.id == 0 && root.kind == NFFS_DIRECTORY);
 }
 

@@ -75,9 +75,9 @@ impl Area {
 #[derive(Clone, Copy, Debug, PartialEq, Eq)]
 pub enum Kind {
     /// It has children.
-    Directory,
+    Directory = 0,
     /// It has contents.
-    File,
+    File = 1,
 }
 
 /// The state of a volume.
