@@ -1,7 +1,7 @@
 """The stack that each exported call of the archive needs at most, from its code: stack.py ARCHIVE prints 'call bytes', the return address included.
 
-Through each function the depth of the stack is followed along every jump; a call adds what its callee needs. There is no recursion and no alloca. What memset
-and the like need of their own, outside the archive, comes on top.
+Through each function the depth of the stack is followed along every jump; a call adds what its callee needs. What cannot be followed so, as recursion, jumps
+through tables or a computed stack pointer, is an error. What memset and the like need of their own, outside the archive, comes on top.
 """
 
 import re
@@ -9,6 +9,7 @@ import subprocess
 import sys
 
 LINE = re.compile(r"^\s*([0-9a-f]+):\s+(\S+)\s*(.*)$")
+PADDING = re.compile(r"nop|cs nop|data16|xchg +%ax,%ax|int3")
 OUTSIDE = {"memset", "memcpy", "memmove", "memcmp"}
 
 
@@ -45,26 +46,25 @@ def step(name, operands):
 def depths(code):
     """The depth before each instruction that is reached."""
     place = {at: i for i, (at, *_) in enumerate(code)}
-    depth, todo, tables = {}, [(0, 8)], []
-    while todo or tables:
-        if not todo:
-            # behind a jump through a table: what no other jump reaches, at the depth of that jump
-            d = tables.pop()
-            todo = [(i, d) for i in range(1, len(code)) if i not in depth and code[i - 1][1] in ("jmp", "ret", "ud2")]
-            continue
+    depth, done, todo = {}, set(), [(0, 8)]
+    while todo:
         i, d = todo.pop()
-        if i in depth or i >= len(code):
+        if depth.setdefault(i, d) != d:
+            sys.exit(f"two depths at {code[i]}")
+        if i in done:
             continue
-        depth[i] = d
+        done.add(i)
         _, name, operands, symbol = code[i]
         if name.startswith("j") and symbol is None:
             target = re.match(r"([0-9a-f]+) <", operands)
-            if target:
-                todo.append((place[int(target.group(1), 16)], d))
-            else:
-                tables.append(d)
+            if not target:
+                sys.exit(f"a jump whose target is not known: {operands}")
+            todo.append((place[int(target.group(1), 16)], d))
         if name not in ("jmp", "ret", "ud2"):
             todo.append((i + 1, d + step(name, operands)))
+    missed = [line for i, line in enumerate(code) if i not in depth and not PADDING.match(line[1] + " " + line[2])]
+    if missed:
+        sys.exit(f"never reached: {missed[0]}")
     return depth
 
 
