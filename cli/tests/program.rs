@@ -249,3 +249,52 @@ fn an_image_is_replaced_whole_by_one_run_at_a_time() {
     folder.good(&["rm", "image", "/dose"], b"");
     assert_eq!(folder.files().len(), 2);
 }
+
+#[test]
+fn a_run_stopped_while_it_writes_leaves_the_old_image() {
+    let folder = Folder::formatted("stopped");
+    folder.good(&["put", "image", "/dose"], b"old");
+    let old = fs::read(folder.0.join("image")).unwrap();
+    // files may have 4,096 bytes: the system ends the run in the middle of the 8,192
+    let stopped = Command::new("bash")
+        .args(["-c", "ulimit -c 0 -f 4 && exec \"$0\" \"$@\"", env!("CARGO_BIN_EXE_nffs")])
+        .args(["rm", "image", "/dose", "--areas", "4096x2"])
+        .current_dir(&folder.0)
+        .output()
+        .unwrap();
+    assert!(!stopped.status.success());
+    assert_eq!(fs::read(folder.0.join("image")).unwrap(), old);
+    assert_eq!(folder.good(&["cat", "image", "/dose"], b""), b"old");
+
+    let left = folder.0.join("image.new");
+    if left.exists() {
+        let said = folder.bad(&["rm", "image", "/dose", "--areas", "4096x2"], b"", 2);
+        assert!(said.contains("image.new is there"), "{said}");
+        fs::remove_file(left).unwrap();
+    }
+    folder.good(&["rm", "image", "/dose"], b"");
+}
+
+#[test]
+fn of_changes_at_one_time_none_is_lost() {
+    let folder = Folder::formatted("together");
+    let names: Vec<String> = (0..8).map(|i| format!("/file{i}")).collect();
+    std::thread::scope(|scope| {
+        for name in &names {
+            let folder = &folder;
+            scope.spawn(move || loop {
+                let words = ["put", "image", name, "--areas", "4096x2"];
+                let put = folder.run(&words, name.as_bytes());
+                match put.status.code() {
+                    Some(0) => break,
+                    // another run is changing the image
+                    Some(2) => continue,
+                    other => panic!("{other:?}: {}", String::from_utf8_lossy(&put.stderr)),
+                }
+            });
+        }
+    });
+    for name in &names {
+        assert_eq!(folder.good(&["cat", "image", name], b""), name.as_bytes());
+    }
+}

@@ -77,7 +77,8 @@ def need(name, code, known, under=()):
         for i, d in depths(code[name]).items():
             _, what, operands, symbol = code[name][i]
             most = max(most, d)
-            if what == "call" or (what == "jmp" and symbol in code):
+            # a jump to another function is its last call, made in the place of this frame
+            if what == "call" or (what.startswith("j") and symbol is not None):
                 if symbol not in code and symbol not in OUTSIDE:
                     sys.exit(f"{name} calls {symbol or operands}, which is not known")
                 inner = need(symbol, code, known, (*under, name)) if symbol in code else 8
