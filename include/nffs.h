@@ -9,7 +9,8 @@
  *           or at its end; an odd last number is not looked at. Good are 1 to 8 areas of 128 to 65,536 bytes, inside the image, none
  *           overlapping.
  *   base    what a path without a leading slash is taken below: a good absolute path. Otherwise it is not looked at and may be empty.
- *   path    1 to 1,024 bytes: "/", or names of 1 to 255 bytes parted by single slashes, none at the end, no NUL. It needs no NUL at its end.
+ *   path    1 to 1,024 bytes: "/", or names of 1 to 255 bytes parted by single slashes, none at the end, no NUL. Nothing has to stand
+ *           behind it.
  *
  * How arguments pass (x86-64, System V). The archive takes a slice as two arguments of their own, first the pointer, then the number of
  * elements, never as a struct of the two: in nffs_read the buffer's pointer is in a register and its length on the stack. Numbers are
@@ -130,8 +131,8 @@ nffs_lookup_answer nffs_lookup(const uint8_t *image, size_t image_length, const 
 nffs_open_answer nffs_open(const uint8_t *image, size_t image_length, const uint32_t *areas, size_t areas_length,
                            const uint8_t *base, size_t base_length, const uint8_t *path, size_t path_length);
 
-/* Reads from the handle's position on into the front of the buffer, as much as buffer and file allow, and moves the position behind what was
-   given. At the end of the file it gives 0 bytes. */
+/* Reads from the handle's position on into the front of the buffer, as much as buffer and file allow, and moves the position behind what
+   was given. At the end of the file it gives 0 bytes. */
 nffs_read_answer nffs_read(const uint8_t *image, size_t image_length, const uint32_t *areas, size_t areas_length,
                            nffs_handle *handle, uint8_t *buffer, size_t buffer_length);
 

@@ -1,4 +1,5 @@
-//! Links the archive that `rt staticlib nffs` writes. NFFS_ARCHIVE names its folder; without it the repository's target/staticlib is taken.
+//! Links the archive that `rt staticlib nffs` writes. NFFS_ARCHIVE names its folder; without it
+//! the repository's target/staticlib is taken.
 
 use std::env;
 use std::path::PathBuf;
@@ -14,7 +15,7 @@ fn main() {
     println!("cargo:rerun-if-changed={}", archive.display());
     if !archive.is_file() {
         println!(
-            "cargo:error={} is not there: run `rt staticlib nffs`, or set NFFS_ARCHIVE to its folder",
+            "cargo:error={} is not there: run `rt staticlib nffs`, or set NFFS_ARCHIVE",
             archive.display()
         );
         return;

@@ -119,7 +119,8 @@ fn usage(what: impl Into<String>) -> Failure {
     Failure::Usage(what.into())
 }
 
-/// Areas by OFFSET:LENGTH,.. or LENGTHxCOUNT. Whether they are good is for the calls to say, but for their number: a list without bound could not be held.
+/// Areas by OFFSET:LENGTH,.. or LENGTHxCOUNT. Whether they are good is for the calls to say, but
+/// for their number: a list without bound could not be held.
 fn parse_areas(text: &str) -> Result<Vec<Area>, Failure> {
     let areas = match text.split_once('x') {
         Some((length, count)) => row(number(length)?, number(count)?)?,

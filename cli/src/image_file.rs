@@ -8,7 +8,8 @@ use std::path::{Path, PathBuf};
 /// The most bytes of an image.
 pub const MOST: usize = 65_536;
 
-/// The bytes of an image file; of one that is too long one byte more than an image may have, so that the calls refuse it.
+/// The bytes of an image file; of one that is too long one byte more than an image may have, so
+/// that the calls refuse it.
 pub fn load(path: &Path) -> Result<Vec<u8>, Failure> {
     let read = || {
         let mut image = Vec::new();
@@ -22,9 +23,10 @@ pub fn load(path: &Path) -> Result<Vec<u8>, Failure> {
     read().map_err(failed("read", path))
 }
 
-/// A change of an image file. The new image is written to a file beside it, which is renamed over it once it is on the disk: whoever looks, and whenever the
-/// machine stops, finds the old image or the new one, whole. The file beside is made before the image is read, and only one run can make it: two changes at a
-/// time cannot lose one.
+/// A change of an image file. The new image is written to a file beside it, which is renamed over
+/// it once it is on the disk: whoever looks, and whenever the machine stops, finds the old image
+/// or the new one, whole. The file beside is made before the image is read, and only one run can
+/// make it: of two changes at a time none is lost.
 pub struct Change {
     target: PathBuf,
     beside: PathBuf,

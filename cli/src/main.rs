@@ -71,7 +71,8 @@ fn format(arguments: &Arguments) -> Result<(), Failure> {
     change.commit(&image)
 }
 
-/// The bytes up to the last area's end; one more than an image may have where that is too much, and format will refuse it.
+/// The bytes up to the last area's end; one more than an image may have where that is too much,
+/// and format will refuse it.
 fn image_size(areas: &[Area]) -> usize {
     let end = areas.iter().map(|a| u64::from(a.offset) + u64::from(a.length)).max().unwrap_or(0);
     usize::try_from(end).unwrap_or(usize::MAX).min(image_file::MOST + 1)
@@ -137,7 +138,8 @@ fn put(arguments: &Arguments) -> Result<(), Failure> {
     })
 }
 
-/// Unlinks a file where there is one. A directory is refused, as open refuses it: it would go with all that lies below it.
+/// Unlinks a file where there is one. A directory is refused, as open refuses it: it would go with
+/// all that lies below it.
 fn remove_file(image: &mut [u8], areas: &[Area], path: &[u8]) -> Result<(), Refusal> {
     match nffs::open(image, areas, b"", path) {
         Ok(_) => nffs::unlink(image, areas, b"", path),
@@ -146,7 +148,8 @@ fn remove_file(image: &mut [u8], areas: &[Area], path: &[u8]) -> Result<(), Refu
     }
 }
 
-/// The bytes to store, of a file or of standard input; no more than one byte over what an image can hold, since that is refused whatever follows.
+/// The bytes to store, of a file or of standard input; no more than one byte over what an image
+/// can hold, since that is refused whatever follows.
 fn data(file: Option<&OsStr>) -> Result<Vec<u8>, Failure> {
     let mut data = Vec::new();
     let most = image_file::MOST as u64 + 1;

@@ -56,7 +56,8 @@ static void layouts(void) {
     CHECK(all((const uint8_t *)report.before, sizeof report.before, 0xa5));
     CHECK(all((const uint8_t *)report.after, sizeof report.after, 0xa5));
 
-    const nffs_lookup_answer root = nffs_lookup(image, sizeof image, nffs_numbers(areas, 2), 4, (const uint8_t *)"", 0, (const uint8_t *)"/", 1);
+    const nffs_lookup_answer root =
+        nffs_lookup(image, sizeof image, nffs_numbers(areas, 2), 4, (const uint8_t *)"", 0, (const uint8_t *)"/", 1);
     CHECK(root.number == NFFS_OK && root.id == 0 && root.kind == NFFS_DIRECTORY);
 }
 

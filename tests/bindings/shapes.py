@@ -1,4 +1,4 @@
-"""The exports as Rattle, the C header and the Rust crate declare them, held against each other: functions, structs and refusals. Ends with the count."""
+"""The exports as Rattle, C and Rust declare them, held against each other: functions, structs, refusals. Ends with the count."""
 
 import re
 import sys

@@ -1,5 +1,5 @@
-/* How much stack each call uses on a volume with files, damage and deletions: the call runs on a stack of its own that was painted, and what changed is counted.
-   Prints 'call bytes'. A function that does nothing is measured too and taken off. */
+/* How much stack each call uses: it runs on a stack of its own that was painted, and what changed is counted. Prints 'call bytes'.
+   A function that does nothing is measured too and taken off. */
 #define _XOPEN_SOURCE 700
 #include "nffs.h"
 

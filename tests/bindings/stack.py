@@ -1,7 +1,8 @@
-"""The stack that each exported call of the archive needs at most, from its code: stack.py ARCHIVE prints 'call bytes', the return address included.
+"""The stack that each exported call of an archive needs at most, from its code, the return address included.
 
-Through each function the depth of the stack is followed along every jump; a call adds what its callee needs. What cannot be followed so, as recursion, jumps
-through tables or a computed stack pointer, is an error. What memset and the like need of their own, outside the archive, comes on top.
+stack.py ARCHIVE prints 'call bytes'. Through each function the depth of the stack is followed along every jump; a call adds what its
+callee needs. What cannot be followed so, as recursion, jumps through tables or a computed stack pointer, is an error. What memset and
+the like need of their own, outside the archive, comes on top.
 """
 
 import re
