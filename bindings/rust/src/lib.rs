@@ -1,0 +1,338 @@
+//! NFFS version 0 over a lent flash image.
+//!
+//! The calls are proved: for every image, path and byte they stay inside what they are lent, end,
+//! neither allocate nor panic, and answer as the rules say. This crate passes slices to them and
+//! gives each answer as a `Result`. Every call answers from the bytes alone, as if the image were
+//! mounted anew; a refused call changes nothing.
+//!
+//! ```
+//! use nffs::{Area, Kind, Refusal};
+//!
+//! let mut flash = [0; 2 * 4096];
+//! let areas = Area::row::<2>(4096);
+//! nffs::format(&mut flash, &areas)?;
+//! nffs::create(&mut flash, &areas, b"", b"/dose", Kind::File)?;
+//! nffs::append(&mut flash, &areas, b"", b"/dose", b"20 mSv")?;
+//!
+//! let mut file = nffs::open(&flash, &areas, b"", b"/dose")?;
+//! let mut buffer = [0; 64];
+//! let given = nffs::read(&flash, &areas, &mut file, &mut buffer)?;
+//! assert_eq!(&buffer[..given.bytes], b"20 mSv");
+//! # Ok::<(), Refusal>(())
+//! ```
+//!
+//! Paths are bytes: `/`, or names of 1 to 255 bytes parted by single slashes. A path without a
+//! leading slash is taken below `base`, which must then be a good absolute path; otherwise `base`
+//! is not looked at and may be empty.
+
+#![no_std]
+#![deny(missing_docs)]
+
+mod raw;
+mod refusal;
+
+pub use refusal::Refusal;
+
+/// An area of the flash.
+///
+/// A list of areas ends at the first length 0 or at its end. Good are 1 to 8 areas of 128 to
+/// 65,536 bytes, each inside the image, none overlapping.
+#[repr(C)]
+#[derive(Clone, Copy, Debug, PartialEq, Eq)]
+pub struct Area {
+    /// Where it starts in the image.
+    pub offset: u32,
+    /// Its length in bytes.
+    pub length: u32,
+}
+
+impl Area {
+    /// `N` areas of one length, one behind the other from the image's start.
+    ///
+    /// ```
+    /// let [first, second] = nffs::Area::row(4096);
+    /// assert_eq!((first.offset, second.offset), (0, 4096));
+    /// ```
+    ///
+    /// # Panics
+    ///
+    /// Where an offset does not fit in 32 bits.
+    pub const fn row<const N: usize>(length: u32) -> [Area; N] {
+        let mut areas = [Area { offset: 0, length }; N];
+        let mut i = 1;
+        while i < N {
+            areas[i].offset = match areas[i - 1].offset.checked_add(length) {
+                Some(offset) => offset,
+                None => panic!("an area's offset does not fit in 32 bits"),
+            };
+            i += 1;
+        }
+        areas
+    }
+}
+
+/// What an inode is.
+#[derive(Clone, Copy, Debug, PartialEq, Eq)]
+pub enum Kind {
+    /// It has children.
+    Directory = 0,
+    /// It has contents.
+    File = 1,
+}
+
+/// The state of a volume.
+#[derive(Clone, Copy, Debug, PartialEq, Eq)]
+pub struct Report {
+    /// Distinct inode ids.
+    pub inodes: u32,
+    /// Inodes that are live.
+    pub live: u32,
+    /// Damage stretches in the file areas.
+    pub stretches: u32,
+    /// The bytes of these stretches.
+    pub skipped: u32,
+}
+
+/// What a path leads to.
+#[derive(Clone, Copy, Debug, PartialEq, Eq)]
+pub struct Found {
+    /// The id of the inode.
+    pub id: u32,
+    /// Directory or file.
+    pub kind: Kind,
+}
+
+/// An open file. It is plain data: nothing has to be closed.
+#[repr(C)]
+#[derive(Clone, Copy, Debug, PartialEq, Eq)]
+pub struct Handle {
+    /// The id of the file.
+    pub id: u32,
+    /// Where the next read begins.
+    pub position: u32,
+}
+
+/// What a read gave.
+#[derive(Clone, Copy, Debug, PartialEq, Eq)]
+pub struct Given {
+    /// The number of bytes, in the front of the buffer; 0 at the end of the file.
+    pub bytes: usize,
+    /// The block headers followed, from the last block back.
+    pub headers: u32,
+}
+
+/// The most bytes that one [`append`] takes.
+pub const APPEND_MOST: usize = 8192;
+
+/// Erases the areas and makes an empty volume of them. The longest area, first among equals, is
+/// scratch; there must be two at least. Bytes outside the areas stay.
+///
+/// ```
+/// use nffs::{Area, Refusal};
+///
+/// let mut flash = [0; 2 * 4096];
+/// let areas = Area::row::<2>(4096);
+/// assert_eq!(nffs::format(&mut flash, &areas), Ok(()));
+/// assert_eq!(nffs::format(&mut flash, &areas[..1]), Err(Refusal::NO_FILE_OR_SCRATCH));
+/// ```
+pub fn format(image: &mut [u8], areas: &[Area]) -> Result<(), Refusal> {
+    Refusal::check(raw::format(image, areas))
+}
+
+/// Whether a volume mounts, and what is in it.
+///
+/// ```
+/// # use nffs::Area;
+/// # let mut flash = [0; 2 * 4096];
+/// # let areas = Area::row::<2>(4096);
+/// nffs::format(&mut flash, &areas)?;
+/// let report = nffs::report(&flash, &areas)?;
+/// assert_eq!((report.inodes, report.live, report.stretches, report.skipped), (1, 1, 0, 0));
+/// # Ok::<(), nffs::Refusal>(())
+/// ```
+pub fn report(image: &[u8], areas: &[Area]) -> Result<Report, Refusal> {
+    let r = raw::report(image, areas);
+    Refusal::check(r.number)?;
+    Ok(Report { inodes: r.inodes, live: r.live, stretches: r.stretches, skipped: r.skipped })
+}
+
+/// What a path leads to.
+///
+/// ```
+/// # use nffs::{Area, Kind, Refusal};
+/// # let mut flash = [0; 2 * 4096];
+/// # let areas = Area::row::<2>(4096);
+/// nffs::format(&mut flash, &areas)?;
+/// assert_eq!(nffs::lookup(&flash, &areas, b"", b"/")?.kind, Kind::Directory);
+/// assert_eq!(nffs::lookup(&flash, &areas, b"/", b"dose"), Err(Refusal::NOT_FOUND));
+/// # Ok::<(), Refusal>(())
+/// ```
+pub fn lookup(image: &[u8], areas: &[Area], base: &[u8], path: &[u8]) -> Result<Found, Refusal> {
+    let r = raw::lookup(image, areas, base, path);
+    Refusal::check(r.number)?;
+    Ok(Found { id: r.id, kind: if r.kind == 0 { Kind::Directory } else { Kind::File } })
+}
+
+/// Opens the file of a path, at position 0.
+///
+/// ```
+/// # use nffs::{Area, Refusal};
+/// # let mut flash = [0; 2 * 4096];
+/// # let areas = Area::row::<2>(4096);
+/// # nffs::format(&mut flash, &areas)?;
+/// assert_eq!(nffs::open(&flash, &areas, b"", b"/dose"), Err(Refusal::NOT_FOUND));
+/// assert_eq!(nffs::open(&flash, &areas, b"", b"/"), Err(Refusal::WRONG_KIND));
+/// # Ok::<(), Refusal>(())
+/// ```
+pub fn open(image: &[u8], areas: &[Area], base: &[u8], path: &[u8]) -> Result<Handle, Refusal> {
+    let r = raw::open(image, areas, base, path);
+    Refusal::check(r.number)?;
+    Ok(Handle { id: r.id, position: r.position })
+}
+
+/// Reads from the handle's position on into the front of the buffer, as much as buffer and file
+/// allow, and moves the position behind what was given.
+///
+/// ```
+/// # use nffs::{Area, Kind};
+/// # let mut flash = [0; 2 * 4096];
+/// # let areas = Area::row::<2>(4096);
+/// # nffs::format(&mut flash, &areas)?;
+/// # nffs::create(&mut flash, &areas, b"", b"/dose", Kind::File)?;
+/// nffs::append(&mut flash, &areas, b"", b"/dose", b"20 mSv")?;
+/// let mut file = nffs::open(&flash, &areas, b"", b"/dose")?;
+/// let mut buffer = [0; 4];
+/// assert_eq!(nffs::read(&flash, &areas, &mut file, &mut buffer)?.bytes, 4);
+/// assert_eq!(nffs::read(&flash, &areas, &mut file, &mut buffer)?.bytes, 2);
+/// assert_eq!(nffs::read(&flash, &areas, &mut file, &mut buffer)?.bytes, 0);
+/// assert_eq!(file.position, 6);
+/// # Ok::<(), nffs::Refusal>(())
+/// ```
+pub fn read(
+    image: &[u8],
+    areas: &[Area],
+    handle: &mut Handle,
+    buffer: &mut [u8],
+) -> Result<Given, Refusal> {
+    given(raw::read(image, areas, handle, buffer))
+}
+
+/// The same as [`read`] with id and position by value.
+///
+/// ```
+/// # use nffs::{Area, Kind, Refusal};
+/// # let mut flash = [0; 2 * 4096];
+/// # let areas = Area::row::<2>(4096);
+/// # nffs::format(&mut flash, &areas)?;
+/// let id = nffs::create(&mut flash, &areas, b"", b"/dose", Kind::File)?;
+/// nffs::append(&mut flash, &areas, b"", b"/dose", b"20 mSv")?;
+/// let mut unit = [0; 3];
+/// nffs::read_at(&flash, &areas, id, 3, &mut unit)?;
+/// assert_eq!(&unit, b"mSv");
+/// assert_eq!(nffs::read_at(&flash, &areas, id, 7, &mut unit), Err(Refusal::PAST_END));
+/// # Ok::<(), Refusal>(())
+/// ```
+pub fn read_at(
+    image: &[u8],
+    areas: &[Area],
+    id: u32,
+    position: u32,
+    buffer: &mut [u8],
+) -> Result<Given, Refusal> {
+    given(raw::read_at(image, areas, id, position, buffer))
+}
+
+/// Creates an empty directory or file, and gives its id.
+///
+/// ```
+/// # use nffs::{Area, Kind, Refusal};
+/// # let mut flash = [0; 2 * 4096];
+/// # let areas = Area::row::<2>(4096);
+/// # nffs::format(&mut flash, &areas)?;
+/// nffs::create(&mut flash, &areas, b"", b"/tables", Kind::Directory)?;
+/// let id = nffs::create(&mut flash, &areas, b"/tables", b"dose", Kind::File)?;
+/// assert_eq!(nffs::lookup(&flash, &areas, b"", b"/tables/dose")?.id, id);
+/// let again = nffs::create(&mut flash, &areas, b"", b"/tables", Kind::File);
+/// assert_eq!(again, Err(Refusal::EXISTS));
+/// # Ok::<(), Refusal>(())
+/// ```
+pub fn create(
+    image: &mut [u8],
+    areas: &[Area],
+    base: &[u8],
+    path: &[u8],
+    kind: Kind,
+) -> Result<u32, Refusal> {
+    let r = raw::create(image, areas, base, path, kind as u32);
+    Refusal::check(r.number)?;
+    Ok(r.id)
+}
+
+/// Appends data to a file, all of it or nothing; at most [`APPEND_MOST`] bytes.
+///
+/// ```
+/// # use nffs::{Area, Kind, Refusal};
+/// # let mut flash = [0; 2 * 4096];
+/// # let areas = Area::row::<2>(4096);
+/// # nffs::format(&mut flash, &areas)?;
+/// # nffs::create(&mut flash, &areas, b"", b"/dose", Kind::File)?;
+/// let before = flash;
+/// let refused = nffs::append(&mut flash, &areas, b"", b"/dose", &[0; 5000]);
+/// assert_eq!(refused, Err(Refusal::NO_ROOM));
+/// assert_eq!(flash, before);
+/// # Ok::<(), Refusal>(())
+/// ```
+pub fn append(
+    image: &mut [u8],
+    areas: &[Area],
+    base: &[u8],
+    path: &[u8],
+    data: &[u8],
+) -> Result<(), Refusal> {
+    Refusal::check(raw::append(image, areas, base, path, data))
+}
+
+/// Deletes a file, or a directory with what lies below it.
+///
+/// ```
+/// # use nffs::{Area, Kind, Refusal};
+/// # let mut flash = [0; 2 * 4096];
+/// # let areas = Area::row::<2>(4096);
+/// # nffs::format(&mut flash, &areas)?;
+/// nffs::create(&mut flash, &areas, b"", b"/tables", Kind::Directory)?;
+/// nffs::create(&mut flash, &areas, b"", b"/tables/dose", Kind::File)?;
+/// nffs::unlink(&mut flash, &areas, b"", b"/tables")?;
+/// assert_eq!(nffs::open(&flash, &areas, b"", b"/tables/dose"), Err(Refusal::NOT_FOUND));
+/// # Ok::<(), Refusal>(())
+/// ```
+pub fn unlink(image: &mut [u8], areas: &[Area], base: &[u8], path: &[u8]) -> Result<(), Refusal> {
+    Refusal::check(raw::unlink(image, areas, base, path))
+}
+
+/// Copies what counts in one file area into scratch and erases that area, which becomes scratch:
+/// superseded and deleted records leave room, and damage goes. One call collects one area.
+///
+/// ```
+/// # use nffs::{Area, Kind, Refusal};
+/// # let mut flash = [0; 2 * 4096];
+/// # let areas = Area::row::<2>(4096);
+/// # nffs::format(&mut flash, &areas)?;
+/// # nffs::create(&mut flash, &areas, b"", b"/dose", Kind::File)?;
+/// // a full volume has room again once what was deleted is collected
+/// while nffs::append(&mut flash, &areas, b"", b"/dose", &[7; 500]).is_ok() {}
+/// nffs::unlink(&mut flash, &areas, b"", b"/dose")?;
+/// nffs::create(&mut flash, &areas, b"", b"/dose", Kind::File)?;
+/// let full = nffs::append(&mut flash, &areas, b"", b"/dose", &[8; 2000]);
+/// assert_eq!(full, Err(Refusal::NO_ROOM));
+/// nffs::collect(&mut flash, &areas)?;
+/// nffs::append(&mut flash, &areas, b"", b"/dose", &[8; 2000])?;
+/// # Ok::<(), Refusal>(())
+/// ```
+pub fn collect(image: &mut [u8], areas: &[Area]) -> Result<(), Refusal> {
+    Refusal::check(raw::collect(image, areas))
+}
+
+fn given(r: raw::ReadAnswer) -> Result<Given, Refusal> {
+    Refusal::check(r.number)?;
+    Ok(Given { bytes: r.given as usize, headers: r.headers })
+}

@@ -1,0 +1,299 @@
+//! The exported calls behind safe functions, and the layouts of their answers.
+//!
+//! The archive takes a slice as two arguments, pointer and number of elements, also where the
+//! registers run out between the two.
+//!
+//! What the calls need is what a borrow gives: pointers that are not null and are aligned (those
+//! of empty slices too), elements that are there, and nothing else that reads or writes what is
+//! lent by `&mut`. That they stay inside the slices is proved.
+
+use crate::{Area, Handle};
+
+#[repr(C)]
+pub struct ReportAnswer {
+    pub number: u32,
+    pub inodes: u32,
+    pub live: u32,
+    pub stretches: u32,
+    pub skipped: u32,
+}
+
+#[repr(C)]
+pub struct LookupAnswer {
+    pub number: u32,
+    pub id: u32,
+    pub kind: u32,
+}
+
+#[repr(C)]
+pub struct OpenAnswer {
+    pub number: u32,
+    pub id: u32,
+    pub position: u32,
+}
+
+#[repr(C)]
+pub struct ReadAnswer {
+    pub number: u32,
+    pub given: u32,
+    pub headers: u32,
+}
+
+#[repr(C)]
+pub struct CreateAnswer {
+    pub number: u32,
+    pub id: u32,
+}
+
+mod exports {
+    use super::*;
+
+    extern "C" {
+        pub fn nffs_format(image: *mut u8, size: usize, areas: *const u32, numbers: usize) -> u32;
+        pub fn nffs_report(
+            image: *const u8,
+            size: usize,
+            areas: *const u32,
+            numbers: usize,
+        ) -> ReportAnswer;
+        pub fn nffs_lookup(
+            image: *const u8,
+            size: usize,
+            areas: *const u32,
+            numbers: usize,
+            base: *const u8,
+            base_length: usize,
+            path: *const u8,
+            path_length: usize,
+        ) -> LookupAnswer;
+        pub fn nffs_open(
+            image: *const u8,
+            size: usize,
+            areas: *const u32,
+            numbers: usize,
+            base: *const u8,
+            base_length: usize,
+            path: *const u8,
+            path_length: usize,
+        ) -> OpenAnswer;
+        pub fn nffs_read(
+            image: *const u8,
+            size: usize,
+            areas: *const u32,
+            numbers: usize,
+            handle: *mut Handle,
+            buffer: *mut u8,
+            buffer_length: usize,
+        ) -> ReadAnswer;
+        pub fn nffs_read_at(
+            image: *const u8,
+            size: usize,
+            areas: *const u32,
+            numbers: usize,
+            id: u32,
+            position: u32,
+            buffer: *mut u8,
+            buffer_length: usize,
+        ) -> ReadAnswer;
+        pub fn nffs_create(
+            image: *mut u8,
+            size: usize,
+            areas: *const u32,
+            numbers: usize,
+            base: *const u8,
+            base_length: usize,
+            path: *const u8,
+            path_length: usize,
+            kind: u32,
+        ) -> CreateAnswer;
+        pub fn nffs_append(
+            image: *mut u8,
+            size: usize,
+            areas: *const u32,
+            numbers: usize,
+            base: *const u8,
+            base_length: usize,
+            path: *const u8,
+            path_length: usize,
+            data: *const u8,
+            data_length: usize,
+        ) -> u32;
+        pub fn nffs_unlink(
+            image: *mut u8,
+            size: usize,
+            areas: *const u32,
+            numbers: usize,
+            base: *const u8,
+            base_length: usize,
+            path: *const u8,
+            path_length: usize,
+        ) -> u32;
+        pub fn nffs_collect(image: *mut u8, size: usize, areas: *const u32, numbers: usize) -> u32;
+    }
+}
+
+// An area is two numbers, one after the other, as the calls take them.
+const _: () = assert!(size_of::<Area>() == 8 && align_of::<Area>() == align_of::<u32>());
+const _: () = assert!(size_of::<Handle>() == 8);
+const _: () = assert!(size_of::<ReportAnswer>() == 20);
+const _: () = assert!(size_of::<LookupAnswer>() == 12);
+const _: () = assert!(size_of::<OpenAnswer>() == 12);
+const _: () = assert!(size_of::<ReadAnswer>() == 12);
+const _: () = assert!(size_of::<CreateAnswer>() == 8);
+
+pub fn format(image: &mut [u8], areas: &[Area]) -> u32 {
+    // SAFETY: slices as the call needs them, see above.
+    unsafe {
+        exports::nffs_format(
+            image.as_mut_ptr(),
+            image.len(),
+            areas.as_ptr().cast(),
+            2 * areas.len(),
+        )
+    }
+}
+
+pub fn report(image: &[u8], areas: &[Area]) -> ReportAnswer {
+    // SAFETY: slices as the call needs them, see above.
+    unsafe {
+        exports::nffs_report(image.as_ptr(), image.len(), areas.as_ptr().cast(), 2 * areas.len())
+    }
+}
+
+pub fn lookup(image: &[u8], areas: &[Area], base: &[u8], path: &[u8]) -> LookupAnswer {
+    // SAFETY: slices as the call needs them, see above.
+    unsafe {
+        exports::nffs_lookup(
+            image.as_ptr(),
+            image.len(),
+            areas.as_ptr().cast(),
+            2 * areas.len(),
+            base.as_ptr(),
+            base.len(),
+            path.as_ptr(),
+            path.len(),
+        )
+    }
+}
+
+pub fn open(image: &[u8], areas: &[Area], base: &[u8], path: &[u8]) -> OpenAnswer {
+    // SAFETY: slices as the call needs them, see above.
+    unsafe {
+        exports::nffs_open(
+            image.as_ptr(),
+            image.len(),
+            areas.as_ptr().cast(),
+            2 * areas.len(),
+            base.as_ptr(),
+            base.len(),
+            path.as_ptr(),
+            path.len(),
+        )
+    }
+}
+
+pub fn read(image: &[u8], areas: &[Area], handle: &mut Handle, buffer: &mut [u8]) -> ReadAnswer {
+    // SAFETY: slices as the call needs them, see above.
+    unsafe {
+        exports::nffs_read(
+            image.as_ptr(),
+            image.len(),
+            areas.as_ptr().cast(),
+            2 * areas.len(),
+            handle,
+            buffer.as_mut_ptr(),
+            buffer.len(),
+        )
+    }
+}
+
+pub fn read_at(
+    image: &[u8],
+    areas: &[Area],
+    id: u32,
+    position: u32,
+    buffer: &mut [u8],
+) -> ReadAnswer {
+    // SAFETY: slices as the call needs them, see above.
+    unsafe {
+        exports::nffs_read_at(
+            image.as_ptr(),
+            image.len(),
+            areas.as_ptr().cast(),
+            2 * areas.len(),
+            id,
+            position,
+            buffer.as_mut_ptr(),
+            buffer.len(),
+        )
+    }
+}
+
+pub fn create(
+    image: &mut [u8],
+    areas: &[Area],
+    base: &[u8],
+    path: &[u8],
+    kind: u32,
+) -> CreateAnswer {
+    // SAFETY: slices as the call needs them, see above.
+    unsafe {
+        exports::nffs_create(
+            image.as_mut_ptr(),
+            image.len(),
+            areas.as_ptr().cast(),
+            2 * areas.len(),
+            base.as_ptr(),
+            base.len(),
+            path.as_ptr(),
+            path.len(),
+            kind,
+        )
+    }
+}
+
+pub fn append(image: &mut [u8], areas: &[Area], base: &[u8], path: &[u8], data: &[u8]) -> u32 {
+    // SAFETY: slices as the call needs them, see above.
+    unsafe {
+        exports::nffs_append(
+            image.as_mut_ptr(),
+            image.len(),
+            areas.as_ptr().cast(),
+            2 * areas.len(),
+            base.as_ptr(),
+            base.len(),
+            path.as_ptr(),
+            path.len(),
+            data.as_ptr(),
+            data.len(),
+        )
+    }
+}
+
+pub fn unlink(image: &mut [u8], areas: &[Area], base: &[u8], path: &[u8]) -> u32 {
+    // SAFETY: slices as the call needs them, see above.
+    unsafe {
+        exports::nffs_unlink(
+            image.as_mut_ptr(),
+            image.len(),
+            areas.as_ptr().cast(),
+            2 * areas.len(),
+            base.as_ptr(),
+            base.len(),
+            path.as_ptr(),
+            path.len(),
+        )
+    }
+}
+
+pub fn collect(image: &mut [u8], areas: &[Area]) -> u32 {
+    // SAFETY: slices as the call needs them, see above.
+    unsafe {
+        exports::nffs_collect(
+            image.as_mut_ptr(),
+            image.len(),
+            areas.as_ptr().cast(),
+            2 * areas.len(),
+        )
+    }
+}

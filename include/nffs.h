@@ -1,0 +1,288 @@
+/*
+ * nffs.h: the calls of libnffs.a, NFFS version 0 over a lent flash image. Plain C11; C++ may include it too.
+ *
+ * Every call answers from the bytes it is given alone, as if the image were mounted anew: there is nothing to set up, to keep or to free.
+ * No call allocates, panics or runs for ever, for any bytes. A refused call changes no byte of image, buffer or handle.
+ *
+ *   image   0 to 65,536 bytes, the flash.
+ *   areas   offset and length of each area in turn, 32 bits each: the layout of an array of nffs_area. The list ends at the first length 0
+ *           or at its end; an odd last number is not looked at. Good are 1 to 8 areas of 128 to 65,536 bytes, inside the image, none
+ *           overlapping.
+ *   base    what a path without a leading slash is taken below: a good absolute path. Otherwise it is not looked at and may be empty.
+ *   path    1 to 1,024 bytes: "/", or names of 1 to 255 bytes parted by single slashes, none at the end, no NUL. Nothing has to stand
+ *           behind it.
+ *
+ * How arguments pass (x86-64, System V). The archive takes a slice as two arguments of their own, first the pointer, then the number of
+ * elements, never as a struct of the two: in nffs_read the buffer's pointer is in a register and its length on the stack. Numbers are
+ * uint32_t. An answer of 4 or 8 bytes comes back in rax, of 12 in rax and edx, of 20 in memory that the caller lends. All this is what a C
+ * compiler does with the prototypes below.
+ *
+ * What the caller owes, because the proofs take it for granted:
+ *   - a pointer is never null, for an empty slice neither, and those to uint32_t and nffs_handle are aligned for it;
+ *   - so many elements are there, and nobody else writes them while the call runs;
+ *   - what a call may write (image of a write, buffer, handle) overlaps no other argument.
+ * The functions nffs_volume_* at the end see to the pointers of empty slices, and take paths as C strings.
+ */
+#ifndef NFFS_H
+#define NFFS_H
+
+#include <stddef.h>
+#include <stdint.h>
+#include <string.h>
+
+#ifdef __cplusplus
+extern "C" {
+#endif
+
+/* An area of the flash: where it starts in the image, and its length in bytes. */
+typedef struct nffs_area {
+    uint32_t offset;
+    uint32_t length;
+} nffs_area;
+
+/* An open file: the id of its inode, and where the next read begins. */
+typedef struct nffs_handle {
+    uint32_t id;
+    uint32_t position;
+} nffs_handle;
+
+/* The number in an answer: 0, or why the call was refused. The checks are made in this order, and the first that fails is answered. */
+enum {
+    NFFS_OK = 0,
+    NFFS_BAD_AREAS = 1,           /* image over 65,536 bytes, or areas not good */
+    NFFS_SAME_AREA_ID = 2,        /* two file areas have one id */
+    NFFS_NO_FILE_OR_SCRATCH = 3,  /* no file area, or not exactly one scratch area */
+    NFFS_SHORT_SCRATCH = 4,       /* scratch shorter than a file area */
+    NFFS_TOO_MANY_IDS = 5,        /* more than 64 inode ids or 256 block ids */
+    NFFS_CONFLICT = 6,            /* two records of one id, same sequence, different bytes */
+    NFFS_NO_ROOT = 7,             /* no record of the root */
+    NFFS_BAD_PATH = 8,            /* bad path or name; over 8,192 bytes to append; creating or unlinking the root */
+    NFFS_NOT_FOUND = 9,           /* no such child, or a handle's id is not live */
+    NFFS_AMBIGUOUS = 10,          /* two or more live children of that name */
+    NFFS_WRONG_KIND = 11,         /* a file where a directory is needed, or the reverse */
+    NFFS_EXISTS = 12,             /* create: the name is there */
+    NFFS_BROKEN = 13,             /* read or append of a broken file */
+    NFFS_PAST_END = 14,           /* read begins after the end */
+    NFFS_NO_ROOM = 15,            /* a record fits in no clean file area */
+    NFFS_LAST_SEQUENCE = 16,      /* unlink: the sequence is at its greatest */
+    NFFS_NO_SOURCE = 17           /* collect: no file area is as long as the scratch area */
+};
+
+/* What nffs_lookup finds and nffs_create is told. To nffs_create every number but 0 is a file. */
+enum { NFFS_DIRECTORY = 0, NFFS_FILE = 1 };
+
+/* The most bytes that one nffs_append takes. */
+enum { NFFS_APPEND_MOST = 8192 };
+
+/* The answers. Where the number is not 0, the others are 0. */
+
+/* Distinct inode ids, live inodes, damage stretches and their bytes. */
+typedef struct nffs_report_answer {
+    uint32_t number;
+    uint32_t inodes;
+    uint32_t live;
+    uint32_t stretches;
+    uint32_t skipped;
+} nffs_report_answer;
+
+/* What a path leads to. */
+typedef struct nffs_lookup_answer {
+    uint32_t number;
+    uint32_t id;
+    uint32_t kind;
+} nffs_lookup_answer;
+
+/* An opened file: what its handle holds. */
+typedef struct nffs_open_answer {
+    uint32_t number;
+    uint32_t id;
+    uint32_t position;
+} nffs_open_answer;
+
+/* How many bytes a read gave, and how many block headers it followed. */
+typedef struct nffs_read_answer {
+    uint32_t number;
+    uint32_t given;
+    uint32_t headers;
+} nffs_read_answer;
+
+/* The id of what was created. */
+typedef struct nffs_create_answer {
+    uint32_t number;
+    uint32_t id;
+} nffs_create_answer;
+
+/*
+ * The calls of the archive. Each length stands behind its pointer and counts elements: bytes, or for areas 32-bit numbers, two an area.
+ */
+
+/* Erases the areas and makes an empty volume of them: the longest, first among equals, is scratch, and the others are file areas. Needs two
+   areas. */
+uint32_t nffs_format(uint8_t *image, size_t image_length, const uint32_t *areas, size_t areas_length);
+
+/* The state of a volume: whether it mounts, and what is in it. */
+nffs_report_answer nffs_report(const uint8_t *image, size_t image_length, const uint32_t *areas, size_t areas_length);
+
+/* What a path leads to: id and kind. */
+nffs_lookup_answer nffs_lookup(const uint8_t *image, size_t image_length, const uint32_t *areas, size_t areas_length,
+                               const uint8_t *base, size_t base_length, const uint8_t *path, size_t path_length);
+
+/* Opens the file of a path, at position 0. */
+nffs_open_answer nffs_open(const uint8_t *image, size_t image_length, const uint32_t *areas, size_t areas_length,
+                           const uint8_t *base, size_t base_length, const uint8_t *path, size_t path_length);
+
+/* Reads from the handle's position on into the front of the buffer, as much as buffer and file allow, and moves the position behind what
+   was given. At the end of the file it gives 0 bytes. */
+nffs_read_answer nffs_read(const uint8_t *image, size_t image_length, const uint32_t *areas, size_t areas_length,
+                           nffs_handle *handle, uint8_t *buffer, size_t buffer_length);
+
+/* The same with id and position by value. */
+nffs_read_answer nffs_read_at(const uint8_t *image, size_t image_length, const uint32_t *areas, size_t areas_length,
+                              uint32_t id, uint32_t position, uint8_t *buffer, size_t buffer_length);
+
+/* Creates an empty directory or file. */
+nffs_create_answer nffs_create(uint8_t *image, size_t image_length, const uint32_t *areas, size_t areas_length,
+                               const uint8_t *base, size_t base_length, const uint8_t *path, size_t path_length, uint32_t kind);
+
+/* Appends data to a file, all of it or nothing; at most NFFS_APPEND_MOST bytes. */
+uint32_t nffs_append(uint8_t *image, size_t image_length, const uint32_t *areas, size_t areas_length,
+                     const uint8_t *base, size_t base_length, const uint8_t *path, size_t path_length,
+                     const uint8_t *data, size_t data_length);
+
+/* Deletes a file, or a directory with what lies below it. */
+uint32_t nffs_unlink(uint8_t *image, size_t image_length, const uint32_t *areas, size_t areas_length,
+                     const uint8_t *base, size_t base_length, const uint8_t *path, size_t path_length);
+
+/* Copies what counts in one file area into scratch and erases that area, which becomes scratch: superseded and deleted records leave room
+   and damage goes. One call collects one area. */
+uint32_t nffs_collect(uint8_t *image, size_t image_length, const uint32_t *areas, size_t areas_length);
+
+#ifdef __cplusplus
+#define NFFS_HOLDS(what, words) static_assert(what, words)
+#else
+#define NFFS_HOLDS(what, words) _Static_assert(what, words)
+#endif
+
+NFFS_HOLDS(sizeof(size_t) == 8 && sizeof(void *) == 8, "the archive is for x86-64");
+NFFS_HOLDS(sizeof(nffs_area) == 8, "layout of nffs_area");
+NFFS_HOLDS(sizeof(nffs_handle) == 8, "layout of nffs_handle");
+NFFS_HOLDS(sizeof(nffs_report_answer) == 20, "layout of nffs_report_answer");
+NFFS_HOLDS(sizeof(nffs_lookup_answer) == 12, "layout of nffs_lookup_answer");
+NFFS_HOLDS(sizeof(nffs_open_answer) == 12, "layout of nffs_open_answer");
+NFFS_HOLDS(sizeof(nffs_read_answer) == 12, "layout of nffs_read_answer");
+NFFS_HOLDS(sizeof(nffs_create_answer) == 8, "layout of nffs_create_answer");
+
+/* A number in words. */
+static inline const char *nffs_meaning(uint32_t number) {
+    switch (number) {
+    case NFFS_OK: return "done";
+    case NFFS_BAD_AREAS: return "image over 65,536 bytes, or areas not good";
+    case NFFS_SAME_AREA_ID: return "two file areas have one id";
+    case NFFS_NO_FILE_OR_SCRATCH: return "no file area, or not exactly one scratch area";
+    case NFFS_SHORT_SCRATCH: return "scratch shorter than a file area";
+    case NFFS_TOO_MANY_IDS: return "more than 64 inode ids or 256 block ids";
+    case NFFS_CONFLICT: return "two records of one id, same sequence, different bytes";
+    case NFFS_NO_ROOT: return "no record of the root";
+    case NFFS_BAD_PATH: return "bad path or name, too much to append, or creating or unlinking the root";
+    case NFFS_NOT_FOUND: return "no such child, or a handle's id is not live";
+    case NFFS_AMBIGUOUS: return "two or more live children of that name";
+    case NFFS_WRONG_KIND: return "a file where a directory is needed, or the reverse";
+    case NFFS_EXISTS: return "the name is there already";
+    case NFFS_BROKEN: return "the file is broken";
+    case NFFS_PAST_END: return "read begins after the end";
+    case NFFS_NO_ROOM: return "a record fits in no clean file area";
+    case NFFS_LAST_SEQUENCE: return "the sequence is at its greatest";
+    case NFFS_NO_SOURCE: return "no file area is as long as the scratch area";
+    default: return "a number that this version does not know";
+    }
+}
+
+/* An image and its areas, as the functions below take them. A null pointer will do for what is empty. */
+typedef struct nffs_volume {
+    uint8_t *image;
+    size_t image_length;
+    const nffs_area *areas;
+    size_t area_count;
+} nffs_volume;
+
+/* A pointer that may be handed over: that of an empty slice must not be null, and is never followed. */
+static inline const uint8_t *nffs_bytes(const void *bytes, size_t length) {
+    return length == 0 ? (const uint8_t *)"" : (const uint8_t *)bytes;
+}
+
+static inline uint8_t *nffs_bytes_to_write(void *bytes, size_t length) {
+    static uint8_t none;
+    return length == 0 ? &none : (uint8_t *)bytes;
+}
+
+static inline const uint32_t *nffs_numbers(const nffs_area *areas, size_t area_count) {
+    static const uint32_t none = 0;
+    return area_count == 0 ? &none : (const uint32_t *)areas;
+}
+
+static inline size_t nffs_text_length(const char *text) {
+    return text == NULL ? 0 : strlen(text);
+}
+
+/* The four arguments that every call begins with, and the two of a C string. */
+#define NFFS_IMAGE_(v) \
+    nffs_bytes_to_write((v)->image, (v)->image_length), (v)->image_length, nffs_numbers((v)->areas, (v)->area_count), 2 * (v)->area_count
+#define NFFS_TEXT_(t) nffs_bytes(t, nffs_text_length(t)), nffs_text_length(t)
+
+/* The calls on a volume. base and path are C strings; a null base is an empty one. */
+
+static inline uint32_t nffs_volume_format(const nffs_volume *v) {
+    return nffs_format(NFFS_IMAGE_(v));
+}
+
+static inline nffs_report_answer nffs_volume_report(const nffs_volume *v) {
+    return nffs_report(NFFS_IMAGE_(v));
+}
+
+static inline nffs_lookup_answer nffs_volume_lookup(const nffs_volume *v, const char *base, const char *path) {
+    return nffs_lookup(NFFS_IMAGE_(v), NFFS_TEXT_(base), NFFS_TEXT_(path));
+}
+
+/* Opens the file of a path; the handle is changed only where the answer is 0. */
+static inline uint32_t nffs_volume_open(const nffs_volume *v, const char *base, const char *path, nffs_handle *handle) {
+    const nffs_open_answer opened = nffs_open(NFFS_IMAGE_(v), NFFS_TEXT_(base), NFFS_TEXT_(path));
+    if (opened.number == NFFS_OK) {
+        handle->id = opened.id;
+        handle->position = opened.position;
+    }
+    return opened.number;
+}
+
+static inline nffs_read_answer nffs_volume_read(const nffs_volume *v, nffs_handle *handle, void *buffer, size_t length) {
+    return nffs_read(NFFS_IMAGE_(v), handle, nffs_bytes_to_write(buffer, length), length);
+}
+
+static inline nffs_read_answer nffs_volume_read_at(const nffs_volume *v, uint32_t id, uint32_t position, void *buffer, size_t length) {
+    return nffs_read_at(NFFS_IMAGE_(v), id, position, nffs_bytes_to_write(buffer, length), length);
+}
+
+static inline nffs_create_answer nffs_volume_create(const nffs_volume *v, const char *base, const char *path, uint32_t kind) {
+    return nffs_create(NFFS_IMAGE_(v), NFFS_TEXT_(base), NFFS_TEXT_(path), kind);
+}
+
+static inline uint32_t nffs_volume_append(const nffs_volume *v, const char *base, const char *path, const void *data, size_t length) {
+    return nffs_append(NFFS_IMAGE_(v), NFFS_TEXT_(base), NFFS_TEXT_(path), nffs_bytes(data, length), length);
+}
+
+static inline uint32_t nffs_volume_unlink(const nffs_volume *v, const char *base, const char *path) {
+    return nffs_unlink(NFFS_IMAGE_(v), NFFS_TEXT_(base), NFFS_TEXT_(path));
+}
+
+static inline uint32_t nffs_volume_collect(const nffs_volume *v) {
+    return nffs_collect(NFFS_IMAGE_(v));
+}
+
+#undef NFFS_IMAGE_
+#undef NFFS_TEXT_
+#undef NFFS_HOLDS
+
+#ifdef __cplusplus
+}
+#endif
+
+#endif

@@ -1,0 +1,201 @@
+/* Every call from C: what is answered, what is written and what is left alone, with slices that are empty too. Ends with the count. */
+#include "nffs.h"
+
+#include <stdio.h>
+#include <string.h>
+
+static unsigned passed, failed;
+
+static void check(int holds, const char *what) {
+    if (holds) {
+        passed++;
+    } else {
+        failed++;
+        printf("FAILED: %s\n", what);
+    }
+}
+
+#define CHECK(what) check(what, #what)
+
+enum { SIZE = 4096 };
+static uint8_t image[2 * SIZE];
+static uint8_t kept[2 * SIZE];
+static const nffs_area areas[] = {{0, SIZE}, {SIZE, SIZE}};
+static const nffs_volume flash = {image, sizeof image, areas, 2};
+static const nffs_volume nothing = {NULL, 0, NULL, 0};
+
+static void keep(void) {
+    memcpy(kept, image, sizeof image);
+}
+
+/* The image is as it was kept. */
+static int same(void) {
+    return memcmp(kept, image, sizeof image) == 0;
+}
+
+static int all(const uint8_t *bytes, size_t length, uint8_t value) {
+    for (size_t i = 0; i < length; i++) {
+        if (bytes[i] != value) {
+            return 0;
+        }
+    }
+    return 1;
+}
+
+/* Each answer between guards: an answer longer or shorter than the header says would show. */
+static void layouts(void) {
+    struct {
+        uint32_t before[4];
+        nffs_report_answer answer;
+        uint32_t after[4];
+    } report;
+    memset(&report, 0xa5, sizeof report);
+    report.answer = nffs_report(image, sizeof image, nffs_numbers(areas, 2), 4);
+    CHECK(report.answer.number == NFFS_OK && report.answer.inodes == 1 && report.answer.live == 1);
+    CHECK(report.answer.stretches == 0 && report.answer.skipped == 0);
+    CHECK(all((const uint8_t *)report.before, sizeof report.before, 0xa5));
+    CHECK(all((const uint8_t *)report.after, sizeof report.after, 0xa5));
+
+    const nffs_lookup_answer root =
+        nffs_lookup(image, sizeof image, nffs_numbers(areas, 2), 4, (const uint8_t *)"", 0, (const uint8_t *)"/", 1);
+    CHECK(root.number == NFFS_OK && root.id == 0 && root.kind == NFFS_DIRECTORY);
+}
+
+static void area_lists(void) {
+    static const uint32_t odd[] = {0, SIZE, SIZE, SIZE, 77};
+    static const uint32_t ended[] = {0, SIZE, SIZE, SIZE, 5, 0, 1, 1};
+    CHECK(nffs_report(image, sizeof image, odd, 5).number == NFFS_OK);
+    CHECK(nffs_report(image, sizeof image, ended, 8).number == NFFS_OK);
+    CHECK(nffs_report(image, sizeof image, odd, 3).number == NFFS_NO_FILE_OR_SCRATCH);
+    CHECK(nffs_report(image, sizeof image - 1, odd, 4).number == NFFS_BAD_AREAS);
+    CHECK(nffs_report(image, sizeof image, ended + 5, 2).number == NFFS_BAD_AREAS);
+}
+
+static void empty_slices(void) {
+    uint8_t byte = 7;
+    nffs_handle handle = {3, 4};
+    CHECK(nffs_volume_format(&nothing) == NFFS_BAD_AREAS);
+    CHECK(nffs_volume_report(&nothing).number == NFFS_BAD_AREAS);
+    CHECK(nffs_volume_lookup(&nothing, NULL, NULL).number == NFFS_BAD_AREAS);
+    CHECK(nffs_volume_open(&nothing, NULL, NULL, &handle) == NFFS_BAD_AREAS);
+    CHECK(nffs_volume_read(&nothing, &handle, NULL, 0).number == NFFS_BAD_AREAS);
+    CHECK(nffs_volume_read_at(&nothing, 0, 0, &byte, 1).number == NFFS_BAD_AREAS);
+    CHECK(nffs_volume_create(&nothing, NULL, NULL, NFFS_FILE).number == NFFS_BAD_AREAS);
+    CHECK(nffs_volume_append(&nothing, NULL, NULL, NULL, 0) == NFFS_BAD_AREAS);
+    CHECK(nffs_volume_unlink(&nothing, NULL, NULL) == NFFS_BAD_AREAS);
+    CHECK(nffs_volume_collect(&nothing) == NFFS_BAD_AREAS);
+    CHECK(byte == 7 && handle.id == 3 && handle.position == 4);
+
+    CHECK(nffs_volume_lookup(&flash, NULL, NULL).number == NFFS_BAD_PATH);
+    CHECK(nffs_volume_lookup(&flash, "/", "").number == NFFS_BAD_PATH);
+    CHECK(nffs_volume_lookup(&flash, NULL, "a").number == NFFS_BAD_PATH);
+}
+
+static void paths(void) {
+    nffs_handle handle = {3, 4};
+    CHECK(nffs_volume_create(&flash, NULL, "/d", NFFS_DIRECTORY).id == 1);
+    const nffs_create_answer file = nffs_volume_create(&flash, "/d", "f", 7);
+    CHECK(file.number == NFFS_OK && file.id == 0x10000000);
+    const nffs_lookup_answer found = nffs_volume_lookup(&flash, "/", "d/f");
+    CHECK(found.number == NFFS_OK && found.id == file.id && found.kind == NFFS_FILE);
+    CHECK(nffs_volume_open(&flash, NULL, "/d", &handle) == NFFS_WRONG_KIND && handle.id == 3 && handle.position == 4);
+    CHECK(nffs_volume_open(&flash, NULL, "/d/f", &handle) == NFFS_OK && handle.id == file.id && handle.position == 0);
+
+    keep();
+    const nffs_create_answer again = nffs_volume_create(&flash, NULL, "/d/f", NFFS_FILE);
+    CHECK(again.number == NFFS_EXISTS && again.id == 0);
+    CHECK(nffs_volume_create(&flash, NULL, "/d/f/g", NFFS_FILE).number == NFFS_WRONG_KIND);
+    CHECK(nffs_volume_create(&flash, NULL, "/", NFFS_FILE).number == NFFS_BAD_PATH);
+    CHECK(nffs_volume_unlink(&flash, NULL, "/e") == NFFS_NOT_FOUND);
+    CHECK(nffs_volume_append(&flash, NULL, "/d", "x", 1) == NFFS_WRONG_KIND);
+    CHECK(same());
+
+    CHECK(nffs_volume_unlink(&flash, NULL, "/d") == NFFS_OK);
+    CHECK(nffs_volume_lookup(&flash, "/d", "f").number == NFFS_NOT_FOUND);
+    const nffs_report_answer report = nffs_volume_report(&flash);
+    CHECK(report.number == NFFS_OK && report.inodes == 3 && report.live == 1);
+}
+
+/* Document 01's bench area: 10 and 5 bytes of 41 hex in file a. */
+static void bench(void) {
+    static uint8_t data[NFFS_APPEND_MOST + 1];
+    memset(data, 0x41, sizeof data);
+    CHECK(nffs_volume_format(&flash) == NFFS_OK);
+    CHECK(nffs_volume_create(&flash, NULL, "/a", NFFS_FILE).number == NFFS_OK);
+    CHECK(nffs_volume_append(&flash, NULL, "/a", data, 10) == NFFS_OK);
+    CHECK(nffs_volume_append(&flash, "/", "a", data, 5) == NFFS_OK);
+    CHECK(all(image + SIZE + 128, SIZE - 128, 0xff) && image[SIZE + 127] == 0x41);
+    keep();
+    CHECK(nffs_volume_append(&flash, NULL, "/a", NULL, 0) == NFFS_OK);
+    CHECK(nffs_volume_append(&flash, NULL, "/a", data, sizeof data) == NFFS_BAD_PATH);
+    CHECK(nffs_volume_append(&flash, NULL, "/a", data, SIZE) == NFFS_NO_ROOM);
+    CHECK(same());
+
+    image[SIZE + 70] ^= 1;
+    const nffs_report_answer broken = nffs_volume_report(&flash);
+    CHECK(broken.number == NFFS_OK && broken.stretches == 1 && broken.skipped == 34);
+    CHECK(nffs_volume_read_at(&flash, 0x10000000, 0, data, 1).number == NFFS_BROKEN);
+    image[SIZE + 70] ^= 1;
+    image[SIZE + 103] ^= 1;
+    const nffs_report_answer shorter = nffs_volume_report(&flash);
+    CHECK(shorter.number == NFFS_OK && shorter.stretches == 1 && shorter.skipped == 29);
+    CHECK(nffs_volume_read_at(&flash, 0x10000000, 0, data, sizeof data).given == 10);
+    image[SIZE + 103] ^= 1;
+}
+
+static void reads(void) {
+    uint8_t buffer[8];
+    nffs_handle handle;
+    CHECK(nffs_volume_open(&flash, NULL, "/a", &handle) == NFFS_OK);
+    memset(buffer, 0xa5, sizeof buffer);
+    nffs_read_answer read = nffs_volume_read(&flash, &handle, buffer + 1, 6);
+    CHECK(read.number == NFFS_OK && read.given == 6 && read.headers == 2 && handle.position == 6);
+    CHECK(buffer[0] == 0xa5 && all(buffer + 1, 6, 0x41) && buffer[7] == 0xa5);
+    read = nffs_volume_read(&flash, &handle, NULL, 0);
+    CHECK(read.number == NFFS_OK && read.given == 0 && read.headers == 0 && handle.position == 6);
+    handle.position = 12;
+    memset(buffer, 0xa5, sizeof buffer);
+    read = nffs_volume_read(&flash, &handle, buffer, sizeof buffer);
+    CHECK(read.given == 3 && read.headers == 1 && handle.position == 15);
+    CHECK(all(buffer, 3, 0x41) && all(buffer + 3, 5, 0xa5));
+    CHECK(nffs_volume_read(&flash, &handle, buffer, sizeof buffer).given == 0 && handle.position == 15);
+    handle.position = 16;
+    memset(buffer, 0xa5, sizeof buffer);
+    read = nffs_volume_read(&flash, &handle, buffer, sizeof buffer);
+    CHECK(read.number == NFFS_PAST_END && read.given == 0 && read.headers == 0);
+    CHECK(handle.id == 0x10000000 && handle.position == 16 && all(buffer, sizeof buffer, 0xa5));
+    CHECK(nffs_volume_read_at(&flash, 0, 0, buffer, 1).number == NFFS_WRONG_KIND);
+    CHECK(nffs_volume_read_at(&flash, 0xffffffff, 0, buffer, 1).number == NFFS_NOT_FOUND);
+    read = nffs_volume_read_at(&flash, 0x10000000, 9, buffer, 2);
+    CHECK(read.number == NFFS_OK && read.given == 2 && read.headers == 2 && buffer[1] == 0x41 && buffer[2] == 0xa5);
+}
+
+/* The file area and scratch change places, and the image holds the file still. */
+static void collection(void) {
+    uint8_t buffer[20];
+    CHECK(nffs_volume_collect(&flash) == NFFS_OK);
+    CHECK(all(image + SIZE + 24, SIZE - 24, 0xff));
+    CHECK(nffs_volume_read_at(&flash, 0x10000000, 0, buffer, sizeof buffer).given == 15 && all(buffer, 15, 0x41));
+    CHECK(nffs_volume_report(&flash).live == 2);
+}
+
+static void meanings(void) {
+    for (uint32_t n = 0; n <= NFFS_NO_SOURCE; n++) {
+        CHECK(strcmp(nffs_meaning(n), nffs_meaning(n + 1)) != 0);
+    }
+    CHECK(strcmp(nffs_meaning(NFFS_NO_SOURCE + 1), nffs_meaning(UINT32_MAX)) == 0);
+}
+
+int main(void) {
+    CHECK(nffs_volume_format(&flash) == NFFS_OK);
+    layouts();
+    area_lists();
+    empty_slices();
+    paths();
+    bench();
+    reads();
+    collection();
+    meanings();
+    printf("%u passed, %u failed\n", passed, failed);
+    return failed != 0;
+}

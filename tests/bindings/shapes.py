@@ -1,0 +1,106 @@
+"""The exports as Rattle, C and Rust declare them, held against each other: functions, structs, refusals. Ends with the count."""
+
+import re
+import sys
+from pathlib import Path
+
+top = Path(__file__).resolve().parents[2]
+rattle = (top / "crates/nffs/src/lib.rt").read_text()
+answers = (top / "crates/calls/src/lib.rt").read_text()
+header = (top / "include/nffs.h").read_text()
+raw = (top / "bindings/rust/src/raw.rs").read_text()
+crate = (top / "bindings/rust/src/lib.rs").read_text()
+refusal = (top / "bindings/rust/src/refusal.rs").read_text()
+
+POINTER_C = {"&[u8]": "const uint8_t *", "&mut [u8]": "uint8_t *", "&[u32]": "const uint32_t *"}
+POINTER_RUST = {"&[u8]": "*const u8", "&mut [u8]": "*mut u8", "&[u32]": "*const u32"}
+# what a struct of Rattle is called in C and in the Rust crate
+STRUCTS = {
+    "Handle": ("nffs_handle", "Handle"),
+    "Report": ("nffs_report_answer", "ReportAnswer"),
+    "Lookup": ("nffs_lookup_answer", "LookupAnswer"),
+    "Opened": ("nffs_open_answer", "OpenAnswer"),
+    "ReadAnswer": ("nffs_read_answer", "ReadAnswer"),
+    "Created": ("nffs_create_answer", "CreateAnswer"),
+}
+
+passed = failed = 0
+
+
+def check(what, left, right):
+    global passed, failed
+    if left == right and left:
+        passed += 1
+    else:
+        failed += 1
+        print(f"FAILED: {what}: {left} against {right}")
+
+
+def parameters(text):
+    """The types of 'name: type, ..'."""
+    found = [p.split(":", 1)[1].strip() for p in text.split(",") if p.strip()]
+    return [re.sub(r"'\w+ ", "", p) for p in found]
+
+
+def expected(types, answer, pointers, size, number, name):
+    """A function's types in C or Rust: a slice is a pointer and a length."""
+    out = []
+    for t in types:
+        if t in pointers:
+            out += [pointers[t], size]
+        elif t == "u32":
+            out.append(number)
+        else:
+            out.append(name(t.removeprefix("&mut "), True))
+    return out, number if answer == "u32" else name(answer, False)
+
+
+def in_c(t, lent):
+    return STRUCTS[t][0] + (" *" if lent else "")
+
+
+def in_rust(t, lent):
+    return ("*mut " if lent else "") + STRUCTS[t][1]
+
+
+exports = re.findall(r'#\[no_mangle\]\s*pub extern "C" fn (\w+)(?:<[^>]*>)?\((.*?)\)\s*->\s*(\w+)', rattle, re.S)
+bare = re.sub(r"/\*.*?\*/", "", header, flags=re.S)
+prototypes = {
+    name: ([re.sub(r"\w+$", "", p.strip()).strip() for p in args.split(",")], answer)
+    for answer, name, args in re.findall(r"^(\w+) (nffs_\w+)\(([^)]*)\);", bare, re.M)
+}
+declared = {
+    name: (parameters(args), answer)
+    for name, args, answer in re.findall(r"pub fn (nffs_\w+)\(([^)]*)\)\s*->\s*(\w+);", raw)
+}
+check("the exported functions, C", sorted(e[0] for e in exports), sorted(prototypes))
+check("the exported functions, Rust", sorted(e[0] for e in exports), sorted(declared))
+for name, args, answer in exports:
+    types = parameters(args)
+    check(f"{name}, C", expected(types, answer, POINTER_C, "size_t", "uint32_t", in_c), prototypes.get(name))
+    check(f"{name}, Rust", expected(types, answer, POINTER_RUST, "usize", "u32", in_rust), declared.get(name))
+
+
+def fields(text, form, name):
+    """The fields of a struct, in order; each is 32 bits."""
+    body = re.search(form % name, text, re.S)
+    found = re.findall(r"(?:pub (\w+): u32,|uint32_t (\w+);)", body.group(1)) if body else []
+    return [a or b for a, b in found]
+
+
+RUST_STRUCT = r"#\[repr\(C\)\](?:\s*#\[[^\]]*\])*\s*pub struct %s \{(.*?)\n\}"
+C_STRUCT = r"typedef struct %s \{(.*?)\}"
+for name, (c, rust) in [*STRUCTS.items(), ("Descriptor", ("nffs_area", "Area"))]:
+    known = fields(answers, RUST_STRUCT, name)
+    check(f"{name}, C", known, fields(bare, C_STRUCT, c))
+    check(f"{name}, Rust", known, fields(crate if rust in ("Area", "Handle") else raw, RUST_STRUCT, rust))
+
+numbers = {name: int(n) for name, n in re.findall(r"NFFS_(\w+) = (\d+)\b", bare.split("NFFS_DIRECTORY")[0])}
+said = dict(re.findall(r'case NFFS_(\w+): return "([^"]*)"', bare))
+check("each number has its words", list(numbers), list(said))
+check("the numbers go from 0 on", list(numbers.values()), list(range(len(numbers))))
+listed = [(n, int(i), w) for n, i, w in re.findall(r'^\s+([A-Z_]+) (\d+) "([^"]*)";', refusal, re.M)]
+check("the refusals, C and Rust", [(n, i, said.get(n)) for n, i in numbers.items() if i > 0], listed)
+
+print(f"{passed} passed, {failed} failed")
+sys.exit(failed != 0)
