@@ -19,7 +19,15 @@ const NAMES: [&[u8]; 8] = [b"a", b"b", b"c", b"ab", b".", b"..", b"\xff", b"dose
 
 /// The case of a seed.
 pub fn case(seed: u64) -> Case {
-    let mut r = Random::new(seed);
+    drawn(Random::new(seed))
+}
+
+/// The case of a script, as a fuzzer makes them.
+pub fn scripted(script: &[u8]) -> Case {
+    drawn(Random::scripted(script))
+}
+
+fn drawn(mut r: Random) -> Case {
     let flash = match r.below(100) {
         0..=37 => images::life(&mut r),
         38..=90 => images::tree(&mut r),

@@ -1,17 +1,29 @@
 //! The random numbers behind the cases.
 
-/// SplitMix64.
+/// Numbers from a script, two bytes each; where it has ended, SplitMix64.
 #[derive(Clone, Debug)]
-pub struct Random(u64);
+pub struct Random {
+    script: std::vec::IntoIter<u8>,
+    state: u64,
+}
 
 impl Random {
     pub fn new(seed: u64) -> Random {
-        Random(seed)
+        Random { script: Vec::new().into_iter(), state: seed }
+    }
+
+    /// Numbers that a fuzzer chooses.
+    pub fn scripted(script: &[u8]) -> Random {
+        Random { script: script.to_vec().into_iter(), state: 0 }
     }
 
     pub fn draw(&mut self) -> u64 {
-        self.0 = self.0.wrapping_add(0x9e37_79b9_7f4a_7c15);
-        let mut z = self.0;
+        if let Some(low) = self.script.next() {
+            let high = self.script.next().unwrap_or(0);
+            return u64::from(u16::from_le_bytes([low, high]));
+        }
+        self.state = self.state.wrapping_add(0x9e37_79b9_7f4a_7c15);
+        let mut z = self.state;
         z = (z ^ (z >> 30)).wrapping_mul(0xbf58_476d_1ce4_e5b9);
         z = (z ^ (z >> 27)).wrapping_mul(0x94d0_49bb_1331_11eb);
         z ^ (z >> 31)

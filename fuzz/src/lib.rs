@@ -1,0 +1,21 @@
+//! One case of the fuzzer: its bytes choose image, areas and calls; the proved calls and the model must agree on every answer, image, buffer
+//! and handle. The model is instrumented, so its coverage guides the search; the archive is run as it is.
+
+use nffs_compare::Proved;
+use nffs_model::compare::{run, show, Model, Tally};
+use nffs_model::generate;
+
+/// # Safety
+/// `data` points to `size` bytes.
+#[no_mangle]
+pub unsafe extern "C" fn LLVMFuzzerTestOneInput(data: *const u8, size: usize) -> i32 {
+    // SAFETY: as said above; an empty slice may come with a null pointer.
+    let script = if size == 0 { &[][..] } else { unsafe { std::slice::from_raw_parts(data, size) } };
+    let case = generate::scripted(script);
+    let model = Model::default();
+    if run(&case, &Proved, &model, &mut Tally::default()).is_some() {
+        println!("{}", show(&case, &Proved, &model));
+        std::process::abort();
+    }
+    0
+}
