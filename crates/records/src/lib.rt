@@ -31,9 +31,20 @@ pub const NONE: u32 = 0xffffffff;
 // The longest data that a block may hold.
 pub const LONGEST_DATA: u32 = 2048;
 
-const FIRST_FILE_ID: u32 = 0x10000000;
+// The id of the root directory.
+pub const ROOT: u32 = 0;
 
-const FIRST_BLOCK_ID: u32 = 0x80000000;
+// The first ids of files and of blocks; those of directories start with the root's.
+pub const FIRST_FILE_ID: u32 = 0x10000000;
+
+pub const FIRST_BLOCK_ID: u32 = 0x80000000;
+
+// Where both kinds of header hold id, sequence and link; the link is an inode's parent or a block's owner.
+pub const ID_AT: usize = 4;
+
+pub const SEQUENCE_AT: usize = 8;
+
+pub const LINK_AT: usize = 12;
 
 pub struct InodeHeader {
     pub id: u32,
@@ -77,16 +88,19 @@ impl InodeHeader {
 
     pub const CHECK_OFFSET: usize = 18;
 
+    // Where the length of the name stands.
+    pub const LENGTH_AT: usize = 17;
+
     // The header at the front of `b`.
     pub fn load(b: &[u8]) -> InodeHeader
         requires { ⌜ 20 ≤ length (now b) ⌝ }
         ensures { λ r. ⌜ r ≡ inodeHeader (now (b .entry)) ⌝ }
     {
         InodeHeader {
-            id: load32(b, 4),
-            sequence: load32(b, 8),
-            parent: load32(b, 12),
-            length: wide(b[17]),
+            id: load32(b, ID_AT),
+            sequence: load32(b, SEQUENCE_AT),
+            parent: load32(b, LINK_AT),
+            length: wide(b[InodeHeader::LENGTH_AT]),
         }
     }
 
@@ -97,7 +111,7 @@ impl InodeHeader {
         if FIRST_BLOCK_ID <= self.id {
             return false;
         }
-        if self.id == 0 {
+        if self.id == ROOT {
             return self.parent == NONE && self.length == 0;
         }
         if self.parent == NONE {
@@ -127,17 +141,22 @@ impl BlockHeader {
 
     pub const CHECK_OFFSET: usize = 22;
 
+    // Where the id of the block before it and the length of the data stand.
+    pub const PREVIOUS_AT: usize = 16;
+
+    pub const LENGTH_AT: usize = 20;
+
     // The header at the front of `b`.
     pub fn load(b: &[u8]) -> BlockHeader
         requires { ⌜ 24 ≤ length (now b) ⌝ }
         ensures { λ r. ⌜ r ≡ blockHeader (now (b .entry)) ⌝ }
     {
         BlockHeader {
-            id: load32(b, 4),
-            sequence: load32(b, 8),
-            owner: load32(b, 12),
-            previous: load32(b, 16),
-            length: load16(b, 20),
+            id: load32(b, ID_AT),
+            sequence: load32(b, SEQUENCE_AT),
+            owner: load32(b, LINK_AT),
+            previous: load32(b, BlockHeader::PREVIOUS_AT),
+            length: load16(b, BlockHeader::LENGTH_AT),
         }
     }
 
@@ -206,7 +225,7 @@ fn inode_size(t: &[u8]) -> usize
     requires { ⌜ (20 ≤ length (now t)) × (le32 (now t) 0 ≡ inode .magic) ⌝ }
     ensures { λ r. ⌜ r ≡ recordSize (now (t .entry)) ⌝ }
 {
-    let end = InodeHeader::SIZE + wide(t[17]) as usize;
+    let end = InodeHeader::SIZE + wide(t[InodeHeader::LENGTH_AT]) as usize;
     if t.len() < end {
         return 0;
     }
@@ -224,7 +243,7 @@ fn block_size(t: &[u8]) -> usize
     requires { ⌜ (24 ≤ length (now t)) × (le32 (now t) 0 ≡ block .magic) ⌝ }
     ensures { λ r. ⌜ r ≡ recordSize (now (t .entry)) ⌝ }
 {
-    let end = BlockHeader::SIZE + load16(t, 20) as usize;
+    let end = BlockHeader::SIZE + load16(t, BlockHeader::LENGTH_AT) as usize;
     if t.len() < end {
         return 0;
     }

@@ -1,13 +1,16 @@
-// A table in lent slices: a row for each id seen, with the place of the record that counts for it.
-// Rows are never given back, so those that are taken stand first.
+// A table in one lent part of 32-bit numbers: the ids of its rows, then as many spots, the places of the records that count for them.
+// Rows are never given back, so those that are taken stand first; who reads a table is lent just those, as two shared parts.
 ghost use mathlib.Core.Path.{_≡_};
+ghost use lib.ListN.{length};
 ghost use Rattle.place_view.specs.Place.{Lies};
-ghost use Rattle.table.specs.Table.{taken, found, Sized, Good, spotOf, Keeps};
-use fields::load32;
+ghost use Rattle.table.specs.Table.{found, spotOf};
+ghost use Rattle.table.specs.Rows.{GoodPart, KeepsPart};
 use occupancy::first_free;
 use occupancy::occupy;
 use occupancy::position;
 use occupancy::taken;
+use place_view::id_at;
+use place_view::sequence_at;
 
 // What became of a record that was shown to a table.
 pub enum Kept {
@@ -25,41 +28,38 @@ pub enum Spot {
     Nowhere,
 }
 
-// Shows the record at `p` to the table.
-pub fn keep(image: &[u8], words: &mut [u64], ids: &mut [u32], spots: &mut [u32], p: u32) -> Kept
-    requires { ⌜ Good (now image) (now words) (now ids) (now spots) ⌝ }
+// Shows the record at `p` to the table, which has `most` rows.
+pub fn keep(image: &[u8], words: &mut [u64], rows: &mut [u32], most: usize, p: u32) -> Kept
+    requires { ⌜ GoodPart (now image) most (now words) (now rows) ⌝ }
     requires { ⌜ Lies (now image) p ⌝ }
-    ensures { λ r. ⌜ Keeps (now (image .entry)) p (now (words .entry)) (now (ids .entry)) (now (spots .entry)) r (now (words .exit)) (now (ids .exit)) (now (spots .exit)) ⌝ }
+    ensures { λ r. ⌜ KeepsPart (now (image .entry)) p most (now (words .entry)) (now (rows .entry)) r (now (words .exit)) (now (rows .exit)) ⌝ }
 {
-    let at = p as usize;
-    let id = load32(image, at + 4);
-    let sequence = load32(image, at + 8);
+    let id = id_at(image, p);
     let n = taken(&*words);
-    let k = position(&*ids, n, id);
+    let k = position(&*rows, n, id);
     if k < n {
-        let held = spots[k] as usize;
-        if load32(image, held + 8) < sequence {
-            spots[k] = p;
+        if sequence_at(image, rows[most + k]) < sequence_at(image, p) {
+            rows[most + k] = p;
             return Kept::Newer;
         }
         return Kept::Older;
     }
     let free = first_free(&*words);
-    if free < ids.len() {
-        ids[free] = id;
-        spots[free] = p;
+    if free < most {
+        rows[free] = id;
+        rows[most + free] = p;
         occupy(&mut *words, free);
         return Kept::Newer;
     }
     Kept::Full
 }
 
-// The place of the record that counts for `id`.
-pub fn find(words: &[u64], ids: &[u32], spots: &[u32], id: u32) -> Spot
-    requires { ⌜ Sized (now words) (now ids) (now spots) ⌝ }
-    ensures { λ r. ⌜ spotOf r ≡ found (taken (now (words .entry))) (now (ids .entry)) (now (spots .entry)) id ⌝ }
+// The place of the record that counts for `id`, by the taken rows.
+pub fn find(ids: &[u32], spots: &[u32], id: u32) -> Spot
+    requires { ⌜ length (now spots) ≡ length (now ids) ⌝ }
+    ensures { λ r. ⌜ spotOf r ≡ found (length (now (ids .entry))) (now (ids .entry)) (now (spots .entry)) id ⌝ }
 {
-    let n = taken(words);
+    let n = ids.len();
     let k = position(ids, n, id);
     if k < n {
         return Spot::At(spots[k]);

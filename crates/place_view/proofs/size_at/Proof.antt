@@ -1,13 +1,10 @@
--- `gather::size_at` meets its contract.
+-- `place_view::size_at` meets its contract.
 use mathlib.Core.Path.{sym, _∙_}
 use native.Mathlib.Omega.{arith}
 use Rattle.place_view.specs.Laws.{size-block, size-inode, size-least}
 use borrow.Author.Needs.{needs}
-use Rattle.gather.proofs.size_at.Statement.{statement}
-use Rattle.gather.proofs.size_at.Tie as tie
-
-is-block-at-requires : tie.Need-is-block-at-requires
-is-block-at-requires c κs = let a = c .before .args in omega (arith, size-least (a .image .now) (a .p))
+use Rattle.place_view.proofs.size_at.Statement.{statement}
+use Rattle.place_view.proofs.size_at.Tie as tie
 
 load16-requires : tie.Need-load16-requires
 load16-requires c κs = let s = c .before .before .before in omega (arith, size-block (s .args .image .now) (s .args .p) (sym (c .before .is-block-at .ensures) ∙ c .if1 .taken))
@@ -25,7 +22,7 @@ pub size-at-spec : {M : Type 1} → statement M
 size-at-spec =
     tie.close
     (tie.spec
-    is-block-at-requires
+    (λ c κs. search needs)
     (λ c. search needs)
     load16-requires
     (λ c. search needs)

@@ -1,14 +1,14 @@
--- `gather::same_bytes` meets its contract.
+-- `place_view::same_bytes` meets its contract.
 use Prim.Native.Nat.{ℕ, _+_, _-_}
 use mathlib.Core.Path.{_≡_, _∙_}
 use native.Mathlib.Nat.{add-sub-cancel-left}
 use lib.ListN.{take, drop}
 use Rattle.format.specs.Bytes.{Bytes}
 use Rattle.volume.specs.Lists.{same}
 use Rattle.place_view.specs.Place.{sizeAt, bytesAt, byPlace}
 use borrow.Author.Needs.{needs}
-use Rattle.gather.proofs.same_bytes.Statement.{statement}
-use Rattle.gather.proofs.same_bytes.Tie as tie
+use Rattle.place_view.proofs.same_bytes.Statement.{statement}
+use Rattle.place_view.proofs.same_bytes.Tie as tie
 
 -- the two parts of the image are the bytes of the two records
 parts : (image : Bytes) (p q m n : ℕ) → m ≡ sizeAt image p → n ≡ sizeAt image q
