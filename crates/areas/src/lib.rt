@@ -1,15 +1,27 @@
-// Areas: the header test, the next record from a place, and the reading of a whole area.
+// Areas: the kind that an area's header gives it, and the next record from a place on.
 ghost use mathlib.Core.Path.{_≡_};
-ghost use Prim.Native.Nat.{min, _≤_};
+ghost use mathlib.Core.Bool.{true};
+ghost use Prim.Native.Nat.{_+_, _≤_};
 ghost use lib.ListN.{length};
-ghost use Rattle.format.specs.AreaHeader.{magicsRight, validHeader};
-ghost use Rattle.format.specs.Reading.{erasedEnd};
-ghost use Rattle.areas.specs.Area.{nextRecord, readingOf};
+ghost use Rattle.format.specs.AreaHeader.{areaHeaderSize, magicsRight, validHeader};
+ghost use Rattle.calls.specs.Areas.{goodArea, areaBytes};
+ghost use Rattle.descriptors.specs.Described.{areaOf};
+ghost use Rattle.areas.specs.Area.{nextRecord};
+ghost use Rattle.areas.specs.Kinds.{HasId, kindOf};
+use descriptors::area_end;
 use fields::load32;
 use records::record_size;
 
-// The length of an area's header.
+// The length of an area's header, and where it holds the area's length, version, collection count and id.
 pub const HEADER_SIZE: usize = 24;
+
+const LENGTH_AT: usize = 16;
+
+const VERSION_AT: usize = 20;
+
+pub const COUNT_AT: usize = 21;
+
+pub const ID_AT: usize = 23;
 
 // The id of a scratch area.
 pub const SCRATCH_ID: u8 = 255;
@@ -22,24 +34,23 @@ const MAGIC3: u32 = 0xace08253;
 
 const MAGIC4: u32 = 0xb185fc8e;
 
-// A record found: where it starts and its size, which is 0 where there is none.
-pub struct Found {
+// The next record: where it starts and its size, which is 0 where there is none.
+pub struct Next {
     pub at: usize,
     pub size: usize,
 }
 
-// What the reading of an area comes to.
-pub struct Reading {
-    // damage stretches
-    pub stretches: usize,
-    // their bytes
-    pub skipped: usize,
-    // where free space starts
-    pub free: usize,
+// What an area is by its header.
+pub enum AreaKind {
+    File,
+    Scratch,
+    // without a valid header: passed over
+    Invalid,
 }
 
+// Whether an area has the four magics.
 fn magics_right(area: &[u8]) -> bool
-    requires { ⌜ 24 ≤ length (now area) ⌝ }
+    requires { ⌜ areaHeaderSize ≤ length (now area) ⌝ }
     ensures { λ r. ⌜ r ≡ magicsRight (now (area .entry)) ⌝ }
 {
     if load32(area, 0) != MAGIC1 {
@@ -55,89 +66,62 @@ fn magics_right(area: &[u8]) -> bool
 }
 
 // Whether the area, of the length that its descriptor says, has a valid header.
-pub fn valid_header(area: &[u8], described: u32) -> bool
-    requires { ⌜ 24 ≤ length (now area) ⌝ }
+fn valid_header(area: &[u8], described: u32) -> bool
+    requires { ⌜ areaHeaderSize ≤ length (now area) ⌝ }
     ensures { λ r. ⌜ r ≡ validHeader described (now (area .entry)) ⌝ }
 {
     if magics_right(area) {} else {
         return false;
     }
-    if load32(area, 16) != described {
+    if load32(area, LENGTH_AT) != described {
         return false;
     }
-    area[20] == 0
+    area[VERSION_AT] == 0
+}
+
+// Whether a good area of an image has a valid header.
+fn valid_area(image: &[u8], offset: u32, span: u32) -> bool
+    requires { ⌜ goodArea (length (now image)) (areaOf offset span) ≡ true ⌝ }
+    ensures { λ r. ⌜ r ≡ validHeader span (areaBytes (now (image .entry)) (areaOf offset span)) ⌝ }
+{
+    let at = offset as usize;
+    let end = area_end(offset, span);
+    valid_header(&image[at..end], span)
+}
+
+// The id of the area at `offset`, whatever its length.
+pub fn area_id(image: &[u8], offset: u32) -> u8
+    requires { ⌜ offset + areaHeaderSize ≤ length (now image) ⌝ }
+    ensures { λ r. ⌜ HasId (now (image .entry)) offset r ⌝ }
+{
+    image[offset as usize + ID_AT]
+}
+
+// The kind of a good area of an image.
+pub fn area_kind(image: &[u8], offset: u32, span: u32) -> AreaKind
+    requires { ⌜ goodArea (length (now image)) (areaOf offset span) ≡ true ⌝ }
+    ensures { λ r. ⌜ r ≡ kindOf (now (image .entry)) (areaOf offset span) ⌝ }
+{
+    if valid_area(image, offset, span) {} else {
+        return AreaKind::Invalid;
+    }
+    if area_id(image, offset) == SCRATCH_ID {
+        return AreaKind::Scratch;
+    }
+    AreaKind::File
 }
 
 // The first record that starts at `from` or after it.
-pub fn next_record(area: &[u8], from: usize) -> Found
+pub fn next_record(area: &[u8], from: usize) -> Next
     ensures { λ r. ⌜ r ≡ nextRecord (now (area .entry)) from ⌝ }
 {
     let mut at = from;
     while at < area.len() {
         let size = record_size(&area[at..]);
         if size != 0 {
-            return Found { at, size };
+            return Next { at, size };
         }
         at += 1;
     }
-    Found { at, size: 0 }
-}
-
-// How many erased bytes stand at the end of `s`.
-fn erased_end(s: &[u8]) -> usize
-    ensures { λ r. ⌜ r ≡ erasedEnd (now (s .entry)) ⌝ }
-{
-    let mut n = 0;
-    let mut i = 0;
-    while i < s.len() {
-        if s[i] == 255 {
-            n += 1;
-            i += 1;
-        } else {
-            n = 0;
-            i += 1;
-        }
-    }
-    n
-}
-
-// 1 for a stretch that is not empty.
-fn one(size: usize) -> usize
-    ensures { λ r. ⌜ r ≡ min size 1 ⌝ }
-{
-    if 0 < size { 1 } else { 0 }
-}
-
-// Reads an area.
-pub fn read_area(area: &[u8]) -> Reading
-    ensures is { λ r. ⌜ r ≡ readingOf (now (area .entry)) ⌝ }
-    ensures within { λ r. ⌜ (r .stretches ≤ length (now (area .entry))) × (r .skipped ≤ length (now (area .entry))) ⌝ }
-{
-    if area.len() < HEADER_SIZE {
-        return Reading {
-            stretches: 0,
-            skipped: 0,
-            free: area.len(),
-        };
-    }
-    let mut at = HEADER_SIZE;
-    let mut stretches = 0;
-    let mut skipped = 0;
-    loop {
-        let next = next_record(area, at);
-        let start = next.at;
-        if next.size == 0 {
-            let free = erased_end(&area[at..]);
-            let left = area.len() - at - free;
-            return Reading {
-                stretches: stretches + one(left),
-                skipped: skipped + left,
-                free: area.len() - free,
-            };
-        }
-        let gap = start - at;
-        stretches += one(gap);
-        skipped += gap;
-        at = start + next.size;
-    }
+    Next { at, size: 0 }
 }

@@ -1,32 +1,31 @@
 -- Check 1: whether an image and a list of areas are well described.
-use Prim.Native.Nat.{ℕ, _≤_, _<_}
+use Prim.Native.Nat.{ℕ, _*_, _≤_, _<_}
 use mathlib.Core.Path.{_≡_, refl, ap, _∙_}
 use mathlib.Core.Bool.{Bool, true, false, not, _&&_, _||_, and-assoc, or-true}
 use mathlib.Core.List.{List}
 use native.Mathlib.Omega.{arith}
-use lib.ListN.{length, take, length-take}
+use lib.ListN.{length, take}
 use lib.Dec.{leb, ltb}
 use borrow.Author.Tests.{lt-ltb, le-ltb, le-leb, lt-leb, leb-true, ltb-false}
 use Rattle.format.specs.Bytes.{Bytes}
 use Rattle.volume.specs.Lists.{all}
 use Rattle.format_laws.specs.Record.{and-left, and-right}
 use Rattle.volume_laws.specs.Tests.{or-is-false, not-is-false}
-use Rattle.calls.specs.Areas.{listed, paired, mostAreas, largestImage, goodArea, allDisjoint, goodAreas}
+use Rattle.calls.specs.Areas.{paired, areaList, mostAreas, largestImage, goodArea, allDisjoint, goodAreas}
 use Rattle.calls.specs.Mount.{badDescription}
 use Rattle.calls.specs.declared.Descriptor.{Descriptor}
-use Rattle.descriptors.specs.Described.{described}
-use Rattle.descriptors.specs.Listing.{Copied}
-use Rattle.descriptors.specs.Good.{Good}
+use Rattle.descriptors.specs.Listing.{Counted, counted-length}
 
--- r is the number of areas, which the slices then begin with, or 0 where the description is bad
-pub record GoodList (image : Bytes) (ds : List Descriptor) (r : ℕ) (os ls : List ℕ) : Type 0 where
-  pub within : r ≤ mostAreas
-  pub refused : r ≡ 0 → badDescription image ds ≡ true
-  pub passed : (r ≡ 0 → ⊥) → badDescription image ds ≡ false
-  pub is : (r ≡ 0 → ⊥) → described (take r os) (take r ls) ≡ ds
+-- r is the number of areas, which are the first pairs of the list, or 0 where the description is bad
+pub record GoodList (image : Bytes) (areas : List ℕ) (r : ℕ) : Type 0 where
+  pub few : r ≤ mostAreas
+  pub within : r * 2 ≤ length areas
+  pub refused : r ≡ 0 → badDescription image (areaList areas) ≡ true
+  pub passed : (r ≡ 0 → ⊥) → badDescription image (areaList areas) ≡ false
+  pub is : (r ≡ 0 → ⊥) → paired (take (r * 2) areas) ≡ areaList areas
 
-pub not-good : (image : Bytes) (ds : List Descriptor) (os ls : List ℕ) → badDescription image ds ≡ true → GoodList image ds 0 os ls
-not-good image ds os ls e = record { within = omega arith; refused = λ q. e; passed = λ h. absurd (h refl); is = λ h. absurd (h refl) }
+pub not-good : (image : Bytes) (areas : List ℕ) → badDescription image (areaList areas) ≡ true → GoodList image areas 0
+not-good image areas e = record { few = omega arith; within = omega arith; refused = λ q. e; passed = λ h. absurd (h refl); is = λ h. absurd (h refl) }
 
 module _ (image : Bytes) (ds : List Descriptor) where
   abbrev good : Bool
@@ -78,40 +77,35 @@ description-good image ds e =
       apart = and-right (count && each) (allDisjoint ds) g;
     }
 
--- the list was copied into slices of the right length
-module _ (image : Bytes) (areas : List ℕ) (n : ℕ) (os ls : List ℕ) (k : Copied areas mostAreas n os ls) where
-  abbrev copy : List Descriptor
-  copy = described (take n os) (take n ls)
+-- the list has n entries, which are its first pairs
+module _ (image : Bytes) (areas : List ℕ) (n : ℕ) (k : Counted areas n) where
+  abbrev entries : List Descriptor
+  entries = paired (take (n * 2) areas)
 
-  pub list-empty : n ≡ 0 → GoodList image (listed (paired areas)) 0 os ls
-  list-empty h = let e = k .count in not-good image _ os ls (bad-empty image _ (omega arith))
+  pub list-empty : n ≡ 0 → GoodList image areas 0
+  list-empty h = not-good image areas (bad-empty image _ (counted-length areas n k ∙ h))
 
-  pub list-long : mostAreas < n → GoodList image (listed (paired areas)) 0 os ls
-  list-long h = let e = k .count in not-good image _ os ls (bad-many image _ (omega arith))
+  pub list-long : mostAreas < n → GoodList image areas 0
+  list-long h = not-good image areas (bad-many image _ (omega (arith, counted-length areas n k)))
 
-  pub list-bad : (n ≡ 0 → ⊥) → n ≤ mostAreas → (all (goodArea (length image)) copy && allDisjoint copy) ≡ false
-      → GoodList image (listed (paired areas)) 0 os ls
+  pub list-bad : (n ≡ 0 → ⊥) → n ≤ mostAreas → (all (goodArea (length image)) entries && allDisjoint entries) ≡ false → GoodList image areas 0
   list-bad h g b =
-      let e = k .count in
-      not-good image _ os ls (bad-areas image _ (rw (k .copies g) at b) (omega arith) (omega arith))
+      let e = counted-length areas n k in
+      not-good image areas (bad-areas image _ (rw (k .is) at b) (omega arith) (omega arith))
 
-  pub list-good : (n ≡ 0 → ⊥) → n ≤ mostAreas → (all (goodArea (length image)) copy && allDisjoint copy) ≡ true → length image ≤ largestImage
-      → GoodList image (listed (paired areas)) n os ls
+  pub list-good : (n ≡ 0 → ⊥) → n ≤ mostAreas → (all (goodArea (length image)) entries && allDisjoint entries) ≡ true → length image ≤ largestImage
+      → GoodList image areas n
   list-good h g b s =
-      let e = k .count in
+      let e = counted-length areas n k in
       record {
-        within = g;
+        few = g;
+        within = k .within;
         refused = λ z. absurd (h z);
-        passed = λ z. good-description image _ (rw (k .copies g) at b) s (omega arith) (omega arith);
-        is = λ z. k .copies g;
+        passed = λ z. good-description image _ (rw (k .is) at b) s (omega arith) (omega arith);
+        is = λ z. k .is;
       }
 
--- the slices stand for good areas
-pub listed-good : (image : Bytes) (ds : List Descriptor) (n : ℕ) (os ls : List ℕ) → GoodList image ds n os ls → (n ≡ 0 → ⊥)
-    → length os ≡ mostAreas → length ls ≡ mostAreas → Good (length image) (take n os) (take n ls)
-listed-good image ds n os ls g h a b =
-    let w = g .within in
-    record {
-      pairs = omega (arith, length-take n os, length-take n ls);
-      good = ap (all (goodArea (length image))) (g .is h) ∙ description-good image ds (g .passed h) .each;
-    }
+-- the pairs stand for good areas
+pub listed-good : (image : Bytes) (areas : List ℕ) (n : ℕ) → GoodList image areas n → (n ≡ 0 → ⊥)
+    → all (goodArea (length image)) (paired (take (n * 2) areas)) ≡ true
+listed-good image areas n g h = ap (all (goodArea (length image))) (g .is h) ∙ description-good image (areaList areas) (g .passed h) .each

@@ -1,41 +1,27 @@
-// Area descriptors: the lent list copied out and its areas tested, which is check 1.
-// A list of descriptors is two slices of one length, offsets and lengths; `described` is the list that they stand for.
+// Check 1: the area list as it is lent, offset and length in turn, and whether its areas are good.
+// Behind check 1 a list of areas is two lists of one length, offsets and lengths; `described` is the list that they stand for.
 ghost use mathlib.Core.Path.{_≡_};
-ghost use mathlib.Core.Bool.{true, _&&_};
+ghost use mathlib.Core.Bool.{_&&_};
 ghost use Prim.Native.Nat.{_+_};
 ghost use lib.ListN.{length};
 ghost use Rattle.volume.specs.Lists.{all};
-ghost use Rattle.calls.specs.Areas.{listed, paired, mostAreas, goodArea, disjoint, allDisjoint};
-ghost use Rattle.descriptors.specs.Described.{areaOf, described};
-ghost use Rattle.descriptors.specs.Listing.{Copied};
+ghost use Rattle.calls.specs.Areas.{paired, goodArea, disjoint, allDisjoint};
+ghost use Rattle.descriptors.specs.Described.{areaOf};
+ghost use Rattle.descriptors.specs.Listing.{Counted};
 ghost use Rattle.descriptors.specs.Description.{GoodList};
+use calls::LARGEST_IMAGE;
+use calls::MOST_AREAS;
+use calls::SHORTEST_AREA;
 
-// The most areas that a list may describe.
-pub const MOST_AREAS: usize = 8;
-
-// The shortest area.
-const SHORTEST_AREA: usize = 128;
-
-// The longest area, and the largest image.
-pub const LARGEST_IMAGE: usize = 65536;
-
-// Copies the entries of the list into the first places of `offsets` and `lengths` and answers their number;
-// where there are more than the places, one more than the places.
-fn list_areas(areas: &[u32], offsets: &mut [u32], lengths: &mut [u32]) -> usize
-    requires { ⌜ length (now offsets) ≡ length (now lengths) ⌝ }
-    ensures { λ r. ⌜ Copied (now (areas .entry)) (length (now (offsets .entry))) r (now (offsets .exit)) (now (lengths .exit)) ⌝ }
+// How many entries a list has: it ends at the first length 0 or at its end.
+fn count_areas(areas: &[u32]) -> usize
+    ensures { λ r. ⌜ Counted (now (areas .entry)) r ⌝ }
 {
     let mut n = 0;
     while n < areas.len() / 2 {
-        let length = areas[n * 2 + 1];
-        if length == 0 {
+        if areas[n * 2 + 1] == 0 {
             return n;
         }
-        if n == offsets.len() {
-            return n + 1;
-        }
-        offsets[n] = areas[n * 2];
-        lengths[n] = length;
         n += 1;
     }
     n
@@ -62,14 +48,13 @@ fn good_area(size: usize, offset: u32, span: u32) -> bool
     area_end(offset, span) <= size
 }
 
-// Whether every area is good.
-fn all_good(size: usize, offsets: &[u32], lengths: &[u32]) -> bool
-    requires { ⌜ length (now offsets) ≡ length (now lengths) ⌝ }
-    ensures { λ r. ⌜ r ≡ all (goodArea size) (described (now (offsets .entry)) (now (lengths .entry))) ⌝ }
+// Whether every area of some pairs is good.
+fn all_good(size: usize, pairs: &[u32]) -> bool
+    ensures { λ r. ⌜ r ≡ all (goodArea size) (paired (now (pairs .entry))) ⌝ }
 {
     let mut i = 0;
-    while i < offsets.len() {
-        if good_area(size, offsets[i], lengths[i]) {} else {
+    while i < pairs.len() / 2 {
+        if good_area(size, pairs[i * 2], pairs[i * 2 + 1]) {} else {
             return false;
         }
         i += 1;
@@ -87,14 +72,13 @@ fn disjoint(offset: u32, span: u32, other: u32, extent: u32) -> bool
     area_end(other, extent) <= offset as usize
 }
 
-// Whether an area has no byte in common with any of these.
-fn disjoint_from(offset: u32, span: u32, offsets: &[u32], lengths: &[u32]) -> bool
-    requires { ⌜ length (now offsets) ≡ length (now lengths) ⌝ }
-    ensures { λ r. ⌜ r ≡ all (disjoint (areaOf offset span)) (described (now (offsets .entry)) (now (lengths .entry))) ⌝ }
+// Whether an area has no byte in common with any of some pairs.
+fn disjoint_from(offset: u32, span: u32, pairs: &[u32]) -> bool
+    ensures { λ r. ⌜ r ≡ all (disjoint (areaOf offset span)) (paired (now (pairs .entry))) ⌝ }
 {
     let mut i = 0;
-    while i < offsets.len() {
-        if disjoint(offset, span, offsets[i], lengths[i]) {} else {
+    while i < pairs.len() / 2 {
+        if disjoint(offset, span, pairs[i * 2], pairs[i * 2 + 1]) {} else {
             return false;
         }
         i += 1;
@@ -102,55 +86,47 @@ fn disjoint_from(offset: u32, span: u32, offsets: &[u32], lengths: &[u32]) -> bo
     true
 }
 
-// Whether no two areas overlap.
-fn all_disjoint(offsets: &[u32], lengths: &[u32]) -> bool
-    requires { ⌜ length (now offsets) ≡ length (now lengths) ⌝ }
-    ensures { λ r. ⌜ r ≡ allDisjoint (described (now (offsets .entry)) (now (lengths .entry))) ⌝ }
+// Whether no two areas of some pairs overlap.
+fn all_disjoint(pairs: &[u32]) -> bool
+    ensures { λ r. ⌜ r ≡ allDisjoint (paired (now (pairs .entry))) ⌝ }
 {
     let mut i = 0;
-    while i < offsets.len() {
-        let next = i + 1;
-        if disjoint_from(offsets[i], lengths[i], &offsets[next..], &lengths[next..]) {} else {
+    while i < pairs.len() / 2 {
+        let later = (i + 1) * 2;
+        if disjoint_from(pairs[i * 2], pairs[i * 2 + 1], &pairs[later..]) {} else {
             return false;
         }
-        i = next;
+        i += 1;
     }
     true
 }
 
-// Whether the areas are good and no two of them overlap.
-fn good_areas(size: usize, offsets: &[u32], lengths: &[u32]) -> bool
-    requires { ⌜ length (now offsets) ≡ length (now lengths) ⌝ }
-    ensures { λ r. ⌜ r ≡ (all (goodArea size) (described (now (offsets .entry)) (now (lengths .entry)))
-        && allDisjoint (described (now (offsets .entry)) (now (lengths .entry)))) ⌝ }
+// Whether the areas of some pairs are good and no two of them overlap.
+fn good_areas(size: usize, pairs: &[u32]) -> bool
+    ensures { λ r. ⌜ r ≡ (all (goodArea size) (paired (now (pairs .entry))) && allDisjoint (paired (now (pairs .entry)))) ⌝ }
 {
-    if all_good(size, offsets, lengths) {} else {
+    if all_good(size, pairs) {} else {
         return false;
     }
-    all_disjoint(offsets, lengths)
+    all_disjoint(pairs)
 }
 
-// Check 1: lists the areas of a good description and answers their number, or 0 for a bad one.
-pub fn list_good_areas(
-    image: &[u8],
-    areas: &[u32],
-    offsets: &mut [u32],
-    lengths: &mut [u32],
-) -> usize
-    requires { ⌜ (length (now offsets) ≡ mostAreas) × (length (now lengths) ≡ mostAreas) ⌝ }
-    ensures { λ r. ⌜ GoodList (now (image .entry)) (listed (paired (now (areas .entry)))) r (now (offsets .exit)) (now (lengths .exit)) ⌝ }
+// Check 1: the number of areas of a good list, which are its first pairs, or 0 for a bad one.
+pub fn count_good_areas(image: &[u8], areas: &[u32]) -> usize
+    ensures { λ r. ⌜ GoodList (now (image .entry)) (now (areas .entry)) r ⌝ }
 {
     if image.len() > LARGEST_IMAGE {
         return 0;
     }
-    let n = list_areas(areas, &mut *offsets, &mut *lengths);
+    let n = count_areas(areas);
     if n == 0 {
         return 0;
     }
     if n > MOST_AREAS {
         return 0;
     }
-    if good_areas(image.len(), &offsets[..n], &lengths[..n]) {} else {
+    let end = n * 2;
+    if good_areas(image.len(), &areas[0..end]) {} else {
         return 0;
     }
     n

@@ -2,3 +2,4 @@
 pub mod Gather
 pub mod Agreement
 pub mod Laws
+pub mod Parts

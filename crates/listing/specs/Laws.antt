@@ -13,7 +13,7 @@ use Rattle.format.specs.AreaHeader.{areaHeaderSize}
 use Rattle.format.specs.Reading.{areaRecords}
 use Rattle.format_laws.specs.Taken.{recordsFrom, records-from}
 use Rattle.areas.specs.Laws.{Nexts}
-use Rattle.areas.specs.declared.Found.{Found}
+use Rattle.areas.specs.declared.Next.{Next}
 use Rattle.listing.specs.Listing.{starts, Room, Listed}
 
 -- listing has come to the place `at` of an area with k places: those and the ones to come make the whole
@@ -32,7 +32,7 @@ going-begins area base ps n r = record {
 }
 
 module _ (area : Bytes) (base : ℕ) (ps₀ : List ℕ) (n : ℕ) (ps : List ℕ) (k at : ℕ) (room : Room area base ps₀ n)
-    (g : Going area base ps₀ n ps k at) (f : Found) (x : Nexts area at f) where
+    (g : Going area base ps₀ n ps k at) (f : Next) (x : Nexts area at f) where
   pub going-ends : f .size ≡ 0 → Listed area base ps₀ n k ps
   unfolding starts
   going-ends z = record {

@@ -7,7 +7,8 @@ use Rattle.format.specs.Bytes.{Bytes}
 use Rattle.format.specs.Record.{recordSize}
 use Rattle.format.specs.AreaHeader.{areaHeaderSize}
 use Rattle.format.specs.Reading.{Placed, areaRecords}
-use Rattle.calls.specs.Mount.{recordsOf}
+use Rattle.calls.specs.Areas.{largestImage}
+use Rattle.calls.specs.Mount.{mostRecords, recordsOf}
 use Rattle.descriptors.specs.Described.{described}
 use Rattle.descriptors.specs.Places.{totalLength}
 use Rattle.calls.specs.declared.Descriptor.{Descriptor}
@@ -25,7 +26,7 @@ placesIn image (d ∷ ds) = starts (d .offset) (recordsOf image d) ++ placesIn i
 -- there is a place for each record: it has at least 20 bytes, and an area's header 24
 pub record Room (area : Bytes) (base : ℕ) (ps : List ℕ) (n : ℕ) : Type 0 where
   pub header : areaHeaderSize ≤ length area
-  pub inside : base + length area ≤ 65536
+  pub inside : base + length area ≤ largestImage
   pub room : 20 * n + length area ≤ 20 * length ps + areaHeaderSize
 
 pub record Listed (area : Bytes) (base : ℕ) (ps : List ℕ) (n r : ℕ) (ps′ : List ℕ) : Type 0 where
@@ -34,13 +35,13 @@ pub record Listed (area : Bytes) (base : ℕ) (ps : List ℕ) (n r : ℕ) (ps′
 
 -- file areas that lie in the image and are together no longer than it
 pub record Fit (image : Bytes) (os ls : List ℕ) : Type 0 where
-  pub small : length image ≤ 65536
+  pub small : length image ≤ largestImage
   pub pairs : length ls ≡ length os
   pub header : (i : ℕ) → i < length os → areaHeaderSize ≤ getD ls i 0
   pub inside : (i : ℕ) → i < length os → getD os i 0 + getD ls i 0 ≤ length image
-  pub apart : totalLength (described os ls) ≤ 65536
+  pub apart : totalLength (described os ls) ≤ largestImage
 
 -- and a place for each record that they can hold
 pub record Files (image : Bytes) (os ls ps : List ℕ) : Type 0 where
   pub fit : Fit image os ls
-  pub room : 3276 ≤ length ps
+  pub room : mostRecords ≤ length ps

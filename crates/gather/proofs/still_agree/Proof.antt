@@ -29,6 +29,9 @@ returns c =
 loop-holds : tie.Need-loop-holds Inv-loop μ-loop
 loop-holds c = (omega arith, refl)
 
+cast-q : tie.Need-cast-q Inv-loop μ-loop
+cast-q c = omega (arith, c .shared-slice-known3 .given (c .before .before .loop .i))
+
 are-twins-requires : tie.Need-are-twins-requires Inv-loop μ-loop
 are-twins-requires c κs =
     let n = c .before in
@@ -84,6 +87,7 @@ still-agree-spec =
     loop-holds
     (λ c. search needs)
     (λ c. search needs)
+    cast-q
     are-twins-requires
     same-bytes-requires
     returns-2

@@ -1,13 +1,13 @@
--- `areas::erased_end` meets its contract.
+-- `listing::erased_end` meets its contract.
 use Prim.Native.Nat.{_≤_, _-_}
 use mathlib.Core.Path.{_≡_, refl}
 use native.Mathlib.Omega.{arith}
 use borrow.Author.Needs.{needs}
 use lib.ListN.{length, take}
 use Rattle.format.specs.Reading.{erasedEnd}
-use Rattle.areas.specs.Laws.{erased-more, erased-again, erased-counted}
-use Rattle.areas.proofs.erased_end.Statement.{statement}
-use Rattle.areas.proofs.erased_end.Tie as tie
+use Rattle.listing.specs.Reading.{erased-more, erased-again, erased-counted}
+use Rattle.listing.proofs.erased_end.Statement.{statement}
+use Rattle.listing.proofs.erased_end.Tie as tie
 
 abbrev Inv-loop : tie.InvT-loop
 Inv-loop s n₀ i₀ n i = (i ≤ length s) × (n ≤ i) × (n ≡ erasedEnd (take i s))

@@ -1,8 +1,8 @@
--- `area_kinds::area_id` meets its contract.
-use Rattle.area_kinds.specs.Kinds.{id-byte}
+-- `areas::area_id` meets its contract.
+use Rattle.areas.specs.Kinds.{id-byte}
 use borrow.Author.Needs.{needs}
-use Rattle.area_kinds.proofs.area_id.Statement.{statement}
-use Rattle.area_kinds.proofs.area_id.Tie as tie
+use Rattle.areas.proofs.area_id.Statement.{statement}
+use Rattle.areas.proofs.area_id.Tie as tie
 
 returns : tie.Need-returns
 returns c = record { is = λ n h. id-byte (c .before .args .image .now) (c .before .args .offset) n h }

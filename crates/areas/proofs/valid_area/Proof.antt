@@ -1,4 +1,4 @@
--- `area_kinds::valid_area` meets its contract.
+-- `areas::valid_area` meets its contract.
 use Prim.Native.Nat.{_-_}
 use mathlib.Core.Path.{_≡_}
 use lib.ListN.{length, length-take, length-drop}
@@ -6,8 +6,8 @@ use Rattle.descriptors.specs.Described.{areaOf}
 use Rattle.descriptors.specs.Good.{fits}
 use native.Mathlib.Omega.{arith}
 use borrow.Author.Needs.{needs}
-use Rattle.area_kinds.proofs.valid_area.Statement.{statement}
-use Rattle.area_kinds.proofs.valid_area.Tie as tie
+use Rattle.areas.proofs.valid_area.Statement.{statement}
+use Rattle.areas.proofs.valid_area.Tie as tie
 
 part-valid-header-end : tie.Need-part-valid-header-end
 part-valid-header-end c =
