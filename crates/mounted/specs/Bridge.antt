@@ -1,0 +1,58 @@
+-- What the tables of a mounted volume tell of the volume that the calls speak of: places for bytes, and parts for slices.
+use Prim.Native.Nat.{ℕ, _+_, _-_, _≤_}
+use mathlib.Core.Path.{_≡_, sym, ap₂, _∙_}
+use mathlib.Core.List.{List}
+use native.Mathlib.Omega.{arith}
+use lib.ListN.{length, take, drop, length-take}
+use Rattle.format.specs.Bytes.{Bytes}
+use Rattle.volume.specs.View.{byBytes}
+use Rattle.volume.specs.Counting.{inodeOf, inodeIds}
+use Rattle.volume.specs.Tree.{children, lookupNames}
+use Rattle.volume_laws.specs.Map.{over, lookupNames-map, children-map, inodeOf-map, inodeIds-map}
+use Rattle.place_view.specs.Place.{byPlace, bytesAt}
+use Rattle.place_view.specs.Laws.{place-views}
+use Rattle.calls.specs.Areas.{mostAreas, fileAreas}
+use Rattle.calls.specs.Mount.{volume}
+use Rattle.calls.specs.declared.Descriptor.{Descriptor}
+use Rattle.descriptors.specs.Described.{described}
+use Rattle.listing.specs.Listing.{Fit}
+use Rattle.listing.specs.Bridge.{placedVolume, volume-places}
+use Rattle.listing.specs.Rows.{spansAt}
+use Rattle.table.specs.Parts.{lent, lent-front, both}
+use Rattle.table.specs.Rows.{InodeTable, RowsOf}
+use Rattle.mounted.specs.State.{inodeIdsAt, inodeSpotsAt, Safe, Holds}
+use Rattle.mounted.specs.declared.Mounted.{Mounted}
+
+-- the volume of the calls, by the places of its records
+module _ (image : Bytes) (ds : List Descriptor) where
+  pub names-are : (ns : List Bytes) → lookupNames (byPlace image) (placedVolume image ds) ns ≡ lookupNames byBytes (volume image ds) ns
+  names-are ns = sym (rw (volume-places image ds) (lookupNames-map (byPlace image) byBytes (bytesAt image) (place-views image) (placedVolume image ds) ns))
+
+  pub children-are : (d : ℕ) (n : Bytes) → children (byPlace image) (placedVolume image ds) d n ≡ children byBytes (volume image ds) d n
+  children-are d n = sym (rw (volume-places image ds) (children-map (byPlace image) byBytes (bytesAt image) (place-views image) (placedVolume image ds) d n))
+
+  pub inode-is : (i : ℕ) → inodeOf byBytes (volume image ds) i ≡ over (bytesAt image) (inodeOf (byPlace image) (placedVolume image ds) i)
+  inode-is i = rw (volume-places image ds) (inodeOf-map (byPlace image) byBytes (bytesAt image) (place-views image) (placedVolume image ds) i)
+
+  pub ids-are : inodeIds (byPlace image) (placedVolume image ds) ≡ inodeIds byBytes (volume image ds)
+  ids-are = sym (rw (volume-places image ds) (inodeIds-map (byPlace image) byBytes (bytesAt image) (place-views image) (placedVolume image ds)))
+
+-- ---- the parts, as the checker states what `&tables[a..a + n]` lends
+
+module _ {image : Bytes} {m : Mounted} {t : List ℕ} (s : Safe image m t) where
+  pub inodes-lent : InodeTable image (take (inodeIdsAt + m .inodes - inodeIdsAt) (drop inodeIdsAt t)) (take (inodeSpotsAt + m .inodes - inodeSpotsAt) (drop inodeSpotsAt t))
+  inodes-lent = both (InodeTable image) (lent inodeIdsAt (m .inodes) t) (lent inodeSpotsAt (m .inodes) t) (s .inodes)
+
+  pub fit-lent : Fit image (take (m .files - 0) t) (take (spansAt + m .files - spansAt) (drop spansAt t))
+  fit-lent = both (Fit image) (lent-front (m .files) t) (lent spansAt (m .files) t) (s .fit)
+
+  pub starts-few : length (take (m .files - 0) t) ≤ mostAreas
+  starts-few = omega (arith, s .files-few, length-take (m .files - 0) t)
+
+module _ {image : Bytes} {ds : List Descriptor} {m : Mounted} {t : List ℕ} (h : Holds image ds m t) where
+  pub rows-lent : RowsOf (byPlace image) (placedVolume image ds .inodes)
+      (take (inodeIdsAt + m .inodes - inodeIdsAt) (drop inodeIdsAt t)) (take (inodeSpotsAt + m .inodes - inodeSpotsAt) (drop inodeSpotsAt t))
+  rows-lent = both (RowsOf (byPlace image) (placedVolume image ds .inodes)) (lent inodeIdsAt (m .inodes) t) (lent inodeSpotsAt (m .inodes) t) (h .inodes)
+
+  pub files-lent : described (take (m .files - 0) t) (take (spansAt + m .files - spansAt) (drop spansAt t)) ≡ fileAreas image ds
+  files-lent = ap₂ described (lent-front (m .files) t) (lent spansAt (m .files) t) ∙ h .files
