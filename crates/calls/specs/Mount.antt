@@ -1,5 +1,5 @@
 -- Mounting: checks 1 to 7, and the records of a volume. Document 01, "Numbers of refusal" and "What counts".
-use Prim.Native.Nat.{ℕ}
+use Prim.Native.Nat.{ℕ, _/_}
 use mathlib.Core.List.{List, [], _∷_, _++_, map}
 use mathlib.Core.Bool.{Bool, true, not, _||_}
 use lib.ListN.{length}
@@ -42,6 +42,10 @@ mostInodes = 64
 
 abbrev pub mostBlocks : ℕ
 mostBlocks = 256
+
+-- the most records of an image: each has at least 20 bytes
+abbrev pub mostRecords : ℕ
+mostRecords = largestImage / 20
 
 unfoldable pub badDescription : Bytes → List Descriptor → Bool
 badDescription image ds = ltb largestImage (length image) || not (goodAreas (length image) ds)

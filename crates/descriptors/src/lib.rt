@@ -19,6 +19,9 @@ const SHORTEST_AREA: usize = 128;
 // The longest area, and the largest image.
 pub const LARGEST_IMAGE: usize = 65536;
 
+// The most records of an image: each has at least 20 bytes.
+pub const MOST_RECORDS: usize = LARGEST_IMAGE / 20;
+
 // Copies the entries of the list into the first places of `offsets` and `lengths` and answers their number;
 // where there are more than the places, one more than the places.
 fn list_areas(areas: &[u32], offsets: &mut [u32], lengths: &mut [u32]) -> usize
