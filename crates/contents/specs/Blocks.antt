@@ -1,10 +1,9 @@
 -- What a table of blocks tells of a file. Document 01, "What counts": the counting blocks that name it as owner.
-use Prim.Native.Nat.{ℕ, zero, suc, _<_}
-use mathlib.Core.Path.{_≡_}
-use mathlib.Core.Bool.{Bool, true, cond, not, _&&_}
+use Prim.Native.Nat.{ℕ, zero, suc}
+use mathlib.Core.Bool.{Bool, cond, not, _&&_}
 use mathlib.Core.Option.{Option, none, some}
 use mathlib.Core.List.{List, [], _∷_}
-use lib.ListN.{length, getD}
+use lib.ListN.{length}
 use lib.Dec.{eqb}
 use Rattle.format.specs.Bytes.{Bytes}
 use Rattle.volume.specs.Lists.{keep, all, bind}
@@ -12,21 +11,16 @@ use Rattle.volume.specs.View.{View}
 use Rattle.volume.specs.Counting.{Volume}
 use Rattle.volume.specs.Contents.{textOf}
 use Rattle.volume_laws.specs.Map.{over}
-use Rattle.place_view.specs.Place.{blockAt, byPlace}
-use Rattle.table.specs.Table.{taken, Rows, Good}
+use Rattle.place_view.specs.Place.{byPlace}
+use Rattle.table.specs.Rows.{RowsOf}
 use Rattle.contents.specs.declared.Last.{Last}
 use Rattle.contents.specs.declared.Last.the-variants.{Start, Several}
 use Rattle.contents.specs.declared.Size.{Size}
 use Rattle.contents.specs.declared.Size.the-variants.{Whole, Broken}
 
--- the table is that of the blocks of a volume, held by their places
-abbrev pub BlocksOf : Bytes → List ℕ → List ℕ → List ℕ → Volume ℕ → Type 0
-BlocksOf image words ids spots v = Rows (byPlace image) (v .blocks) (taken words) ids spots
-
--- a table that may be used, and of blocks only, so that in each row a data length stands where a block's header has it
-pub record BlockTable (image : Bytes) (words ids spots : List ℕ) : Type 0 where
-  pub good : Good image words ids spots
-  pub blocks : (k : ℕ) → k < taken words → blockAt image (getD spots k 0) ≡ true
+-- the rows are those of the blocks of a volume, held by their places
+abbrev pub BlocksOf : Bytes → List ℕ → List ℕ → Volume ℕ → Type 0
+BlocksOf image ids spots v = RowsOf (byPlace image) (v .blocks) ids spots
 
 -- what an answer of `last_block` says
 abbrev pub lastOf : Last → Option ℕ

@@ -17,9 +17,10 @@ use Rattle.volume.specs.Contents.{snoc, owns, owned, lastBlock, chainBack, file
 use Rattle.volume_laws.specs.Map.{over, overVolume, fileBlocks-map, textOf-map}
 use Rattle.place_view.specs.Place.{blockAt, sizeAt, bytesAt, byPlace, Lies}
 use Rattle.place_view.specs.Laws.{size-block, place-views}
-use Rattle.table.specs.Table.{taken, rowOf, found}
-use Rattle.table.specs.Laws.{held-some, found-lies}
-use Rattle.contents.specs.Blocks.{BlocksOf, BlockTable, textSize, blockFor}
+use Rattle.table.specs.Table.{rowOf, found}
+use Rattle.table.specs.Laws.{held-some}
+use Rattle.table.specs.Rows.{BlockTable, found-in}
+use Rattle.contents.specs.Blocks.{BlocksOf, textSize, blockFor}
 
 -- ---- the block that is looked for
 
@@ -142,15 +143,15 @@ module _ {A : Type 0} (F : View A) where
 -- ---- over a table
 
 -- a row that is found holds a block that lies in the image
-module _ {image : Bytes} {words ids spots : List ℕ} (table : BlockTable image words ids spots) (f i p : ℕ)
-    (e : some p ≡ blockFor (byPlace image) f (found (taken words) ids spots) i) where
+module _ {image : Bytes} {ids spots : List ℕ} (table : BlockTable image ids spots) (f i p : ℕ)
+    (e : some p ≡ blockFor (byPlace image) f (found (length ids) ids spots) i) where
   pub own-lies : Lies image p
-  own-lies = found-lies (table .good) i p (block-found (byPlace image) f (found (taken words) ids spots) i p e)
+  own-lies = found-in (table .usable) i p (block-found (byPlace image) f (found (length ids) ids spots) i p e)
 
   pub own-block : blockAt image p ≡ true
   own-block =
-      let h = held-some (taken words) spots (rowOf (taken words) ids i) p (block-found (byPlace image) f (found (taken words) ids spots) i p e) in
-      rw (h .1) at (table .blocks (rowOf (taken words) ids i) (h .0))
+      let h = held-some (length ids) spots (rowOf (length ids) ids i) p (block-found (byPlace image) f (found (length ids) ids spots) i p e) in
+      rw (h .1) at (table .kind (rowOf (length ids) ids i) (h .0))
 
 -- the data of a block
 module _ (image : Bytes) (p : ℕ) (lies : Lies image p) (block : blockAt image p ≡ true) where
@@ -173,8 +174,8 @@ module _ (image : Bytes) (p : ℕ) (lies : Lies image p) (block : blockAt image 
       ap (λ (k : ℕ). take k (drop (p + 24) image)) z ∙ sym data-is
 
 -- the blocks of a volume, as the table has them
-module _ (image : Bytes) (words ids spots : List ℕ) (v : Volume ℕ) (rows : BlocksOf image words ids spots v) (f : ℕ) where
-  counts : blockOf (byPlace image) v ≡ found (taken words) ids spots
+module _ (image : Bytes) (ids spots : List ℕ) (v : Volume ℕ) (rows : BlocksOf image ids spots v) (f : ℕ) where
+  counts : blockOf (byPlace image) v ≡ found (length ids) ids spots
   counts = λ j i. rows .counts i j
 
   pub file-broken : none ≡ lastBlock (byPlace image) v f → fileBlocks (byPlace image) v f ≡ none
@@ -182,7 +183,7 @@ module _ (image : Bytes) (words ids spots : List ℕ) (v : Volume ℕ) (rows : B
   file-broken e = rw (← e)
 
   pub file-chain : (i n : ℕ) → some i ≡ lastBlock (byPlace image) v f → n ≡ length (owned (byPlace image) v f)
-      → fileBlocks (byPlace image) v f ≡ chainBack (byPlace image) (found (taken words) ids spots) f n i
+      → fileBlocks (byPlace image) v f ≡ chainBack (byPlace image) (found (length ids) ids spots) f n i
   unfolding fileBlocks
   file-chain i n e m = rw (← e, ← m, counts)
 

@@ -1,22 +1,24 @@
-// The contents of a file over the mounted block table: its last block, the number of its blocks and its size.
+// The contents of a file by the taken rows of the table of blocks: its last block, the number of its blocks and its size.
 ghost use mathlib.Core.Path.{_≡_};
 ghost use mathlib.Core.Bool.{true, _&&_};
 ghost use Prim.Native.Nat.{ℕ, _+_, _*_, _≤_, _<_};
-ghost use lib.ListN.{length, take, drop};
+ghost use lib.ListN.{length, drop};
 ghost use lib.Dec.{eqb};
 ghost use Rattle.volume.specs.Counting.{Volume};
 ghost use Rattle.volume.specs.Contents.{owned, lastBlock, chainBack, fileBlocks};
+ghost use Rattle.calls.specs.Mount.{mostBlocks};
 ghost use Rattle.place_view.specs.Place.{byPlace, blockAt, Lies, AllLie};
-ghost use Rattle.table.specs.Table.{taken, found, Good, spotOf};
-ghost use Rattle.contents.specs.Blocks.{BlocksOf, BlockTable, lastOf, sizeOf, bytesOf, textSize, firstOf, mine, free, isEnd, blockFor};
+ghost use Rattle.table.specs.Table.{found, spotOf};
+ghost use Rattle.table.specs.Rows.{Usable, BlockTable};
+ghost use Rattle.contents.specs.Blocks.{BlocksOf, lastOf, sizeOf, bytesOf, textSize, firstOf, free, isEnd, blockFor};
 use fields::load16;
-use fields::load32;
-use occupancy::taken;
+use place_view::id_at;
+use place_view::link_at;
+use place_view::previous_at;
+use records::BlockHeader;
+use records::NONE;
 use table::Spot;
 use table::find;
-
-// The id that names no block.
-const NONE: u32 = 0xffffffff;
 
 // Where a file's chain of blocks starts that is followed back.
 pub enum Last {
@@ -38,15 +40,7 @@ fn is_mine(image: &[u8], p: u32, file: u32) -> bool
     requires { ⌜ Lies (now image) p ⌝ }
     ensures { λ r. ⌜ r ≡ eqb (byPlace (now (image .entry)) .owner p) file ⌝ }
 {
-    load32(image, p as usize + 12) == file
-}
-
-// The block before the one at `p`.
-pub fn previous(image: &[u8], p: u32) -> u32
-    requires { ⌜ Lies (now image) p ⌝ }
-    ensures { λ r. ⌜ r ≡ byPlace (now (image .entry)) .previous p ⌝ }
-{
-    load32(image, p as usize + 16)
+    link_at(image, p) == file
 }
 
 // Whether the block at `p` names the file as owner and `id` as the block before it.
@@ -55,17 +49,17 @@ fn names(image: &[u8], p: u32, file: u32, id: u32) -> bool
     ensures { λ r. ⌜ r ≡ (eqb (byPlace (now (image .entry)) .owner p) file && eqb (byPlace (now (image .entry)) .previous p) id) ⌝ }
 {
     if is_mine(image, p, file) {
-        return previous(image, p) == id;
+        return previous_at(image, p) == id;
     }
     false
 }
 
-// Whether no block of the file in the first `n` rows names `id`.
-fn is_free(image: &[u8], spots: &[u32], n: usize, file: u32, id: u32) -> bool
-    requires { ⌜ n ≤ length (now spots) ⌝ }
-    requires { ⌜ AllLie (now image) (now spots) n ⌝ }
-    ensures { λ r. ⌜ r ≡ free (byPlace (now (image .entry))) file (take n (now (spots .entry))) id ⌝ }
+// Whether no block of the file, of those at `spots`, names `id`.
+fn is_free(image: &[u8], spots: &[u32], file: u32, id: u32) -> bool
+    requires { ⌜ AllLie (now image) (now spots) (length (now spots)) ⌝ }
+    ensures { λ r. ⌜ r ≡ free (byPlace (now (image .entry))) file (now (spots .entry)) id ⌝ }
 {
+    let n = spots.len();
     let mut k = 0;
     while k < n {
         if names(image, spots[k], file, id) {
@@ -77,29 +71,28 @@ fn is_free(image: &[u8], spots: &[u32], n: usize, file: u32, id: u32) -> bool
 }
 
 // Whether the block at `p` is one of the file that none of its blocks names.
-fn is_end(image: &[u8], spots: &[u32], n: usize, file: u32, p: u32) -> bool
-    requires { ⌜ n ≤ length (now spots) ⌝ }
-    requires { ⌜ AllLie (now image) (now spots) n ⌝ }
+fn is_end(image: &[u8], spots: &[u32], file: u32, p: u32) -> bool
+    requires { ⌜ AllLie (now image) (now spots) (length (now spots)) ⌝ }
     requires { ⌜ Lies (now image) p ⌝ }
-    ensures { λ r. ⌜ r ≡ isEnd (byPlace (now (image .entry))) file (take n (now (spots .entry))) p ⌝ }
+    ensures { λ r. ⌜ r ≡ isEnd (byPlace (now (image .entry))) file (now (spots .entry)) p ⌝ }
 {
     if is_mine(image, p, file) {
-        return is_free(image, spots, n, file, load32(image, p as usize + 4));
+        return is_free(image, spots, file, id_at(image, p));
     }
     false
 }
 
-// The first row from `from` on that has such a block, or `n` where there is none.
-fn next_end(image: &[u8], spots: &[u32], n: usize, file: u32, from: usize) -> usize
-    requires { ⌜ n ≤ length (now spots) ⌝ }
-    requires { ⌜ AllLie (now image) (now spots) n ⌝ }
-    requires { ⌜ from ≤ n ⌝ }
-    ensures first { λ r. ⌜ r ≡ from + firstOf (isEnd (byPlace (now (image .entry))) file (take n (now (spots .entry)))) (drop from (take n (now (spots .entry)))) ⌝ }
-    ensures within { λ r. ⌜ r ≤ n ⌝ }
+// The first row from `from` on that has such a block; the number of rows where there is none.
+fn next_end(image: &[u8], spots: &[u32], file: u32, from: usize) -> usize
+    requires { ⌜ AllLie (now image) (now spots) (length (now spots)) ⌝ }
+    requires { ⌜ from ≤ length (now spots) ⌝ }
+    ensures first { λ r. ⌜ r ≡ from + firstOf (isEnd (byPlace (now (image .entry))) file (now (spots .entry))) (drop from (now (spots .entry))) ⌝ }
+    ensures within { λ r. ⌜ r ≤ length (now (spots .entry)) ⌝ }
 {
+    let n = spots.len();
     let mut k = from;
     while k < n {
-        if is_end(image, spots, n, file, spots[k]) {
+        if is_end(image, spots, file, spots[k]) {
             return k;
         }
         k += 1;
@@ -108,28 +101,28 @@ fn next_end(image: &[u8], spots: &[u32], n: usize, file: u32, from: usize) -> us
 }
 
 // Where the file's chain starts: at the one block of it that none of its blocks names.
-pub fn last_block(image: &[u8], words: &[u64], ids: &[u32], spots: &[u32], file: u32) -> Last
-    requires { ⌜ Good (now image) (now words) (now ids) (now spots) ⌝ }
-    ensures { λ r. ⌜ ((v : Volume ℕ) → BlocksOf (now (image .entry)) (now (words .entry)) (now (ids .entry)) (now (spots .entry)) v → lastOf r ≡ lastBlock (byPlace (now (image .entry))) v file) ⌝ }
+pub fn last_block(image: &[u8], ids: &[u32], spots: &[u32], file: u32) -> Last
+    requires { ⌜ Usable (now image) (now ids) (now spots) ⌝ }
+    ensures { λ r. ⌜ ((v : Volume ℕ) → BlocksOf (now (image .entry)) (now (ids .entry)) (now (spots .entry)) v → lastOf r ≡ lastBlock (byPlace (now (image .entry))) v file) ⌝ }
 {
-    let n = taken(words);
-    let end = next_end(image, spots, n, file, 0);
+    let n = ids.len();
+    let end = next_end(image, spots, file, 0);
     if end == n {
         return Last::Start(NONE);
     }
-    if next_end(image, spots, n, file, end + 1) < n {
+    if next_end(image, spots, file, end + 1) < n {
         return Last::Several;
     }
-    Last::Start(load32(image, spots[end] as usize + 4))
+    Last::Start(id_at(image, spots[end]))
 }
 
 // How many counting blocks name the file as owner.
-pub fn owned_count(image: &[u8], words: &[u64], ids: &[u32], spots: &[u32], file: u32) -> usize
-    requires { ⌜ Good (now image) (now words) (now ids) (now spots) ⌝ }
-    ensures counted { λ r. ⌜ ((v : Volume ℕ) → BlocksOf (now (image .entry)) (now (words .entry)) (now (ids .entry)) (now (spots .entry)) v → r ≡ length (owned (byPlace (now (image .entry))) v file)) ⌝ }
-    ensures few { λ r. ⌜ r ≤ 65536 ⌝ }
+pub fn owned_count(image: &[u8], ids: &[u32], spots: &[u32], file: u32) -> usize
+    requires { ⌜ Usable (now image) (now ids) (now spots) ⌝ }
+    ensures counted { λ r. ⌜ ((v : Volume ℕ) → BlocksOf (now (image .entry)) (now (ids .entry)) (now (spots .entry)) v → r ≡ length (owned (byPlace (now (image .entry))) v file)) ⌝ }
+    ensures few { λ r. ⌜ r ≤ length (now (ids .entry)) ⌝ }
 {
-    let n = taken(words);
+    let n = ids.len();
     let mut count = 0;
     let mut k = 0;
     while k < n {
@@ -144,18 +137,11 @@ pub fn owned_count(image: &[u8], words: &[u64], ids: &[u32], spots: &[u32], file
 }
 
 // The place of the counting block `id`, if it names the file as owner.
-pub fn own_block(
-    image: &[u8],
-    words: &[u64],
-    ids: &[u32],
-    spots: &[u32],
-    file: u32,
-    id: u32,
-) -> Spot
-    requires { ⌜ Good (now image) (now words) (now ids) (now spots) ⌝ }
-    ensures { λ r. ⌜ spotOf r ≡ blockFor (byPlace (now (image .entry))) file (found (taken (now (words .entry))) (now (ids .entry)) (now (spots .entry))) id ⌝ }
+pub fn own_block(image: &[u8], ids: &[u32], spots: &[u32], file: u32, id: u32) -> Spot
+    requires { ⌜ Usable (now image) (now ids) (now spots) ⌝ }
+    ensures { λ r. ⌜ spotOf r ≡ blockFor (byPlace (now (image .entry))) file (found (length (now (ids .entry))) (now (ids .entry)) (now (spots .entry))) id ⌝ }
 {
-    let Spot::At(p) = find(words, ids, spots, id) else {
+    let Spot::At(p) = find(ids, spots, id) else {
         return Spot::Nowhere;
     };
     if is_mine(image, p, file) {
@@ -172,33 +158,32 @@ pub fn data_length(image: &[u8], p: u32) -> usize
     ensures lies { λ r. ⌜ p + 24 + r ≤ length (now (image .entry)) ⌝ }
     ensures small { λ r. ⌜ r < 65536 ⌝ }
 {
-    load16(image, p as usize + 20) as usize
+    load16(image, p as usize + BlockHeader::LENGTH_AT) as usize
 }
 
 // The size of a chain of just `count` blocks of the file, followed back from `start`. The count makes a chain that loops end.
 pub fn chain_size(
     image: &[u8],
-    words: &[u64],
     ids: &[u32],
     spots: &[u32],
     file: u32,
     start: u32,
     count: usize,
 ) -> Size
-    requires { ⌜ BlockTable (now image) (now words) (now ids) (now spots) ⌝ }
-    requires { ⌜ count ≤ 65536 ⌝ }
+    requires { ⌜ BlockTable (now image) (now ids) (now spots) ⌝ }
+    requires { ⌜ count ≤ mostBlocks ⌝ }
     ensures small { λ r. ⌜ bytesOf r ≤ count * 65535 ⌝ }
-    ensures told { λ r. ⌜ sizeOf r ≡ textSize (byPlace (now (image .entry))) (chainBack (byPlace (now (image .entry))) (found (taken (now (words .entry))) (now (ids .entry)) (now (spots .entry))) file count start) ⌝ }
+    ensures told { λ r. ⌜ sizeOf r ≡ textSize (byPlace (now (image .entry))) (chainBack (byPlace (now (image .entry))) (found (length (now (ids .entry))) (now (ids .entry)) (now (spots .entry))) file count start) ⌝ }
 {
     let mut id = start;
     let mut left = count;
     let mut size = 0;
     while left > 0 {
-        let Spot::At(p) = own_block(image, words, ids, spots, file, id) else {
+        let Spot::At(p) = own_block(image, ids, spots, file, id) else {
             return Size::Broken;
         };
         size += data_length(image, p);
-        id = previous(image, p);
+        id = previous_at(image, p);
         left -= 1;
     }
     if id == NONE {
@@ -208,13 +193,14 @@ pub fn chain_size(
 }
 
 // The size of the file's contents.
-pub fn file_size(image: &[u8], words: &[u64], ids: &[u32], spots: &[u32], file: u32) -> Size
-    requires { ⌜ BlockTable (now image) (now words) (now ids) (now spots) ⌝ }
-    ensures { λ r. ⌜ ((v : Volume ℕ) → BlocksOf (now (image .entry)) (now (words .entry)) (now (ids .entry)) (now (spots .entry)) v → sizeOf r ≡ textSize (byPlace (now (image .entry))) (fileBlocks (byPlace (now (image .entry))) v file)) ⌝ }
+pub fn file_size(image: &[u8], ids: &[u32], spots: &[u32], file: u32) -> Size
+    requires { ⌜ BlockTable (now image) (now ids) (now spots) ⌝ }
+    requires { ⌜ length (now ids) ≤ mostBlocks ⌝ }
+    ensures { λ r. ⌜ ((v : Volume ℕ) → BlocksOf (now (image .entry)) (now (ids .entry)) (now (spots .entry)) v → sizeOf r ≡ textSize (byPlace (now (image .entry))) (fileBlocks (byPlace (now (image .entry))) v file)) ⌝ }
 {
-    let Last::Start(start) = last_block(image, words, ids, spots, file) else {
+    let Last::Start(start) = last_block(image, ids, spots, file) else {
         return Size::Broken;
     };
-    let count = owned_count(image, words, ids, spots, file);
-    chain_size(image, words, ids, spots, file, start, count)
+    let count = owned_count(image, ids, spots, file);
+    chain_size(image, ids, spots, file, start, count)
 }

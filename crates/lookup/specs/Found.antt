@@ -1,30 +1,23 @@
--- What the inode table tells of directories, and what the code's answers say. Document 01, "Numbers of refusal" 9 to 11, and "Paths".
-use Prim.Native.Nat.{ℕ, _<_}
+-- What the rows of the table of inodes tell of directories, and what the code's answers say. Document 01, "Numbers of refusal" 9 to 11, and "Paths".
+use Prim.Native.Nat.{ℕ}
 use mathlib.Core.Path.{_≡_}
-use mathlib.Core.Bool.{false}
 use mathlib.Core.List.{List}
-use lib.ListN.{getD}
 use Rattle.format.specs.Bytes.{Bytes}
 use Rattle.format.specs.Ids.{isDirectoryId}
 use Rattle.volume.specs.Lists.{Only, nobody, several, one, only}
 use Rattle.volume.specs.View.{View}
 use Rattle.volume.specs.Counting.{Volume}
 use Rattle.volume.specs.Tree.{Found, found, absent, onward, children}
-use Rattle.place_view.specs.Place.{blockAt, byPlace}
-use Rattle.table.specs.Table.{taken, Rows, Good}
+use Rattle.place_view.specs.Place.{byPlace}
+use Rattle.table.specs.Rows.{RowsOf}
 use Rattle.lookup.specs.declared.Child.{Child}
 use Rattle.lookup.specs.declared.Child.the-variants.{Nobody, Several, One}
 use Rattle.lookup.specs.declared.Found.{Found as Told}
 use Rattle.lookup.specs.declared.Found.the-variants.{Inode, Absent}
 
--- the table is that of the inodes of a volume, held by their places
-abbrev pub InodesOf : Bytes → List ℕ → List ℕ → List ℕ → Volume ℕ → Type 0
-InodesOf image words ids spots v = Rows (byPlace image) (v .inodes) (taken words) ids spots
-
--- a table that may be used, and of inodes only, so that in each row a name's length stands where an inode's header has it
-pub record InodeTable (image : Bytes) (words ids spots : List ℕ) : Type 0 where
-  pub good : Good image words ids spots
-  pub inodes : (k : ℕ) → k < taken words → blockAt image (getD spots k 0) ≡ false
+-- the rows are those of the inodes of a volume, held by their places
+abbrev pub InodesOf : Bytes → List ℕ → List ℕ → Volume ℕ → Type 0
+InodesOf image ids spots v = RowsOf (byPlace image) (v .inodes) ids spots
 
 -- what an answer of `find_child` says
 abbrev pub onlyOf : Child → Only ℕ

@@ -2,33 +2,31 @@
 use Prim.Native.Nat.{ℕ, _+_, _-_, _≤_, _<_}
 use mathlib.Core.Path.{_≡_, refl, sym, ap, _∙_}
 use mathlib.Core.Logic.{_≢_}
-use mathlib.Core.Bool.{Bool, true, false, not, _&&_}
+use mathlib.Core.Bool.{Bool, true, false, _&&_}
 use mathlib.Core.List.{List, [], _∷_}
 use native.Mathlib.Omega.{arith}
-use lib.ListN.{getD, take, drop}
-use borrow.Author.Tests.{eq-eqb, ne-eqb, not-true}
+use lib.ListN.{length, getD, take, drop}
+use lib.Seq.{take-length}
+use borrow.Author.Tests.{eq-eqb, ne-eqb}
 use Rattle.format.specs.Bytes.{Bytes, byteAt}
 use Rattle.format.specs.Ids.{isDirectoryId}
 use Rattle.volume.specs.Lists.{keep, same, Only, nobody, several, one, only}
 use Rattle.volume.specs.View.{View}
-use Rattle.volume.specs.Counting.{Volume, volumeOf}
+use Rattle.volume.specs.Counting.{Volume}
 use Rattle.volume.specs.Fate.{isLive, fateOf}
 use Rattle.volume.specs.Tree.{Found, found, absent, onward, isEntry, isChild, children, walk, lookupNames}
-use Rattle.volume_laws.specs.Tests.{T→true}
-use Rattle.volume_laws.specs.Lists.{keep-mem}
-use Rattle.volume_laws.specs.Counting.{counting-mem}
 use Rattle.volume_laws.specs.Tree.{andThen}
 use Rattle.place_view.specs.Place.{blockAt, sizeAt, byPlace}
 use Rattle.place_view.specs.Laws.{size-inode}
-use Rattle.table.specs.Table.{taken, Good}
-use Rattle.table.specs.Laws.{row-counts, ids-room}
+use Rattle.table.specs.Laws.{row-counts}
+use Rattle.table.specs.Rows.{InodeTable}
 use Rattle.fate.specs.Fates.{liveBy}
 use Rattle.fate.specs.Laws.{fate-rows}
 use Rattle.contents.specs.Blocks.{firstOf}
 use Rattle.contents.specs.Rows.{kept-none, kept-some}
 use Rattle.paths.specs.Names.{anyNames, firstName, restNames}
 use Rattle.paths.specs.Walking.{names-none, names-some}
-use Rattle.lookup.specs.Found.{InodesOf, InodeTable, stepOf}
+use Rattle.lookup.specs.Found.{InodesOf, stepOf}
 
 -- ---- one inode
 
@@ -45,16 +43,16 @@ module _ (F : View ℕ) (d : ℕ) (n : Bytes) (p : ℕ) where
   unfolding isEntry
   entry-here e = rw (isEntry, eq-eqb (F .parent p) d e)
 
-module _ {image : Bytes} {words ids spots : List ℕ} (t : InodeTable image words ids spots) (v : Volume ℕ) (rows : InodesOf image words ids spots v) where
-  pub live-row : (i : ℕ) → liveBy (byPlace image) (taken words) ids spots i ≡ isLive (fateOf (byPlace image) v i)
-  live-row i = ap isLive (fate-rows (byPlace image) v (taken words) ids spots rows (ids-room (t .good .sized)) i)
+module _ {image : Bytes} {ids spots : List ℕ} (t : InodeTable image ids spots) (v : Volume ℕ) (rows : InodesOf image ids spots v) where
+  pub live-row : (i : ℕ) → liveBy (byPlace image) (length ids) ids spots i ≡ isLive (fateOf (byPlace image) v i)
+  live-row i = ap isLive (fate-rows (byPlace image) v (length ids) ids spots rows (omega arith) i)
 
   -- whether the inode of a row is a child
-  module _ (d : ℕ) (n : Bytes) (k : ℕ) (h : k < taken words) where
+  module _ (d : ℕ) (n : Bytes) (k : ℕ) (h : k < length ids) where
     child-row : isChild (byPlace image) v d n (getD ids k 0)
         ≡ (isEntry (byPlace image) d n (getD spots k 0) && isLive (fateOf (byPlace image) v (getD ids k 0)))
     unfolding isChild
-    child-row = rw (isChild, row-counts (byPlace image) (v .inodes) (taken words) ids spots rows (ids-room (t .good .sized)) k h)
+    child-row = rw (isChild, row-counts (byPlace image) (v .inodes) (length ids) ids spots rows (omega arith) k h)
 
     pub child-other : isEntry (byPlace image) d n (getD spots k 0) ≡ false → isChild (byPlace image) v d n (getD ids k 0) ≡ false
     child-other e = child-row ∙ rw e
@@ -69,29 +67,29 @@ module _ {image : Bytes} {words ids spots : List ℕ} (t : InodeTable image word
     abbrev test : ℕ → Bool
     test = isChild (byPlace image) v d n
 
-    children-rows : children (byPlace image) v d n ≡ keep test (take (taken words) ids)
+    children-rows : children (byPlace image) v d n ≡ keep test ids
     unfolding children
-    children-rows = rw (rows .ids-are)
+    children-rows = rw (← rows .ids-are, take-length ids)
 
-    module _ (a : ℕ) (first : a ≡ 0 + firstOf test (drop 0 (take (taken words) ids))) where
-      pub no-child : a ≡ taken words → nobody ≡ only (children (byPlace image) v d n)
+    module _ (a : ℕ) (first : a ≡ 0 + firstOf test (drop 0 ids)) where
+      pub no-child : a ≡ length ids → nobody ≡ only (children (byPlace image) v d n)
       unfolding only
       no-child e =
-          let k : keep test (take (taken words) ids) ≡ [] = kept-none test ids (taken words) 0 (ids-room (t .good .sized)) (omega arith) a first (omega arith) in
+          let k : keep test ids ≡ [] = kept-none test ids 0 (omega arith) a first (omega arith) in
           rw (children-rows, k)
 
       -- the first child and those after it
-      from-first : a < taken words → children (byPlace image) v d n ≡ getD ids a 0 ∷ keep test (drop (a + 1) (take (taken words) ids))
-      from-first h = children-rows ∙ kept-some test ids (taken words) 0 (ids-room (t .good .sized)) (omega arith) a first h
+      from-first : a < length ids → children (byPlace image) v d n ≡ getD ids a 0 ∷ keep test (drop (a + 1) ids)
+      from-first h = children-rows ∙ kept-some test ids 0 (omega arith) a first h
 
-      module _ (h : a < taken words) (b : ℕ) (second : b ≡ a + 1 + firstOf test (drop (a + 1) (take (taken words) ids))) where
-        pub more-children : b < taken words → several ≡ only (children (byPlace image) v d n)
+      module _ (h : a < length ids) (b : ℕ) (second : b ≡ a + 1 + firstOf test (drop (a + 1) ids)) where
+        pub more-children : b < length ids → several ≡ only (children (byPlace image) v d n)
         unfolding only
-        more-children g = rw (from-first h, kept-some test ids (taken words) (a + 1) (ids-room (t .good .sized)) (omega arith) b second g)
+        more-children g = rw (from-first h, kept-some test ids (a + 1) (omega arith) b second g)
 
-        pub one-child : taken words ≤ b → one (getD ids a 0) ≡ only (children (byPlace image) v d n)
+        pub one-child : length ids ≤ b → one (getD ids a 0) ≡ only (children (byPlace image) v d n)
         unfolding only
-        one-child g = rw (from-first h, kept-none test ids (taken words) (a + 1) (ids-room (t .good .sized)) (omega arith) b second g)
+        one-child g = rw (from-first h, kept-none test ids (a + 1) (omega arith) b second g)
 
 -- ---- a walk
 
@@ -129,16 +127,3 @@ module _ (F : View ℕ) (v : Volume ℕ) (d : ℕ) where
 pub walk-starts : (F : View ℕ) (v : Volume ℕ) (ns ms : List Bytes) → ns ≡ ms → walk F v 0 ns ≡ lookupNames F v ms
 unfolding lookupNames
 walk-starts F v ns ms e = rw e
-
--- ---- the table of a volume's inodes is a table of inodes
-
-pub inode-table : {image : Bytes} {words ids spots : List ℕ} (rs : List ℕ) → Good image words ids spots
-    → InodesOf image words ids spots (volumeOf (byPlace image) rs) → InodeTable image words ids spots
-unfolding volumeOf
-inode-table {image} {words} {ids} {spots} rs good rows = record {
-  good = good;
-  inodes = λ k h.
-      let m = counting-mem (byPlace image) (keep (λ r. not (blockAt image r)) rs) (getD ids k 0) (getD spots k 0)
-      (row-counts (byPlace image) (keep (λ r. not (blockAt image r)) rs) (taken words) ids spots rows (ids-room (good .sized)) k h) in
-      not-true (blockAt image (getD spots k 0)) (T→true (keep-mem (λ r. not (blockAt image r)) rs (m .0) .1));
-}

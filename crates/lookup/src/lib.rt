@@ -1,32 +1,29 @@
-// Looking a path up in the mounted inode table, name by name from the root down.
+// Looking a path up in the taken rows of the table of inodes, name by name from the root down.
 ghost use mathlib.Core.Path.{_≡_};
 ghost use mathlib.Core.Bool.{true, false};
 ghost use Prim.Native.Nat.{ℕ, _+_, _≤_, _<_};
-ghost use lib.ListN.{take, drop, getD};
+ghost use lib.ListN.{length, drop, getD};
 ghost use Rattle.volume.specs.Lists.{only};
 ghost use Rattle.volume.specs.Counting.{Volume};
 ghost use Rattle.volume.specs.Fate.{isLive, fateOf};
 ghost use Rattle.volume.specs.Path.{goodPath, pathNames};
 ghost use Rattle.volume.specs.Tree.{found, isEntry, isChild, children, lookupNames};
 ghost use Rattle.place_view.specs.Place.{byPlace, blockAt, Lies};
-ghost use Rattle.table.specs.Table.{taken};
+ghost use Rattle.table.specs.Rows.{InodeTable};
 ghost use Rattle.contents.specs.Blocks.{firstOf};
-ghost use Rattle.lookup.specs.Found.{InodesOf, InodeTable, onlyOf, meaning, Kinded, refusalOf, stepOf};
+ghost use Rattle.lookup.specs.Found.{InodesOf, onlyOf, meaning, Kinded, refusalOf, stepOf};
 use bytes::equal;
 use fate::fate_of;
 use fate::lives;
-use fields::load32;
 use fields::wide;
-use occupancy::taken;
 use paths::after;
 use paths::has_name;
 use paths::name_at;
 use paths::start;
+use place_view::link_at;
 use records::InodeHeader;
+use records::ROOT;
 use records::is_directory_id;
-
-// The id of the root directory.
-const ROOT: u32 = 0;
 
 // Numbers of refusal.
 const NO_CHILD: u32 = 9;
@@ -76,39 +73,38 @@ fn is_entry(image: &[u8], p: u32, directory: u32, name: &[u8]) -> bool
     requires { ⌜ blockAt (now image) p ≡ false ⌝ }
     ensures { λ r. ⌜ r ≡ isEntry (byPlace (now (image .entry))) directory (now (name .entry)) p ⌝ }
 {
-    let at = p as usize;
-    if load32(image, at + 12) != directory {
+    if link_at(image, p) != directory {
         return false;
     }
+    let at = p as usize;
     let start = at + InodeHeader::SIZE;
-    let end = start + wide(image[at + 17]) as usize;
+    let end = start + wide(image[at + InodeHeader::LENGTH_AT]) as usize;
     equal(&image[start..end], name)
 }
 
 // Whether the inode of an id is live.
-pub fn is_live(image: &[u8], words: &[u64], ids: &[u32], spots: &[u32], id: u32) -> bool
-    requires { ⌜ InodeTable (now image) (now words) (now ids) (now spots) ⌝ }
-    ensures { λ r. ⌜ ((v : Volume ℕ) → InodesOf (now (image .entry)) (now (words .entry)) (now (ids .entry)) (now (spots .entry)) v → r ≡ isLive (fateOf (byPlace (now (image .entry))) v id)) ⌝ }
+pub fn is_live(image: &[u8], ids: &[u32], spots: &[u32], id: u32) -> bool
+    requires { ⌜ InodeTable (now image) (now ids) (now spots) ⌝ }
+    ensures { λ r. ⌜ ((v : Volume ℕ) → InodesOf (now (image .entry)) (now (ids .entry)) (now (spots .entry)) v → r ≡ isLive (fateOf (byPlace (now (image .entry))) v id)) ⌝ }
 {
-    lives(fate_of(image, words, ids, spots, id))
+    lives(fate_of(image, ids, spots, id))
 }
 
 // Whether the inode of a row is a live child of the directory, of the name.
 fn is_child(
     image: &[u8],
-    words: &[u64],
     ids: &[u32],
     spots: &[u32],
     directory: u32,
     name: &[u8],
     row: usize,
 ) -> bool
-    requires { ⌜ InodeTable (now image) (now words) (now ids) (now spots) ⌝ }
-    requires { ⌜ row < taken (now words) ⌝ }
-    ensures { λ r. ⌜ ((v : Volume ℕ) → InodesOf (now (image .entry)) (now (words .entry)) (now (ids .entry)) (now (spots .entry)) v → r ≡ isChild (byPlace (now (image .entry))) v directory (now (name .entry)) (getD (now (ids .entry)) row 0)) ⌝ }
+    requires { ⌜ InodeTable (now image) (now ids) (now spots) ⌝ }
+    requires { ⌜ row < length (now ids) ⌝ }
+    ensures { λ r. ⌜ ((v : Volume ℕ) → InodesOf (now (image .entry)) (now (ids .entry)) (now (spots .entry)) v → r ≡ isChild (byPlace (now (image .entry))) v directory (now (name .entry)) (getD (now (ids .entry)) row 0)) ⌝ }
 {
     if is_entry(image, spots[row], directory, name) {
-        return is_live(image, words, ids, spots, ids[row]);
+        return is_live(image, ids, spots, ids[row]);
     }
     false
 }
@@ -116,22 +112,21 @@ fn is_child(
 // The first row from `from` on whose inode is a live child of the directory, of the name; the number of rows where there is none.
 fn next_child(
     image: &[u8],
-    words: &[u64],
     ids: &[u32],
     spots: &[u32],
     directory: u32,
     name: &[u8],
     from: usize,
 ) -> usize
-    requires { ⌜ InodeTable (now image) (now words) (now ids) (now spots) ⌝ }
-    requires { ⌜ from ≤ taken (now words) ⌝ }
-    ensures first { λ r. ⌜ ((v : Volume ℕ) → InodesOf (now (image .entry)) (now (words .entry)) (now (ids .entry)) (now (spots .entry)) v → r ≡ from + firstOf (isChild (byPlace (now (image .entry))) v directory (now (name .entry))) (drop from (take (taken (now (words .entry))) (now (ids .entry))))) ⌝ }
-    ensures within { λ r. ⌜ r ≤ taken (now (words .entry)) ⌝ }
+    requires { ⌜ InodeTable (now image) (now ids) (now spots) ⌝ }
+    requires { ⌜ from ≤ length (now ids) ⌝ }
+    ensures first { λ r. ⌜ ((v : Volume ℕ) → InodesOf (now (image .entry)) (now (ids .entry)) (now (spots .entry)) v → r ≡ from + firstOf (isChild (byPlace (now (image .entry))) v directory (now (name .entry))) (drop from (now (ids .entry)))) ⌝ }
+    ensures within { λ r. ⌜ r ≤ length (now (ids .entry)) ⌝ }
 {
-    let n = taken(words);
+    let n = ids.len();
     let mut row = from;
     while row < n {
-        if is_child(image, words, ids, spots, directory, name, row) {
+        if is_child(image, ids, spots, directory, name, row) {
             return row;
         }
         row += 1;
@@ -140,23 +135,16 @@ fn next_child(
 }
 
 // The live children of the directory that have the name.
-pub fn find_child(
-    image: &[u8],
-    words: &[u64],
-    ids: &[u32],
-    spots: &[u32],
-    directory: u32,
-    name: &[u8],
-) -> Child
-    requires { ⌜ InodeTable (now image) (now words) (now ids) (now spots) ⌝ }
-    ensures { λ r. ⌜ ((v : Volume ℕ) → InodesOf (now (image .entry)) (now (words .entry)) (now (ids .entry)) (now (spots .entry)) v → onlyOf r ≡ only (children (byPlace (now (image .entry))) v directory (now (name .entry)))) ⌝ }
+pub fn find_child(image: &[u8], ids: &[u32], spots: &[u32], directory: u32, name: &[u8]) -> Child
+    requires { ⌜ InodeTable (now image) (now ids) (now spots) ⌝ }
+    ensures { λ r. ⌜ ((v : Volume ℕ) → InodesOf (now (image .entry)) (now (ids .entry)) (now (spots .entry)) v → onlyOf r ≡ only (children (byPlace (now (image .entry))) v directory (now (name .entry)))) ⌝ }
 {
-    let n = taken(words);
-    let first = next_child(image, words, ids, spots, directory, name, 0);
+    let n = ids.len();
+    let first = next_child(image, ids, spots, directory, name, 0);
     if first == n {
         return Child::Nobody;
     }
-    let second = next_child(image, words, ids, spots, directory, name, first + 1);
+    let second = next_child(image, ids, spots, directory, name, first + 1);
     if second < n {
         return Child::Several;
     }
@@ -164,22 +152,15 @@ pub fn find_child(
 }
 
 // One step of a walk: what the name leads to, looked for in the inode of an id.
-pub fn enter(
-    image: &[u8],
-    words: &[u64],
-    ids: &[u32],
-    spots: &[u32],
-    directory: u32,
-    name: &[u8],
-) -> Found
-    requires { ⌜ InodeTable (now image) (now words) (now ids) (now spots) ⌝ }
-    ensures means { λ r. ⌜ ((v : Volume ℕ) → InodesOf (now (image .entry)) (now (words .entry)) (now (ids .entry)) (now (spots .entry)) v → meaning r ≡ stepOf (byPlace (now (image .entry))) v directory (now (name .entry))) ⌝ }
+pub fn enter(image: &[u8], ids: &[u32], spots: &[u32], directory: u32, name: &[u8]) -> Found
+    requires { ⌜ InodeTable (now image) (now ids) (now spots) ⌝ }
+    ensures means { λ r. ⌜ ((v : Volume ℕ) → InodesOf (now (image .entry)) (now (ids .entry)) (now (spots .entry)) v → meaning r ≡ stepOf (byPlace (now (image .entry))) v directory (now (name .entry))) ⌝ }
     ensures kind { λ r. ⌜ Kinded r ⌝ }
 {
     if is_directory_id(directory) {} else {
         return Found::Absent(NO_DIRECTORY);
     }
-    let child = find_child(image, words, ids, spots, directory, name);
+    let child = find_child(image, ids, spots, directory, name);
     match child {
         Child::Nobody => Found::Absent(NO_CHILD),
         Child::Several => Found::Absent(MANY_CHILDREN),
@@ -190,22 +171,21 @@ pub fn enter(
 // What a good path leads to: the first step that fails decides.
 pub fn resolve<'a>(
     image: &[u8],
-    words: &[u64],
     ids: &[u32],
     spots: &[u32],
     base: &'a [u8],
     path: &'a [u8],
 ) -> Found
-    requires { ⌜ InodeTable (now image) (now words) (now ids) (now spots) ⌝ }
+    requires { ⌜ InodeTable (now image) (now ids) (now spots) ⌝ }
     requires { ⌜ goodPath (now base) (now path) ≡ true ⌝ }
-    ensures means { λ r. ⌜ ((v : Volume ℕ) → InodesOf (now (image .entry)) (now (words .entry)) (now (ids .entry)) (now (spots .entry)) v → meaning r ≡ lookupNames (byPlace (now (image .entry))) v (pathNames (now (base .entry)) (now (path .entry)))) ⌝ }
+    ensures means { λ r. ⌜ ((v : Volume ℕ) → InodesOf (now (image .entry)) (now (ids .entry)) (now (spots .entry)) v → meaning r ≡ lookupNames (byPlace (now (image .entry))) v (pathNames (now (base .entry)) (now (path .entry)))) ⌝ }
     ensures kind { λ r. ⌜ Kinded r ⌝ }
 {
     let mut w = start(base, path);
     let mut at = ROOT;
     while has_name(base, path, w) {
         let name = name_at(base, path, w);
-        let step = enter(image, words, ids, spots, at, name);
+        let step = enter(image, ids, spots, at, name);
         let Found::Inode(id, _) = step else {
             return step;
         };

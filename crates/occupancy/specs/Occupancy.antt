@@ -19,6 +19,10 @@ places (w ∷ ws) = digits 64 w ++ places ws
 abbrev pub capacity : List ℕ → ℕ
 capacity ws = length ws * 64
 
+-- with at most so many words, every sum of places is far from wrapping
+abbrev pub mostWords : ℕ
+mostWords = 1024
+
 -- "the lowest free place", or the number of places where none is free
 abbrev pub firstZero : List ℕ → ℕ
 firstZero l = positionOf 0 l

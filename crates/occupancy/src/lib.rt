@@ -1,18 +1,17 @@
 // Which places of a table are taken, one bit to a place in lent words, and where an id stands among a table's ids.
-// The claims are made over the list of all places, so they are the same for any number of words;
-// at most 1,024 of them keep every sum of places far from wrapping.
+// The claims are made over the list of all places, so they are the same for any number of words up to `mostWords`.
 ghost use mathlib.Core.Path.{_≡_};
 ghost use Prim.Native.Nat.{_<_, _≤_};
 ghost use lib.ListN.{length, set, take};
 ghost use Rattle.occupancy.specs.Position.{positionOf};
-ghost use Rattle.occupancy.specs.Occupancy.{digits, places, capacity, firstZero, total};
+ghost use Rattle.occupancy.specs.Occupancy.{digits, places, capacity, mostWords, firstZero, total};
 
 // The places of one word, a bit each: 1 for a taken place.
 const BITS: usize = 64;
 
 // The lowest free place, or the number of places where all are taken.
 pub fn first_free(words: &[u64]) -> usize
-    requires few { ⌜ length (now words) ≤ 1024 ⌝ }
+    requires few { ⌜ length (now words) ≤ mostWords ⌝ }
     ensures lowest { λ r. ⌜ r ≡ firstZero (places (now (words .entry))) ⌝ }
     ensures within { λ r. ⌜ r ≤ capacity (now (words .entry)) ⌝ }
 {
@@ -29,7 +28,7 @@ pub fn first_free(words: &[u64]) -> usize
 
 // How many places are taken.
 pub fn taken(words: &[u64]) -> usize
-    requires few { ⌜ length (now words) ≤ 1024 ⌝ }
+    requires few { ⌜ length (now words) ≤ mostWords ⌝ }
     ensures counted { λ r. ⌜ r ≡ total (places (now (words .entry))) ⌝ }
     ensures within { λ r. ⌜ r ≤ capacity (now (words .entry)) ⌝ }
 {

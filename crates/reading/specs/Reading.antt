@@ -1,4 +1,4 @@
--- What a read gives, over the mounted block table. Document 01, "Open and read".
+-- What a read gives, by the rows of the table of blocks. Document 01, "Open and read".
 use Prim.Native.Nat.{ℕ, min, _-_}
 use mathlib.Core.Path.{_≡_}
 use mathlib.Core.Bool.{cond}
@@ -15,7 +15,7 @@ use Rattle.calls.specs.Image.{put}
 use Rattle.calls.specs.Read.{Given, giveFile, readAnswer, bufferAfter}
 use Rattle.calls.specs.declared.ReadAnswer.{ReadAnswer}
 use Rattle.place_view.specs.Place.{bytesAt, byPlace}
-use Rattle.table.specs.Table.{taken, found}
+use Rattle.table.specs.Table.{found}
 use Rattle.contents.specs.Blocks.{textSize}
 use Rattle.reading.specs.declared.Chain.{Chain}
 
@@ -33,12 +33,12 @@ abbrev pub without : ℕ → ReadAnswer
 without n = record { number = n; given = 0; headers = 0 }
 
 -- the blocks of a chain in file order
-abbrev pub chainOf : Bytes → List ℕ → List ℕ → List ℕ → Chain → Option (List ℕ)
-chainOf image words ids spots h = chainBack (byPlace image) (found (taken words) ids spots) (h .file) (h .count) (h .last)
+abbrev pub chainOf : Bytes → List ℕ → List ℕ → Chain → Option (List ℕ)
+chainOf image ids spots h = chainBack (byPlace image) (found (length ids) ids spots) (h .file) (h .count) (h .last)
 
 -- the chain is whole, and its size is told
-abbrev pub Whole : Bytes → List ℕ → List ℕ → List ℕ → Chain → Type 0
-Whole image words ids spots h = textSize (byPlace image) (chainOf image words ids spots h) ≡ some (h .size)
+abbrev pub Whole : Bytes → List ℕ → List ℕ → Chain → Type 0
+Whole image ids spots h = textSize (byPlace image) (chainOf image ids spots h) ≡ some (h .size)
 
 -- the buffer b with as many bytes of a text from a position on as there are and as it has room for, in its front
 unfoldable pub filled : Bytes → ℕ → Bytes → Bytes

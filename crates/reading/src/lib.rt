@@ -1,4 +1,4 @@
-// Reading a file over the mounted block table: its bytes into the front of a lent buffer.
+// Reading a file by the taken rows of the table of blocks: its bytes into the front of a lent buffer.
 ghost use mathlib.Core.Path.{_≡_};
 ghost use mathlib.Core.Option.{some};
 ghost use mathlib.Core.List.{List};
@@ -7,7 +7,9 @@ ghost use lib.ListN.{length};
 ghost use Rattle.volume.specs.Counting.{Volume};
 ghost use Rattle.volume.specs.Contents.{textOf, headersFrom};
 ghost use Rattle.place_view.specs.Place.{byPlace};
-ghost use Rattle.contents.specs.Blocks.{BlocksOf, BlockTable};
+ghost use Rattle.calls.specs.Mount.{mostBlocks};
+ghost use Rattle.table.specs.Rows.{BlockTable};
+ghost use Rattle.contents.specs.Blocks.{BlocksOf};
 ghost use Rattle.reading.specs.Reading.{chainOf, Whole, laid, filled, FileRead};
 use calls::ReadAnswer;
 use contents::Last;
@@ -17,12 +19,10 @@ use contents::data_length;
 use contents::last_block;
 use contents::own_block;
 use contents::owned_count;
-use contents::previous;
 use flash::put;
+use place_view::previous_at;
+use records::BlockHeader;
 use table::Spot;
-
-// The size of a block's header, behind which its data stands.
-const HEADER_SIZE: usize = 24;
 
 // Numbers of refusal.
 const BROKEN: u32 = 13;
@@ -44,6 +44,7 @@ fn above(a: usize, b: usize) -> usize
     if a > b { a - b } else { 0 }
 }
 
+// The lesser of two numbers.
 fn least(a: usize, b: usize) -> usize
     ensures { λ r. ⌜ r ≡ min a b ⌝ }
 {
@@ -63,42 +64,41 @@ fn lay(text: &[u8], begin: usize, from: usize, buffer: &mut [u8])
     }
 }
 
-// Puts the file's bytes from `from` on into the buffer, following its blocks back to the one that holds the first of them.
-// Answers how many blocks were followed.
+// Puts the file's bytes from `from` on into the buffer, following its blocks back to the one that holds the first of them; answers how many it followed.
 fn follow(
     image: &[u8],
-    words: &[u64],
     ids: &[u32],
     spots: &[u32],
     chain: Chain,
     from: usize,
     buffer: &mut [u8],
 ) -> usize
-    requires { ⌜ BlockTable (now image) (now words) (now ids) (now spots) ⌝ }
-    requires { ⌜ Whole (now image) (now words) (now ids) (now spots) chain ⌝ }
+    requires { ⌜ BlockTable (now image) (now ids) (now spots) ⌝ }
+    requires { ⌜ Whole (now image) (now ids) (now spots) chain ⌝ }
     ensures few { λ r. ⌜ r ≤ chain .count ⌝ }
-    ensures headers { λ r. ⌜ ((bs : List ℕ) → chainOf (now (image .entry)) (now (words .entry)) (now (ids .entry)) (now (spots .entry)) chain ≡ some bs → r ≡ headersFrom (byPlace (now (image .entry))) from bs) ⌝ }
-    ensures bytes { λ r. ⌜ ((bs : List ℕ) → chainOf (now (image .entry)) (now (words .entry)) (now (ids .entry)) (now (spots .entry)) chain ≡ some bs → now (buffer .exit) ≡ filled (textOf (byPlace (now (image .entry))) bs) from (now (buffer .entry))) ⌝ }
+    ensures headers { λ r. ⌜ ((bs : List ℕ) → chainOf (now (image .entry)) (now (ids .entry)) (now (spots .entry)) chain ≡ some bs → r ≡ headersFrom (byPlace (now (image .entry))) from bs) ⌝ }
+    ensures bytes { λ r. ⌜ ((bs : List ℕ) → chainOf (now (image .entry)) (now (ids .entry)) (now (spots .entry)) chain ≡ some bs → now (buffer .exit) ≡ filled (textOf (byPlace (now (image .entry))) bs) from (now (buffer .entry))) ⌝ }
 {
     let mut id = chain.last;
     let mut left = chain.count;
     let mut end = chain.size;
     while from < end {
-        let Spot::At(p) = own_block(image, words, ids, spots, chain.file, id) else {
+        let Spot::At(p) = own_block(image, ids, spots, chain.file, id) else {
             // never: the chain is whole
             return 0;
         };
         let n = data_length(image, p);
-        let start = p as usize + HEADER_SIZE;
+        let start = p as usize + BlockHeader::SIZE;
         let stop = start + n;
         end -= n;
         lay(&image[start..stop], end, from, &mut *buffer);
-        id = previous(image, p);
+        id = previous_at(image, p);
         left -= 1;
     }
     chain.count - left
 }
 
+// The answer of a read.
 fn answer(number: u32, given: u32, headers: u32) -> ReadAnswer
     ensures { λ r. ⌜ r ≡ record { number = number; given = given; headers = headers } ⌝ }
 {
@@ -109,25 +109,24 @@ fn answer(number: u32, given: u32, headers: u32) -> ReadAnswer
     }
 }
 
-// Reads a live file from `position` on. Its blocks are followed twice: once for the size, which alone tells whether it is broken
-// and where the read ends, and once for the bytes.
+// Reads a live file from `position` on. Its blocks are followed twice: for the size, which alone tells whether it is broken and where the read ends, and for the bytes.
 pub fn read_file(
     image: &[u8],
-    words: &[u64],
     ids: &[u32],
     spots: &[u32],
     file: u32,
     position: u32,
     buffer: &mut [u8],
 ) -> ReadAnswer
-    requires { ⌜ BlockTable (now image) (now words) (now ids) (now spots) ⌝ }
-    ensures { λ r. ⌜ ((v : Volume ℕ) → BlocksOf (now (image .entry)) (now (words .entry)) (now (ids .entry)) (now (spots .entry)) v → FileRead (now (image .entry)) v file position (now (buffer .entry)) r (now (buffer .exit))) ⌝ }
+    requires { ⌜ BlockTable (now image) (now ids) (now spots) ⌝ }
+    requires { ⌜ length (now ids) ≤ mostBlocks ⌝ }
+    ensures { λ r. ⌜ ((v : Volume ℕ) → BlocksOf (now (image .entry)) (now (ids .entry)) (now (spots .entry)) v → FileRead (now (image .entry)) v file position (now (buffer .entry)) r (now (buffer .exit))) ⌝ }
 {
-    let Last::Start(last) = last_block(image, words, ids, spots, file) else {
+    let Last::Start(last) = last_block(image, ids, spots, file) else {
         return answer(BROKEN, 0, 0);
     };
-    let count = owned_count(image, words, ids, spots, file);
-    let Size::Whole(size) = chain_size(image, words, ids, spots, file, last, count) else {
+    let count = owned_count(image, ids, spots, file);
+    let Size::Whole(size) = chain_size(image, ids, spots, file, last, count) else {
         return answer(BROKEN, 0, 0);
     };
     let from = position as usize;
@@ -144,6 +143,6 @@ pub fn read_file(
         count,
         size,
     };
-    let headers = follow(image, words, ids, spots, chain, from, &mut *buffer);
+    let headers = follow(image, ids, spots, chain, from, &mut *buffer);
     answer(0, given as u32, headers as u32)
 }

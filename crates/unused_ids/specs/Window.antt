@@ -1,5 +1,5 @@
 -- The ids from one on that records name, a place of occupancy words to each. Document 01, "Create, append, unlink".
-use Prim.Native.Nat.{ℕ, _+_, _<_}
+use Prim.Native.Nat.{ℕ, _+_, _*_, _/_, _<_}
 use mathlib.Core.Path.{_≡_}
 use mathlib.Core.Bool.{cond}
 use mathlib.Core.List.{List, [], _∷_}
@@ -7,9 +7,14 @@ use lib.ListN.{getD}
 use Rattle.format.specs.Bytes.{Bytes}
 use Rattle.volume.specs.Counting.{volumeOf}
 use Rattle.volume_laws.specs.Map.{overVolume}
+use Rattle.calls.specs.Mount.{mostRecords, mostBlocks}
 use Rattle.calls.specs.Storing.{namedIds, isAmong}
 use Rattle.place_view.specs.Place.{blockAt, bytesAt, byPlace}
 use Rattle.occupancy.specs.Occupancy.{places, capacity}
+
+-- words for more ids than all records name, three at most to each, and one append takes
+abbrev pub idWords : ℕ
+idWords = (mostRecords * 3 + mostBlocks) / 64 + 1
 
 -- the k-th place is taken where the id first + k is named, and free where not
 unfoldable pub Marks : ℕ → List ℕ → List ℕ → Type 0

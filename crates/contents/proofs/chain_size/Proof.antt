@@ -3,9 +3,10 @@ use Prim.Native.Nat.{_+_, _*_, _≤_}
 use mathlib.Core.Path.{_≡_, sym, ap, _∙_}
 use mathlib.Core.Option.{some}
 use native.Mathlib.Omega.{arith}
+use lib.ListN.{length}
 use Rattle.place_view.specs.Place.{byPlace}
 use Rattle.volume.specs.Contents.{chainBack}
-use Rattle.table.specs.Table.{taken, found, spotOf}
+use Rattle.table.specs.Table.{found, spotOf}
 use Rattle.contents.specs.Blocks.{textSize, blockFor}
 use Rattle.contents.specs.Walk.{sizeWith, size-begins, size-step, size-broken, size-ends, size-more, own-lies, own-block}
 use borrow.Author.Needs.{needs}
@@ -13,18 +14,18 @@ use Rattle.contents.proofs.chain_size.Statement.{statement}
 use Rattle.contents.proofs.chain_size.Tie as tie
 
 abbrev Inv-loop : tie.InvT-loop
-Inv-loop image words ids spots file start count id₀ left₀ size₀ id left size =
+Inv-loop image ids spots file start count id₀ left₀ size₀ id left size =
     (left ≤ count)
     × (size + left * 65535 ≤ count * 65535)
-    × (textSize (byPlace image) (chainBack (byPlace image) (found (taken words) ids spots) file count start)
-    ≡ sizeWith (byPlace image) size (chainBack (byPlace image) (found (taken words) ids spots) file left id))
+    × (textSize (byPlace image) (chainBack (byPlace image) (found (length ids) ids spots) file count start)
+    ≡ sizeWith (byPlace image) size (chainBack (byPlace image) (found (length ids) ids spots) file left id))
 
 abbrev μ-loop : tie.MeasureT-loop
-μ-loop image words ids spots file start count id₀ left₀ size₀ id left size = left
+μ-loop image ids spots file start count id₀ left₀ size₀ id left size = left
 
 -- the arguments, from the loop
 abbrev start : tie.At-loop Inv-loop μ-loop → tie.Start Inv-loop μ-loop
-start l = l .before .before .before .before .before
+start l = l .before .before .before .before
 
 abbrev at-loop : tie.After-known-told Inv-loop μ-loop → tie.At-loop Inv-loop μ-loop
 at-loop k = k .before .before .before .before .before
@@ -33,7 +34,7 @@ at-loop k = k .before .before .before .before .before
 there : (k : tie.After-known-told Inv-loop μ-loop)
     → some (k .before .p .given .0 .0)
     ≡ blockFor (byPlace (start (at-loop k) .args .image .now)) (start (at-loop k) .args .file)
-    (found (taken (start (at-loop k) .args .words .now)) (start (at-loop k) .args .ids .now) (start (at-loop k) .args .spots .now)) (at-loop k .loop .id)
+    (found (length (start (at-loop k) .args .ids .now)) (start (at-loop k) .args .ids .now) (start (at-loop k) .args .spots .now)) (at-loop k .loop .id)
 there k = sym (ap spotOf (k .before .p .given .1)) ∙ k .before .before .before .own-block .ensures
 
 loop-holds : tie.Need-loop-holds Inv-loop μ-loop
@@ -46,8 +47,8 @@ returns c =
     let a = start l .args in (
       omega arith,
       sym (l .loop .inv .2
-          ∙ size-broken (byPlace (a .image .now)) (a .file) (found (taken (a .words .now)) (a .ids .now) (a .spots .now)) (l .loop .size) (l .loop .left) (l .loop .id)
-          (o .before .loop-test .taken) (sym (ap spotOf (c .enum-told .given .1)) ∙ o .own-block .ensures)),
+          ∙ size-broken (byPlace (a .image .now)) (a .file) (found (length (a .ids .now)) (a .ids .now) (a .spots .now)) (l .loop .size) (l .loop .left) (l .loop .id)
+          (omega (arith, o .before .loop-test .taken)) (sym (ap spotOf (c .enum-told .given .1)) ∙ o .own-block .ensures)),
     )
 
 data-length-requires : tie.Need-data-length-requires Inv-loop μ-loop
@@ -57,8 +58,8 @@ data-length-requires c κs =
       own-block (s .pre .0) (s .args .file) (at-loop c .loop .id) _ (there c),
     )
 
-previous-requires : tie.Need-previous-requires Inv-loop μ-loop
-previous-requires c κs =
+previous-at-requires : tie.Need-previous-at-requires Inv-loop μ-loop
+previous-at-requires c κs =
     let k = c .before in
     let s = start (at-loop k) in
     own-lies (s .pre .0) (s .args .file) (at-loop k .loop .id) _ (there k)
@@ -72,9 +73,9 @@ loop-again c =
       omega arith,
       omega (arith, l .loop .inv .1, d .data-length .ensures .1 .1),
       l .loop .inv .2
-          ∙ size-step (byPlace (a .image .now)) (a .file) (found (taken (a .words .now)) (a .ids .now) (a .spots .now)) (l .loop .size) (l .loop .left) (l .loop .id)
-          (k .before .p .given .0 .0) (d .data-length .result) (c .previous .result)
-          (k .before .before .before .before .loop-test .taken) (there k) (d .data-length .ensures .0) (c .previous .ensures),
+          ∙ size-step (byPlace (a .image .now)) (a .file) (found (length (a .ids .now)) (a .ids .now) (a .spots .now)) (l .loop .size) (l .loop .left) (l .loop .id)
+          (k .before .p .given .0 .0) (d .data-length .result) (c .previous-at .result)
+          (omega (arith, k .before .before .before .before .loop-test .taken)) (there k) (d .data-length .ensures .0) (c .previous-at .ensures),
     )
 
 returns-2 : tie.Need-returns-2 Inv-loop μ-loop
@@ -83,8 +84,8 @@ returns-2 c =
     let a = start l .args in (
       omega (arith, l .loop .inv .1),
       sym (l .loop .inv .2
-          ∙ size-ends (byPlace (a .image .now)) (a .file) (found (taken (a .words .now)) (a .ids .now) (a .spots .now)) (l .loop .size) (l .loop .left) (l .loop .id)
-          (c .before .loop-test .left) (c .if1 .taken)),
+          ∙ size-ends (byPlace (a .image .now)) (a .file) (found (length (a .ids .now)) (a .ids .now) (a .spots .now)) (l .loop .size) (l .loop .left) (l .loop .id)
+          (omega (arith, c .before .loop-test .left)) (c .if1 .taken)),
     )
 
 returns-3 : tie.Need-returns-3 Inv-loop μ-loop
@@ -93,8 +94,8 @@ returns-3 c =
     let a = start l .args in (
       omega arith,
       sym (l .loop .inv .2
-          ∙ size-more (byPlace (a .image .now)) (a .file) (found (taken (a .words .now)) (a .ids .now) (a .spots .now)) (l .loop .size) (l .loop .left) (l .loop .id)
-          (c .before .loop-test .left) (c .if1 .left)),
+          ∙ size-more (byPlace (a .image .now)) (a .file) (found (length (a .ids .now)) (a .ids .now) (a .spots .now)) (l .loop .size) (l .loop .left) (l .loop .id)
+          (omega (arith, c .before .loop-test .left)) (c .if1 .left)),
     )
 
 pub chain-size-spec : {M : Type 1} → statement M
@@ -110,7 +111,7 @@ chain-size-spec =
     returns
     data-length-requires
     (λ c. search needs)
-    previous-requires
+    previous-at-requires
     (λ c. search needs)
     (λ c. search needs)
     loop-again

@@ -9,14 +9,14 @@ use Rattle.contents.proofs.file_size.Tie as tie
 
 -- the arguments, from where the chain's start was looked for
 abbrev start : tie.After-last-block → tie.Start
-start c = c .before .before .before .before .before
+start c = c .before .before .before .before
 
 returns : tie.Need-returns
 returns c =
     let f = c .before .before in
     let a = start f .args in
     λ v rows. sym (ap (textSize (byPlace (a .image .now)))
-    (file-broken (a .image .now) (a .words .now) (a .ids .now) (a .spots .now) v rows (a .file)
+    (file-broken (a .image .now) (a .ids .now) (a .spots .now) v rows (a .file)
     (sym (ap lastOf (c .enum-told .given .1)) ∙ f .last-block .ensures v rows)))
 
 returns-2 : tie.Need-returns-2
@@ -27,7 +27,7 @@ returns-2 c =
     let a = start f .args in
     λ v rows. c .chain-size .ensures .1
     ∙ sym (ap (textSize (byPlace (a .image .now)))
-    (file-chain (a .image .now) (a .words .now) (a .ids .now) (a .spots .now) v rows (a .file) (k .before .start .given .0 .0) (o .owned-count .result)
+    (file-chain (a .image .now) (a .ids .now) (a .spots .now) v rows (a .file) (k .before .start .given .0 .0) (o .owned-count .result)
     (sym (ap lastOf (k .before .start .given .1)) ∙ f .last-block .ensures v rows) (o .owned-count .ensures .0 v rows)))
 
 pub file-size-spec : {M : Type 1} → statement M

@@ -2,7 +2,7 @@
 use Prim.Native.Nat.{_≤_, _-_}
 use mathlib.Core.Path.{_≡_, refl, sym, _∙_}
 use native.Mathlib.Omega.{arith}
-use lib.ListN.{take, drop}
+use lib.ListN.{length, drop}
 use Rattle.place_view.specs.Place.{byPlace}
 use Rattle.contents.specs.Blocks.{free}
 use Rattle.contents.specs.Rows.{free-named, free-passed, free-end}
@@ -11,16 +11,16 @@ use Rattle.contents.proofs.is_free.Statement.{statement}
 use Rattle.contents.proofs.is_free.Tie as tie
 
 abbrev Inv-loop : tie.InvT-loop
-Inv-loop image spots n file id k₀ k = (k ≤ n) × (free (byPlace image) file (take n spots) id ≡ free (byPlace image) file (drop k (take n spots)) id)
+Inv-loop image spots file id n k₀ k = (k ≤ length spots) × (free (byPlace image) file spots id ≡ free (byPlace image) file (drop k spots) id)
 
 abbrev μ-loop : tie.MeasureT-loop
-μ-loop image spots n file id k₀ k = n - k
+μ-loop image spots file id n k₀ k = length spots - k
 
 loop-holds : tie.Need-loop-holds Inv-loop μ-loop
 loop-holds c = (omega arith, refl)
 
 names-requires : tie.Need-names-requires Inv-loop μ-loop
-names-requires c κs = let l = c .before .before in l .before .before .before .pre .1 (l .loop .k) (c .before .loop-test .taken)
+names-requires c κs = let l = c .before .before in l .before .before .before .pre (l .loop .k) (c .before .loop-test .taken)
 
 returns : tie.Need-returns Inv-loop μ-loop
 returns c =
@@ -28,7 +28,7 @@ returns c =
     let l = n .before .before .before in
     let s = l .before .before .before in
     sym (l .loop .inv .1
-    ∙ free-named (byPlace (s .args .image .now)) (s .args .file) (s .args .spots .now) (s .args .n) (l .loop .k) (s .pre .0) (s .args .id)
+    ∙ free-named (byPlace (s .args .image .now)) (s .args .file) (s .args .spots .now) (l .loop .k) (s .args .id)
     (n .before .before .loop-test .taken) (sym (n .names .ensures) ∙ c .if1 .taken))
 
 loop-again : tie.Need-loop-again Inv-loop μ-loop
@@ -38,7 +38,7 @@ loop-again c =
     let s = l .before .before .before in (
       omega arith,
       l .loop .inv .1
-          ∙ free-passed (byPlace (s .args .image .now)) (s .args .file) (s .args .spots .now) (s .args .n) (l .loop .k) (s .pre .0) (s .args .id)
+          ∙ free-passed (byPlace (s .args .image .now)) (s .args .file) (s .args .spots .now) (l .loop .k) (s .args .id)
           (n .before .before .loop-test .taken) (sym (n .names .ensures) ∙ c .if1 .left),
     )
 
@@ -47,7 +47,7 @@ returns-2 c =
     let l = c .before in
     let s = l .before .before .before in
     sym (l .loop .inv .1
-    ∙ free-end (byPlace (s .args .image .now)) (s .args .file) (s .args .spots .now) (s .args .n) (l .loop .k) (s .pre .0) (s .args .id) (c .loop-test .left))
+    ∙ free-end (byPlace (s .args .image .now)) (s .args .file) (s .args .spots .now) (l .loop .k) (s .args .id) (c .loop-test .left))
 
 pub is-free-spec : {M : Type 1} → statement M
 is-free-spec =

@@ -4,7 +4,7 @@ use Rattle.contents.proofs.names.Statement.{statement}
 use Rattle.contents.proofs.names.Tie as tie
 
 returns : tie.Need-returns
-returns c = rw (c .previous .ensures, ← c .before .before .is-mine .ensures, c .before .if1 .taken)
+returns c = rw (c .previous-at .ensures, ← c .before .before .is-mine .ensures, c .before .if1 .taken)
 
 returns-2 : tie.Need-returns-2
 returns-2 c = rw (← c .before .is-mine .ensures, c .if1 .left)

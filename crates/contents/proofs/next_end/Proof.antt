@@ -2,7 +2,7 @@
 use Prim.Native.Nat.{_≤_, _+_, _-_}
 use mathlib.Core.Path.{_≡_, refl, sym, _∙_}
 use native.Mathlib.Omega.{arith}
-use lib.ListN.{take, drop}
+use lib.ListN.{length, drop}
 use Rattle.place_view.specs.Place.{byPlace}
 use Rattle.contents.specs.Blocks.{firstOf, isEnd}
 use Rattle.contents.specs.Rows.{search-here, search-later, search-end}
@@ -11,29 +11,28 @@ use Rattle.contents.proofs.next_end.Statement.{statement}
 use Rattle.contents.proofs.next_end.Tie as tie
 
 abbrev Inv-loop : tie.InvT-loop
-Inv-loop image spots n file from k₀ k =
-    (k ≤ n)
-    × (from + firstOf (isEnd (byPlace image) file (take n spots)) (drop from (take n spots))
-    ≡ k + firstOf (isEnd (byPlace image) file (take n spots)) (drop k (take n spots)))
+Inv-loop image spots file from n k₀ k =
+    (k ≤ length spots)
+    × (from + firstOf (isEnd (byPlace image) file spots) (drop from spots) ≡ k + firstOf (isEnd (byPlace image) file spots) (drop k spots))
 
 abbrev μ-loop : tie.MeasureT-loop
-μ-loop image spots n file from k₀ k = n - k
+μ-loop image spots file from n k₀ k = length spots - k
 
 loop-holds : tie.Need-loop-holds Inv-loop μ-loop
-loop-holds c = (c .before .before .pre .1 .1, refl)
+loop-holds c = (c .before .before .pre .1, refl)
 
 is-end-requires : tie.Need-is-end-requires Inv-loop μ-loop
 is-end-requires c κs =
     let l = c .before .before in
     let s = l .before .before .before in
-    (s .pre .0, (s .pre .1 .0, s .pre .1 .0 (l .loop .k) (c .before .loop-test .taken)))
+    (s .pre .0, s .pre .0 (l .loop .k) (c .before .loop-test .taken))
 
 returns : tie.Need-returns Inv-loop μ-loop
 returns c =
     let n = c .before in
     let l = n .before .before .before in
     let s = l .before .before .before in
-    let e = search-here (isEnd (byPlace (s .args .image .now)) (s .args .file) (take (s .args .n) (s .args .spots .now))) (s .args .spots .now) (s .args .n) (l .loop .k) (s .pre .0)
+    let e = search-here (isEnd (byPlace (s .args .image .now)) (s .args .file) (s .args .spots .now)) (s .args .spots .now) (l .loop .k)
     (n .before .before .loop-test .taken) (sym (n .is-end .ensures) ∙ c .if1 .taken) in
     (omega arith, omega arith)
 
@@ -42,7 +41,7 @@ loop-again c =
     let n = c .before in
     let l = n .before .before .before in
     let s = l .before .before .before in
-    let e = search-later (isEnd (byPlace (s .args .image .now)) (s .args .file) (take (s .args .n) (s .args .spots .now))) (s .args .spots .now) (s .args .n) (l .loop .k) (s .pre .0)
+    let e = search-later (isEnd (byPlace (s .args .image .now)) (s .args .file) (s .args .spots .now)) (s .args .spots .now) (l .loop .k)
     (n .before .before .loop-test .taken) (sym (n .is-end .ensures) ∙ c .if1 .left) in
     (omega arith, omega arith)
 
@@ -50,7 +49,7 @@ returns-2 : tie.Need-returns-2 Inv-loop μ-loop
 returns-2 c =
     let l = c .before in
     let s = l .before .before .before in
-    let e = search-end (isEnd (byPlace (s .args .image .now)) (s .args .file) (take (s .args .n) (s .args .spots .now))) (s .args .spots .now) (s .args .n) (l .loop .k) (s .pre .0) (c .loop-test .left) in
+    let e = search-end (isEnd (byPlace (s .args .image .now)) (s .args .file) (s .args .spots .now)) (s .args .spots .now) (l .loop .k) (c .loop-test .left) in
     (omega arith, omega arith)
 
 pub next-end-spec : {M : Type 1} → statement M

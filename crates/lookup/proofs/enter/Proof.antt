@@ -14,11 +14,11 @@ use Rattle.lookup.proofs.enter.Tie as tie
 
 -- the arguments, from where the kind was asked
 abbrev start : tie.After-is-directory-id → tie.Start
-start c = c .before .before .before .before .before .before
+start c = c .before .before .before .before .before
 
 -- the step in a directory, by the children found
 inside : (f : tie.After-find-child) (o : Only ℕ) → onlyOf (f .find-child .result) ≡ o
-    → let s = start (f .before .before) in (v : Volume ℕ) → InodesOf (s .args .image .now) (s .args .words .now) (s .args .ids .now) (s .args .spots .now) v
+    → let s = start (f .before .before) in (v : Volume ℕ) → InodesOf (s .args .image .now) (s .args .ids .now) (s .args .spots .now) v
     → onward true o found ≡ stepOf (byPlace (s .args .image .now)) v (s .args .directory) (s .args .name .now)
 inside f o e v rows =
     let t = f .before in

@@ -3,31 +3,30 @@ use Prim.Native.Nat.{_<_}
 use mathlib.Core.Path.{sym, _∙_}
 use native.Mathlib.Omega.{arith}
 use lib.ListN.{length}
-use Rattle.table.specs.Laws.{ids-room, spots-room}
 use Rattle.lookup.specs.Laws.{child-other, child-live}
 use Rattle.lookup.proofs.is_child.Statement.{statement}
 use Rattle.lookup.proofs.is_child.Tie as tie
 
 -- the arguments, from where the entry was asked
 abbrev start : tie.After-is-entry → tie.Start
-start e = e .before .before .before .before .before .before .before
+start e = e .before .before .before .before .before .before
 
 spot-there : (s : tie.Start) → s .args .row < length (s .args .spots .now)
-spot-there s = omega (arith, s .pre .1, spots-room (s .pre .0 .good .sized))
+spot-there s = omega (arith, s .pre .1, s .pre .0 .usable .pairs)
 
 id-there : (s : tie.Start) → s .args .row < length (s .args .ids .now)
-id-there s = omega (arith, s .pre .1, ids-room (s .pre .0 .good .sized))
+id-there s = s .pre .1
 
 mul-is-entry : tie.Need-mul-is-entry
-mul-is-entry c = omega (arith, spot-there (c .before .before .before .before .before))
+mul-is-entry c = omega (arith, spot-there (c .before .before .before .before))
 
 shared-slice-read-is-entry : tie.Need-shared-slice-read-is-entry
-shared-slice-read-is-entry c = omega (arith, spot-there (c .before .before .before .before .before .before))
+shared-slice-read-is-entry c = omega (arith, spot-there (c .before .before .before .before .before))
 
 is-entry-requires : tie.Need-is-entry-requires
 is-entry-requires c κs =
-    let s = c .before .before .before .before .before .before in
-    (s .pre .0 .good .lie (s .args .row) (s .pre .1), s .pre .0 .inodes (s .args .row) (s .pre .1))
+    let s = c .before .before .before .before .before in
+    (s .pre .0 .usable .lie (s .args .row) (s .pre .1), s .pre .0 .kind (s .args .row) (s .pre .1))
 
 mul-is-live : tie.Need-mul-is-live
 mul-is-live c = omega (arith, id-there (start (c .before)))

@@ -17,14 +17,11 @@ use Rattle.lookup.proofs.is_entry.Tie as tie
 lies : (s : tie.Start) → s .args .p + (20 + byteAt (s .args .image .now) (s .args .p + 17)) ≤ length (s .args .image .now)
 lies s = rw (size-inode (s .args .image .now) (s .args .p) (s .pre .1)) at (s .pre .0)
 
-load32-requires : tie.Need-load32-requires
-load32-requires c κs = omega (arith, lies (c .before .before))
-
 returns : tie.Need-returns
 returns c =
     let l = c .before in
     let s = l .before .before .before in
-    sym (entry-elsewhere (byPlace (s .args .image .now)) (s .args .directory) (s .args .name .now) (s .args .p) (λ e. c .if1 .taken (l .load32 .ensures ∙ e)))
+    sym (entry-elsewhere (byPlace (s .args .image .now)) (s .args .directory) (s .args .name .now) (s .args .p) (λ e. c .if1 .taken (l .link-at .ensures ∙ e)))
 
 shared-slice-read-wide : tie.Need-shared-slice-read-wide
 shared-slice-read-wide c = omega (arith, lies (c .before .before .before .before .before))
@@ -43,14 +40,13 @@ returns-2 c =
     = rw (add-sub-cancel-left, w .wide .ensures .0) at (c .equal .ensures) in
     told
     ∙ ap (λ (n : Bytes). same n (s .args .name .now)) (sym (name-at image (s .args .p) (s .pre .1)))
-    ∙ sym (entry-here (byPlace image) (s .args .directory) (s .args .name .now) (s .args .p) (sym (l .load32 .ensures) ∙ e .if1 .left))
+    ∙ sym (entry-here (byPlace image) (s .args .directory) (s .args .name .now) (s .args .p) (sym (l .link-at .ensures) ∙ e .if1 .left))
 
 pub is-entry-spec : {M : Type 1} → statement M
 is-entry-spec =
     tie.close
     (tie.spec
-    (λ c. search needs)
-    load32-requires
+    (λ c κs. search needs)
     returns
     (λ c. search needs)
     (λ c. search needs)

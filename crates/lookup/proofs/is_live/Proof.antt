@@ -9,7 +9,7 @@ use Rattle.lookup.proofs.is_live.Tie as tie
 returns : tie.Need-returns
 returns c =
     let f = c .before in
-    let s = f .before .before .before .before .before in
+    let s = f .before .before .before .before in
     λ v rows. c .lives .ensures ∙ ap isLive (f .fate-of .ensures) ∙ live-row (s .pre) v rows (s .args .id)
 
 pub is-live-spec : {M : Type 1} → statement M

@@ -3,13 +3,10 @@ use Prim.Native.Nat.{ℕ, _+_, _-_, _≤_, _<_}
 use mathlib.Core.Path.{_≡_, refl, sym, _∙_}
 use mathlib.Core.Bool.{Bool}
 use native.Mathlib.Omega.{arith}
-use borrow.Author.Needs.{needs}
-use lib.ListN.{length, take, drop}
+use lib.ListN.{length, drop}
 use Rattle.volume.specs.Counting.{Volume}
 use Rattle.volume.specs.Tree.{isChild}
 use Rattle.place_view.specs.Place.{byPlace}
-use Rattle.table.specs.Table.{taken}
-use Rattle.table.specs.Laws.{ids-room}
 use Rattle.contents.specs.Blocks.{firstOf}
 use Rattle.contents.specs.Rows.{search-here, search-later, search-end}
 use Rattle.lookup.specs.Found.{InodesOf}
@@ -17,32 +14,29 @@ use Rattle.lookup.proofs.next_child.Statement.{statement}
 use Rattle.lookup.proofs.next_child.Tie as tie
 
 abbrev Inv-loop : tie.InvT-loop
-Inv-loop image words ids spots directory name from n row₀ row =
-    (row ≤ taken words)
-    × ((v : Volume ℕ) → InodesOf image words ids spots v
-    → from + firstOf (isChild (byPlace image) v directory name) (drop from (take (taken words) ids))
-    ≡ row + firstOf (isChild (byPlace image) v directory name) (drop row (take (taken words) ids)))
+Inv-loop image ids spots directory name from n row₀ row =
+    (row ≤ length ids)
+    × ((v : Volume ℕ) → InodesOf image ids spots v
+    → from + firstOf (isChild (byPlace image) v directory name) (drop from ids)
+    ≡ row + firstOf (isChild (byPlace image) v directory name) (drop row ids))
 
 abbrev μ-loop : tie.MeasureT-loop
-μ-loop image words ids spots directory name from n row₀ row = taken words - row
+μ-loop image ids spots directory name from n row₀ row = length ids - row
 
 -- the arguments, from the head of the loop
 abbrev start : tie.At-loop Inv-loop μ-loop → tie.Start Inv-loop μ-loop
-start l = l .before .before .before .before .before .before .before
+start l = l .before .before .before .before .before
 
 -- the row of a turn is taken
-below : (c : tie.In-loop Inv-loop μ-loop) → c .before .loop .row < taken (start (c .before) .args .words .now)
-below c = omega (arith, c .loop-test .taken, c .before .before .taken .ensures .0)
-
-room : (l : tie.At-loop Inv-loop μ-loop) → taken (start l .args .words .now) ≤ length (start l .args .ids .now)
-room l = ids-room (start l .pre .0 .good .sized)
+below : (c : tie.In-loop Inv-loop μ-loop) → c .before .loop .row < length (start (c .before) .args .ids .now)
+below c = c .loop-test .taken
 
 -- the test that the rows are put to
 abbrev test : (l : tie.At-loop Inv-loop μ-loop) → Volume ℕ → ℕ → Bool
 test l v = isChild (byPlace (start l .args .image .now)) v (start l .args .directory) (start l .args .name .now)
 
 loop-holds : tie.Need-loop-holds Inv-loop μ-loop
-loop-holds c = (c .before .before .before .before .before .before .pre .1, λ v rows. refl)
+loop-holds c = (c .before .before .before .before .pre .1, λ v rows. refl)
 
 is-child-requires : tie.Need-is-child-requires Inv-loop μ-loop
 is-child-requires c κs = (start (c .before) .pre .0, below c)
@@ -54,14 +48,14 @@ returns c =
     let l = n .before in
     let s = start l in (
       λ v rows.
-          let e = search-here (test l v) (s .args .ids .now) (taken (s .args .words .now)) (l .loop .row) (room l) (below n) (sym (k .is-child .ensures v rows) ∙ c .if1 .taken) in
+          let e = search-here (test l v) (s .args .ids .now) (l .loop .row) (below n) (sym (k .is-child .ensures v rows) ∙ c .if1 .taken) in
           let i = l .loop .inv .1 v rows in
           omega arith,
       l .loop .inv .0,
     )
 
 add-row : tie.Need-add-row Inv-loop μ-loop
-add-row c = let n = c .before .before in omega (arith, below n, room (n .before))
+add-row c = let n = c .before .before in omega (arith, below n)
 
 loop-less : tie.Need-loop-less Inv-loop μ-loop
 loop-less c = omega (arith, below (c .before .before))
@@ -74,7 +68,7 @@ loop-again c =
     let s = start l in (
       omega (arith, below n),
       λ v rows.
-          let e = search-later (test l v) (s .args .ids .now) (taken (s .args .words .now)) (l .loop .row) (room l) (below n) (sym (k .is-child .ensures v rows) ∙ c .if1 .left) in
+          let e = search-later (test l v) (s .args .ids .now) (l .loop .row) (below n) (sym (k .is-child .ensures v rows) ∙ c .if1 .left) in
           let i = l .loop .inv .1 v rows in
           omega arith,
     )
@@ -83,9 +77,9 @@ returns-2 : tie.Need-returns-2 Inv-loop μ-loop
 returns-2 c =
     let l = c .before in
     let s = start l in
-    let past : taken (s .args .words .now) ≤ l .loop .row = omega (arith, c .loop-test .left, l .before .taken .ensures .0) in (
+    let past : length (s .args .ids .now) ≤ l .loop .row = c .loop-test .left in (
       λ v rows.
-          let e = search-end (test l v) (s .args .ids .now) (taken (s .args .words .now)) (l .loop .row) (room l) past in
+          let e = search-end (test l v) (s .args .ids .now) (l .loop .row) past in
           let i = l .loop .inv .1 v rows in
           omega arith,
       l .loop .inv .0,
@@ -97,7 +91,6 @@ next-child-spec =
     (tie.spec
     Inv-loop
     μ-loop
-    (λ c κs. search needs)
     loop-holds
     is-child-requires
     returns

@@ -16,17 +16,17 @@ use Rattle.lookup.proofs.resolve.Statement.{statement}
 use Rattle.lookup.proofs.resolve.Tie as tie
 
 abbrev Inv-loop : tie.InvT-loop
-Inv-loop image words ids spots base path w₀ at₀ w at =
+Inv-loop image ids spots base path w₀ at₀ w at =
     Reached base path w
-    × ((v : Volume ℕ) → InodesOf image words ids spots v
+    × ((v : Volume ℕ) → InodesOf image ids spots v
     → walk (byPlace image) v at (namesFrom base path w) ≡ lookupNames (byPlace image) v (pathNames base path))
 
 abbrev μ-loop : tie.MeasureT-loop
-μ-loop image words ids spots base path w₀ at₀ w at = length (namesFrom base path w)
+μ-loop image ids spots base path w₀ at₀ w at = length (namesFrom base path w)
 
 -- the arguments, from where the walk starts
 abbrev start : tie.After-start Inv-loop μ-loop → tie.Start Inv-loop μ-loop
-start c = c .before .before .before .before .before .before .before
+start c = c .before .before .before .before .before .before
 
 -- a name is left
 any : (t : tie.Then1 Inv-loop μ-loop) → let l = t .before .before in let s = start (l .before) in

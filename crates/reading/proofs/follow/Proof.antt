@@ -8,7 +8,7 @@ use native.Mathlib.Omega.{arith}
 use lib.ListN.{length}
 use Rattle.volume.specs.Contents.{textOf}
 use Rattle.place_view.specs.Place.{byPlace, blockAt, Lies}
-use Rattle.table.specs.Table.{taken, found, spotOf}
+use Rattle.table.specs.Table.{found, spotOf}
 use Rattle.contents.specs.Blocks.{blockFor}
 use Rattle.contents.specs.Walk.{own-lies, own-block, data-part}
 use Rattle.reading.specs.Reading.{chainOf}
@@ -18,16 +18,16 @@ use Rattle.reading.proofs.follow.Statement.{statement}
 use Rattle.reading.proofs.follow.Tie as tie
 
 abbrev Inv-loop : tie.InvT-loop
-Inv-loop image words ids spots chain from buffer₀ id₀ left₀ end₀ buffer id left end =
-    (bs : List ℕ) → chainOf image words ids spots chain ≡ some bs
-    → Going (byPlace image) (found (taken words) ids spots) (chain .file) bs from (chain .count) buffer₀ id left end buffer
+Inv-loop image ids spots chain from buffer₀ id₀ left₀ end₀ buffer id left end =
+    (bs : List ℕ) → chainOf image ids spots chain ≡ some bs
+    → Going (byPlace image) (found (length ids) ids spots) (chain .file) bs from (chain .count) buffer₀ id left end buffer
 
 abbrev μ-loop : tie.MeasureT-loop
-μ-loop image words ids spots chain from buffer₀ id₀ left₀ end₀ buffer id left end = left
+μ-loop image ids spots chain from buffer₀ id₀ left₀ end₀ buffer id left end = left
 
 -- the arguments, from the loop
 abbrev start : tie.At-loop Inv-loop μ-loop → tie.Start Inv-loop μ-loop
-start l = l .before .before .before .before .before .before
+start l = l .before .before .before .before .before
 
 abbrev at-loop : tie.After-known-told Inv-loop μ-loop → tie.At-loop Inv-loop μ-loop
 at-loop k = k .before .before .before .before .before
@@ -35,13 +35,13 @@ at-loop k = k .before .before .before .before .before
 -- the blocks of the chain, which is whole
 blocks : (s : tie.Start Inv-loop μ-loop)
     → (bs : List ℕ)
-    × (chainOf (s .args .image .now) (s .args .words .now) (s .args .ids .now) (s .args .spots .now) (s .args .chain) ≡ some bs)
+    × (chainOf (s .args .image .now) (s .args .ids .now) (s .args .spots .now) (s .args .chain) ≡ some bs)
     × (s .args .chain .size ≡ length (textOf (byPlace (s .args .image .now)) bs))
 blocks s =
-    sized-some (byPlace (s .args .image .now)) (chainOf (s .args .image .now) (s .args .words .now) (s .args .ids .now) (s .args .spots .now) (s .args .chain)) (s .args .chain .size) (s .pre .1)
+    sized-some (byPlace (s .args .image .now)) (chainOf (s .args .image .now) (s .args .ids .now) (s .args .spots .now) (s .args .chain)) (s .args .chain .size) (s .pre .1)
 
 going : (l : tie.At-loop Inv-loop μ-loop)
-    → Going (byPlace (start l .args .image .now)) (found (taken (start l .args .words .now)) (start l .args .ids .now) (start l .args .spots .now)) (start l .args .chain .file) (blocks (start l) .0)
+    → Going (byPlace (start l .args .image .now)) (found (length (start l .args .ids .now)) (start l .args .ids .now) (start l .args .spots .now)) (start l .args .chain .file) (blocks (start l) .0)
     (start l .args .from) (start l .args .chain .count) (start l .args .buffer .now) (l .loop .id) (l .loop .left) (l .loop .end) (l .loop .buffer)
 going l = l .loop .inv (blocks (start l) .0) (blocks (start l) .1)
 
@@ -49,7 +49,7 @@ going l = l .loop .inv (blocks (start l) .0) (blocks (start l) .1)
 there : (k : tie.After-known-told Inv-loop μ-loop)
     → some (k .before .p .given .0 .0)
     ≡ blockFor (byPlace (start (at-loop k) .args .image .now)) (start (at-loop k) .args .chain .file)
-    (found (taken (start (at-loop k) .args .words .now)) (start (at-loop k) .args .ids .now) (start (at-loop k) .args .spots .now)) (at-loop k .loop .id)
+    (found (length (start (at-loop k) .args .ids .now)) (start (at-loop k) .args .ids .now) (start (at-loop k) .args .spots .now)) (at-loop k .loop .id)
 there k = sym (ap spotOf (k .before .p .given .1)) ∙ k .before .before .before .own-block .ensures
 
 lies : (k : tie.After-known-told Inv-loop μ-loop) → Lies (start (at-loop k) .args .image .now) (k .before .p .given .0 .0)
@@ -81,7 +81,7 @@ still k =
 
 loop-holds : tie.Need-loop-holds Inv-loop μ-loop
 loop-holds c =
-    let s = c .before .before .before .before .before in
+    let s = c .before .before .before .before in
     λ bs e. going-begins e (sized-is _ _ _ bs (s .pre .1) e)
 
 same-length : tie.Need-same-length Inv-loop μ-loop
@@ -107,8 +107,8 @@ lay-requires c κs =
     let e = data-part (s .args .image .now) (k .before .p .given .0 .0) (lies k) (is-block k) (d .data-length .result) (d .data-length .ensures .0) in
     omega (arith, fits d, ap length e, d .data-length .ensures .0, k .before .before .before .before .loop-test .taken)
 
-previous-requires : tie.Need-previous-requires Inv-loop μ-loop
-previous-requires c κs = lies (c .before .before .before .before .before .before)
+previous-at-requires : tie.Need-previous-at-requires Inv-loop μ-loop
+previous-at-requires c κs = lies (c .before .before .before .before .before .before)
 
 sub-left : tie.Need-sub-left Inv-loop μ-loop
 sub-left c = still (c .before .before .before .before .before .before .before)
@@ -124,8 +124,8 @@ loop-again c =
     let l = at-loop k in
     let s = start l in
     λ bs e. going-on (l .loop .inv bs e) (k .before .before .before .before .loop-test .taken) (k .before .p .given .0 .0) (there k)
-    (c .previous .result) (d .data-length .result) _ (y .lay .last .1 .1 .1 .0)
-    (c .previous .ensures) (d .data-length .ensures .0)
+    (c .previous-at .result) (d .data-length .result) _ (y .lay .last .1 .1 .1 .0)
+    (c .previous-at .ensures) (d .data-length .ensures .0)
     (data-part (s .args .image .now) (k .before .p .given .0 .0) (lies k) (is-block k) (d .data-length .result) (d .data-length .ensures .0))
     (y .lay .ensures)
 
@@ -166,7 +166,7 @@ follow-spec =
     (λ c. search needs)
     (λ c. search needs)
     lay-requires
-    previous-requires
+    previous-at-requires
     sub-left
     loop-less
     loop-again

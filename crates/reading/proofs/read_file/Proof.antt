@@ -8,7 +8,7 @@ use lib.ListN.{length}
 use Rattle.volume.specs.Counting.{Volume}
 use Rattle.volume.specs.Contents.{chainBack, fileBlocks, textOf}
 use Rattle.place_view.specs.Place.{byPlace}
-use Rattle.table.specs.Table.{taken, found}
+use Rattle.table.specs.Table.{found}
 use Rattle.contents.specs.Blocks.{BlocksOf, lastOf, sizeOf, bytesOf, textSize}
 use Rattle.contents.specs.Walk.{file-broken, file-chain}
 use Rattle.reading.specs.Follow.{sized-some, sized-none}
@@ -19,7 +19,7 @@ use Rattle.reading.proofs.read_file.Tie as tie
 
 -- the arguments, from where the chain's start was looked for
 abbrev start : tie.After-last-block → tie.Start
-start c = c .before .before .before .before .before .before
+start c = c .before .before .before .before .before
 
 -- and from where the chain was followed
 abbrev from-chain : tie.After-chain-size → tie.Start
@@ -30,22 +30,22 @@ chained k = k .before .before .before
 
 -- the file's blocks are the chain's
 chain-is : (z : tie.After-chain-size) (v : Volume ℕ)
-    → BlocksOf (from-chain z .args .image .now) (from-chain z .args .words .now) (from-chain z .args .ids .now) (from-chain z .args .spots .now) v
+    → BlocksOf (from-chain z .args .image .now) (from-chain z .args .ids .now) (from-chain z .args .spots .now) v
     → fileBlocks (byPlace (from-chain z .args .image .now)) v (from-chain z .args .file)
     ≡ chainBack (byPlace (from-chain z .args .image .now))
-    (found (taken (from-chain z .args .words .now)) (from-chain z .args .ids .now) (from-chain z .args .spots .now)) (from-chain z .args .file)
+    (found (length (from-chain z .args .ids .now)) (from-chain z .args .ids .now) (from-chain z .args .spots .now)) (from-chain z .args .file)
     (z .before .owned-count .result) (z .before .before .before .last .given .0 .0)
 chain-is z v rows =
     let s = from-chain z in
     let k = z .before .before .before in
-    file-chain (s .args .image .now) (s .args .words .now) (s .args .ids .now) (s .args .spots .now) v rows (s .args .file) (k .last .given .0 .0) (z .before .owned-count .result)
+    file-chain (s .args .image .now) (s .args .ids .now) (s .args .spots .now) v rows (s .args .file) (k .last .given .0 .0) (z .before .owned-count .result)
     (sym (ap lastOf (k .last .given .1)) ∙ k .before .before .last-block .ensures v rows) (z .before .owned-count .ensures .0 v rows)
 
 -- and have that size
 size-is : (k : tie.After-known-told2)
     → textSize (byPlace (from-chain (chained k) .args .image .now))
     (chainBack (byPlace (from-chain (chained k) .args .image .now))
-    (found (taken (from-chain (chained k) .args .words .now)) (from-chain (chained k) .args .ids .now) (from-chain (chained k) .args .spots .now))
+    (found (length (from-chain (chained k) .args .ids .now)) (from-chain (chained k) .args .ids .now) (from-chain (chained k) .args .spots .now))
     (from-chain (chained k) .args .file) (chained k .before .owned-count .result) (chained k .before .before .before .last .given .0 .0))
     ≡ some (k .before .size .given .0 .0)
 size-is k = sym (chained k .chain-size .ensures .1) ∙ ap sizeOf (k .before .size .given .1)
@@ -53,7 +53,7 @@ size-is k = sym (chained k .chain-size .ensures .1) ∙ ap sizeOf (k .before .si
 blocks : (k : tie.After-known-told2)
     → (bs : List ℕ)
     × (chainBack (byPlace (from-chain (chained k) .args .image .now))
-    (found (taken (from-chain (chained k) .args .words .now)) (from-chain (chained k) .args .ids .now) (from-chain (chained k) .args .spots .now))
+    (found (length (from-chain (chained k) .args .ids .now)) (from-chain (chained k) .args .ids .now) (from-chain (chained k) .args .spots .now))
     (from-chain (chained k) .args .file) (chained k .before .owned-count .result) (chained k .before .before .before .last .given .0 .0) ≡ some bs)
     × (k .before .size .given .0 .0 ≡ length (textOf (byPlace (from-chain (chained k) .args .image .now)) bs))
 blocks k = sized-some _ _ _ (size-is k)
@@ -63,7 +63,7 @@ returns c =
     let e = c .before in
     let f = e .before .before in
     let s = start f in
-    λ v rows. reads-broken (file-broken (s .args .image .now) (s .args .words .now) (s .args .ids .now) (s .args .spots .now) v rows (s .args .file)
+    λ v rows. reads-broken (file-broken (s .args .image .now) (s .args .ids .now) (s .args .spots .now) v rows (s .args .file)
     (sym (ap lastOf (e .enum-told .given .1)) ∙ f .last-block .ensures v rows)) (c .answer .ensures)
 
 returns-2 : tie.Need-returns-2
@@ -88,20 +88,20 @@ returns-4 c =
     (omega (arith, a .above .ensures, l .before .if1 .left)) (l .least .result) (l .least .ensures) (c .before .if2 .taken) (c .answer4 .ensures)
 
 follow-requires : tie.Need-follow-requires
-follow-requires c κs = let k = c .before .before .before .before .before in (from-chain (chained k) .pre, size-is k)
+follow-requires c κs = let k = c .before .before .before .before .before in (from-chain (chained k) .pre .0, size-is k)
 
 cast-answer : tie.Need-cast-answer
 cast-answer c =
     let l = c .before .before .before .before .before in
     let k = l .before .before .before in
     let z = chained k in
-    omega (arith, l .least .ensures, z .chain-size .ensures .0, ap bytesOf (k .before .size .given .1), z .before .owned-count .ensures .1)
+    omega (arith, l .least .ensures, z .chain-size .ensures .0, ap bytesOf (k .before .size .given .1), z .before .owned-count .ensures .1, from-chain z .pre .1)
 
 cast-answer-2 : tie.Need-cast-answer-2
 cast-answer-2 c =
     let f = c .before .before in
     let z = chained (f .before .before .before .before .before .before) in
-    omega (arith, f .follow .ensures .0, z .before .owned-count .ensures .1)
+    omega (arith, f .follow .ensures .0, z .before .owned-count .ensures .1, from-chain z .pre .1)
 
 returns-5 : tie.Need-returns-5
 returns-5 c =

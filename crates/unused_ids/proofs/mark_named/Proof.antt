@@ -1,4 +1,5 @@
 -- `unused_ids::mark_named` meets its contract: the names of the records from `left` on are marked.
+use Prim.Native.Nat.{_-_}
 use native.Mathlib.Omega.{arith}
 use Rattle.unused_ids.specs.Laws.{Marking, marking-begins, marking-on, marking-ends}
 use Rattle.unused_ids.proofs.mark_named.Statement.{statement}
@@ -25,6 +26,10 @@ mul-mark-record c = omega (arith, c .before .loop .inv .within, c .loop-test .ta
 
 shared-slice-read-mark-record : tie.Need-shared-slice-read-mark-record Inv-loop μ-loop
 shared-slice-read-mark-record c = let n = c .before in omega (arith, n .before .loop .inv .within, n .loop-test .taken)
+
+-- a place of 16 bits is one of 32
+cast-mark-record : tie.Need-cast-mark-record Inv-loop μ-loop
+cast-mark-record c = omega (arith, c .shared-slice-known3 .given (c .before .before .loop .left - 1))
 
 mark-record-requires : tie.Need-mark-record-requires Inv-loop μ-loop
 mark-record-requires c κs =
@@ -53,6 +58,7 @@ mark-named-spec =
     sub-left
     mul-mark-record
     shared-slice-read-mark-record
+    cast-mark-record
     mark-record-requires
     (λ c. omega (arith, c .before .before .before .before .before .loop-test .taken))
     loop-again

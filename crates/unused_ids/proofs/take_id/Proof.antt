@@ -1,6 +1,7 @@
 -- `unused_ids::take_id` meets its contract.
-use mathlib.Core.Path.{_≡_, sym, _∙_}
-use Prim.Native.Nat.{_+_}
+use Prim.Native.Nat.{ℕ, _+_}
+use mathlib.Core.Path.{_≡_, sym, ap, _∙_}
+use lib.ListN.{set}
 use borrow.Author.Needs.{needs}
 use Rattle.calls.specs.Storing.{unusedId}
 use Rattle.occupancy.specs.Occupancy.{places, firstZero}
@@ -16,7 +17,7 @@ returns c =
     λ names marks room.
     let k : f .first-free .result ≡ firstZero (places (a .words .now)) = f .first-free .ensures .0 in
     let e : a .first + f .first-free .result ≡ unusedId (a .first) names = sym (unused-is (a .first) names (a .words .now) marks room ∙ rw k) in
-    (e, rw e (unused-taken (a .first) names (a .words .now) marks room (o .occupy .last .0) (o .occupy .kept .0) (rw k at (o .occupy .ensures))))
+    (e, rw e (unused-taken (a .first) names (a .words .now) marks room (o .occupy .last .0) (o .occupy .kept .0) (o .occupy .ensures ∙ ap (λ (j : ℕ). set (places (a .words .now)) j 1) k)))
 
 pub take-id-spec : {M : Type 1} → statement M
 take-id-spec =

@@ -5,7 +5,7 @@ use native.Mathlib.Omega.{arith}
 use borrow.Author.Needs.{needs}
 use lib.ListN.{length}
 use Rattle.occupancy.specs.Occupancy.{capacity}
-use Rattle.unused_ids.specs.Window.{namedAt}
+use Rattle.unused_ids.specs.Window.{idWords, namedAt}
 use Rattle.unused_ids.specs.Laws.{few-names, unused-within}
 use Rattle.unused_ids.proofs.unused_id.Statement.{statement}
 use Rattle.unused_ids.proofs.unused_id.Tie as tie
@@ -18,14 +18,14 @@ start m = m .before .before .before .before
 room : (m : tie.After-mark-named) → length (namedAt (start m .args .image .now) (start m .args .places .now)) < capacity (m .mark-named .last .1 .1 .0)
 room m =
     let s = start m in
-    let e : length (m .mark-named .last .1 .1 .0) ≡ 158 = m .mark-named .kept .1 .1 .0 in
+    let e : length (m .mark-named .last .1 .1 .0) ≡ idWords = m .mark-named .kept .1 .1 .0 in
     omega (arith, few-names (s .args .image .now) (s .args .places .now), s .pre .1 .0)
 
 take-id-requires : tie.Need-take-id-requires
 take-id-requires c κs =
     let m = c .before .before in
     let s = start m in
-    let e : length (m .mark-named .last .1 .1 .0) ≡ 158 = m .mark-named .kept .1 .1 .0 in
+    let e : length (m .mark-named .last .1 .1 .0) ≡ idWords = m .mark-named .kept .1 .1 .0 in
     (omega arith, (unused-within _ _ _ (m .mark-named .ensures) (room m), s .pre .1 .1))
 
 returns : tie.Need-returns
