@@ -12,15 +12,15 @@ use Rattle.volume_laws.specs.Map.{over, lookupNames-map, children-map, inodeOf-
 use Rattle.place_view.specs.Place.{byPlace, bytesAt}
 use Rattle.place_view.specs.Laws.{place-views}
 use Rattle.calls.specs.Areas.{mostAreas, fileAreas}
-use Rattle.calls.specs.Mount.{volume}
+use Rattle.calls.specs.Mount.{mostBlocks, volume}
 use Rattle.calls.specs.declared.Descriptor.{Descriptor}
 use Rattle.descriptors.specs.Described.{described}
 use Rattle.listing.specs.Listing.{Fit}
 use Rattle.listing.specs.Bridge.{placedVolume, volume-places}
 use Rattle.listing.specs.Rows.{spansAt}
 use Rattle.table.specs.Parts.{lent, lent-front, both}
-use Rattle.table.specs.Rows.{InodeTable, RowsOf}
-use Rattle.mounted.specs.State.{inodeIdsAt, inodeSpotsAt, Safe, Holds}
+use Rattle.table.specs.Rows.{InodeTable, BlockTable, RowsOf}
+use Rattle.mounted.specs.State.{inodeIdsAt, inodeSpotsAt, blockIdsAt, blockSpotsAt, Safe, Holds}
 use Rattle.mounted.specs.declared.Mounted.{Mounted}
 
 -- the volume of the calls, by the places of its records
@@ -43,6 +43,12 @@ module _ {image : Bytes} {m : Mounted} {t : List ℕ} (s : Safe image m t) where
   pub inodes-lent : InodeTable image (take (inodeIdsAt + m .inodes - inodeIdsAt) (drop inodeIdsAt t)) (take (inodeSpotsAt + m .inodes - inodeSpotsAt) (drop inodeSpotsAt t))
   inodes-lent = both (InodeTable image) (lent inodeIdsAt (m .inodes) t) (lent inodeSpotsAt (m .inodes) t) (s .inodes)
 
+  pub blocks-lent : BlockTable image (take (blockIdsAt + m .blocks - blockIdsAt) (drop blockIdsAt t)) (take (blockSpotsAt + m .blocks - blockSpotsAt) (drop blockSpotsAt t))
+  blocks-lent = both (BlockTable image) (lent blockIdsAt (m .blocks) t) (lent blockSpotsAt (m .blocks) t) (s .blocks)
+
+  pub blocks-few : length (take (blockIdsAt + m .blocks - blockIdsAt) (drop blockIdsAt t)) ≤ mostBlocks
+  blocks-few = omega (arith, s .blocks-few, length-take (blockIdsAt + m .blocks - blockIdsAt) (drop blockIdsAt t))
+
   pub fit-lent : Fit image (take (m .files - 0) t) (take (spansAt + m .files - spansAt) (drop spansAt t))
   fit-lent = both (Fit image) (lent-front (m .files) t) (lent spansAt (m .files) t) (s .fit)
 
@@ -53,6 +59,10 @@ module _ {image : Bytes} {ds : List Descriptor} {m : Mounted} {t : List ℕ} (h 
   pub rows-lent : RowsOf (byPlace image) (placedVolume image ds .inodes)
       (take (inodeIdsAt + m .inodes - inodeIdsAt) (drop inodeIdsAt t)) (take (inodeSpotsAt + m .inodes - inodeSpotsAt) (drop inodeSpotsAt t))
   rows-lent = both (RowsOf (byPlace image) (placedVolume image ds .inodes)) (lent inodeIdsAt (m .inodes) t) (lent inodeSpotsAt (m .inodes) t) (h .inodes)
+
+  pub block-rows-lent : RowsOf (byPlace image) (placedVolume image ds .blocks)
+      (take (blockIdsAt + m .blocks - blockIdsAt) (drop blockIdsAt t)) (take (blockSpotsAt + m .blocks - blockSpotsAt) (drop blockSpotsAt t))
+  block-rows-lent = both (RowsOf (byPlace image) (placedVolume image ds .blocks)) (lent blockIdsAt (m .blocks) t) (lent blockSpotsAt (m .blocks) t) (h .blocks)
 
   pub files-lent : described (take (m .files - 0) t) (take (spansAt + m .files - spansAt) (drop spansAt t)) ≡ fileAreas image ds
   files-lent = ap₂ described (lent-front (m .files) t) (lent spansAt (m .files) t) ∙ h .files

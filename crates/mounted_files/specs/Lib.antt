@@ -1,3 +1,3 @@
--- Lookup, open and read by mounted tables.
-pub mod Paths
+-- The answers of lookup and open, and reading by the tables of a mounted volume.
+pub mod Answers
 pub mod Reads

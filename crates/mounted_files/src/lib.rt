@@ -1,55 +1,32 @@
-// Lookup, open and read over the tables of a mounted volume: what the calls do once their image is mounted.
+// The answers of lookup and open by what was found, and the read of a mounted volume.
 ghost use mathlib.Core.Path.{_≡_};
-ghost use Prim.Native.Nat.{ℕ};
 ghost use mathlib.Core.Bool.{cond};
-ghost use Rattle.volume.specs.Counting.{Volume};
+ghost use mathlib.Core.List.{List};
 ghost use Rattle.calls.specs.Lookup.{lookupAnswer, fileOnly, openAnswer};
-ghost use Rattle.place_view.specs.Place.{byPlace};
-ghost use Rattle.lookup.specs.Found.{InodesOf, InodeTable, meaning, Kinded};
-ghost use Rattle.contents.specs.Blocks.{BlocksOf, BlockTable};
+ghost use Rattle.calls.specs.declared.Descriptor.{Descriptor};
+ghost use Rattle.lookup.specs.Found.{meaning, Kinded};
 ghost use Rattle.reading.specs.Reading.{without};
-ghost use Rattle.mounted_files.specs.Paths.{pathFound};
-ghost use Rattle.mounted_files.specs.Reads.{MountedRead};
+ghost use Rattle.mounted.specs.State.{Safe, Holds};
+ghost use Rattle.mounted_files.specs.Reads.{Reads};
 use calls::Lookup;
+use calls::NOT_FOUND;
 use calls::Opened;
 use calls::ReadAnswer;
+use calls::WRONG_KIND;
 use lookup::Found;
 use lookup::is_live;
-use lookup::resolve;
-use paths::good_path;
+use mounted::BLOCK_IDS;
+use mounted::BLOCK_SPOTS;
+use mounted::INODE_IDS;
+use mounted::INODE_SPOTS;
+use mounted::Mounted;
 use reading::read_file;
 use records::is_directory_id;
-
-// Numbers of refusal.
-const BAD_PATH: u32 = 8;
-
-const NOT_LIVE: u32 = 9;
-
-const WRONG_KIND: u32 = 11;
 
 // The kinds of inodes.
 const DIRECTORY: u32 = 0;
 
 const FILE: u32 = 1;
-
-// What a path leads to.
-pub fn find_mounted<'a>(
-    image: &[u8],
-    words: &[u64],
-    ids: &[u32],
-    spots: &[u32],
-    base: &'a [u8],
-    path: &'a [u8],
-) -> Found
-    requires { ⌜ InodeTable (now image) (now words) (now ids) (now spots) ⌝ }
-    ensures means { λ r. ⌜ ((v : Volume ℕ) → InodesOf (now (image .entry)) (now (words .entry)) (now (ids .entry)) (now (spots .entry)) v → meaning r ≡ pathFound (byPlace (now (image .entry))) v (now (base .entry)) (now (path .entry))) ⌝ }
-    ensures kind { λ r. ⌜ Kinded r ⌝ }
-{
-    if good_path(base, path) {} else {
-        return Found::Absent(BAD_PATH);
-    }
-    resolve(image, words, ids, spots, base, path)
-}
 
 // The number of a kind.
 fn kind_number(directory: bool) -> u32
@@ -58,6 +35,7 @@ fn kind_number(directory: bool) -> u32
     if directory { DIRECTORY } else { FILE }
 }
 
+// The answer of a lookup.
 fn looked_up(number: u32, id: u32, kind: u32) -> Lookup
     ensures { λ r. ⌜ r ≡ record { number = number; id = id; kind = kind } ⌝ }
 {
@@ -75,6 +53,7 @@ pub fn lookup_answer(found: Found) -> Lookup
     looked_up(0, id, kind_number(directory))
 }
 
+// The answer of an open, at position 0.
 fn opened(number: u32, id: u32) -> Opened
     ensures { λ r. ⌜ r ≡ record { number = number; id = id; position = 0 } ⌝ }
 {
@@ -113,25 +92,36 @@ pub fn not_read(number: u32) -> ReadAnswer
 // Reads the file of an id from a position on, into the front of a lent buffer; a refused read leaves the buffer as it is.
 pub fn read_mounted(
     image: &[u8],
-    iwords: &[u64],
-    iids: &[u32],
-    ispots: &[u32],
-    bwords: &[u64],
-    bids: &[u32],
-    bspots: &[u32],
+    tables: &[u32],
+    m: Mounted,
     id: u32,
     position: u32,
     buffer: &mut [u8],
 ) -> ReadAnswer
-    requires { ⌜ InodeTable (now image) (now iwords) (now iids) (now ispots) ⌝ }
-    requires { ⌜ BlockTable (now image) (now bwords) (now bids) (now bspots) ⌝ }
-    ensures { λ r. ⌜ ((v : Volume ℕ) → InodesOf (now (image .entry)) (now (iwords .entry)) (now (iids .entry)) (now (ispots .entry)) v → BlocksOf (now (image .entry)) (now (bwords .entry)) (now (bids .entry)) (now (bspots .entry)) v → MountedRead (now (image .entry)) v id position (now (buffer .entry)) r (now (buffer .exit))) ⌝ }
+    requires { ⌜ Safe (now image) m (now tables) ⌝ }
+    ensures { λ r. ⌜ ((ds : List Descriptor) → Holds (now (image .entry)) ds m (now (tables .entry)) → Reads (now (image .entry)) ds id position (now (buffer .entry)) r (now (buffer .exit))) ⌝ }
 {
-    if is_live(image, iwords, iids, ispots, id) {} else {
-        return not_read(NOT_LIVE);
+    let inode_ids = INODE_IDS + m.inodes;
+    let inode_spots = INODE_SPOTS + m.inodes;
+    if is_live(
+        image,
+        &tables[INODE_IDS..inode_ids],
+        &tables[INODE_SPOTS..inode_spots],
+        id,
+    ) {} else {
+        return not_read(NOT_FOUND);
     }
     if is_directory_id(id) {
         return not_read(WRONG_KIND);
     }
-    read_file(image, bwords, bids, bspots, id, position, &mut *buffer)
+    let block_ids = BLOCK_IDS + m.blocks;
+    let block_spots = BLOCK_SPOTS + m.blocks;
+    read_file(
+        image,
+        &tables[BLOCK_IDS..block_ids],
+        &tables[BLOCK_SPOTS..block_spots],
+        id,
+        position,
+        &mut *buffer,
+    )
 }

@@ -4,7 +4,7 @@ use mathlib.Core.Bool.{Bool, cond}
 use Rattle.format.specs.Ids.{isDirectoryId}
 use borrow.Author.Needs.{needs}
 use Rattle.lookup.specs.Found.{meaning, Kinded}
-use Rattle.mounted_files.specs.Paths.{lookup-absent, lookup-found}
+use Rattle.mounted_files.specs.Answers.{lookup-absent, lookup-found}
 use Rattle.mounted_files.proofs.lookup_answer.Statement.{statement}
 use Rattle.mounted_files.proofs.lookup_answer.Tie as tie
 

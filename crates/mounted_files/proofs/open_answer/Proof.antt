@@ -3,7 +3,7 @@ use mathlib.Core.Path.{_≡_, sym, ap, subst, _∙_}
 use Rattle.format.specs.Ids.{isDirectoryId}
 use borrow.Author.Needs.{needs}
 use Rattle.lookup.specs.Found.{meaning, Kinded}
-use Rattle.mounted_files.specs.Paths.{open-absent, open-directory, open-file}
+use Rattle.mounted_files.specs.Answers.{open-absent, open-directory, open-file}
 use Rattle.mounted_files.proofs.open_answer.Statement.{statement}
 use Rattle.mounted_files.proofs.open_answer.Tie as tie
 

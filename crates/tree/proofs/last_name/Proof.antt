@@ -1,12 +1,12 @@
--- `creating::last_name` meets its contract: the last of the names left is the last of all.
+-- `tree::last_name` meets its contract: the last of the names left is the last of all.
 use mathlib.Core.Path.{_≡_, sym, _∙_}
 use mathlib.Core.Bool.{false}
 use lib.ListN.{length}
 use Rattle.paths.specs.Names.{namesFrom, oneName}
 use Rattle.paths.specs.Walking.{fewer}
-use Rattle.creating.specs.Names.{Toward, toward-begins, toward-on, toward-ends}
-use Rattle.creating.proofs.last_name.Statement.{statement}
-use Rattle.creating.proofs.last_name.Tie as tie
+use Rattle.tree.specs.Parent.{Toward, toward-begins, toward-on, toward-ends}
+use Rattle.tree.proofs.last_name.Statement.{statement}
+use Rattle.tree.proofs.last_name.Tie as tie
 
 abbrev Inv-loop : tie.InvT-loop
 Inv-loop base path w₀ w = Toward base path w

@@ -1,4 +1,4 @@
--- `creating::walk_before` meets its contract: the walk from where it is, over the names left but the last, ends as the whole does.
+-- `tree::walk_before` meets its contract: the walk from where it is, over the names left but the last, ends as the whole does.
 use Prim.Native.Nat.{ℕ}
 use mathlib.Core.Path.{_≡_, sym, ap, _∙_}
 use mathlib.Core.Bool.{false}
@@ -9,20 +9,20 @@ use Rattle.place_view.specs.Place.{byPlace}
 use Rattle.paths.specs.Names.{namesFrom, oneName}
 use Rattle.paths.specs.Walking.{fewer}
 use Rattle.lookup.specs.Found.{InodesOf, meaning}
-use Rattle.creating.specs.Names.{Toward, toward-begins, toward-on, Along, along-begins, along-on, along-fails, along-ends}
-use Rattle.creating.proofs.walk_before.Statement.{statement}
-use Rattle.creating.proofs.walk_before.Tie as tie
+use Rattle.tree.specs.Parent.{Toward, toward-begins, toward-on, Along, along-begins, along-on, along-fails, along-ends}
+use Rattle.tree.proofs.walk_before.Statement.{statement}
+use Rattle.tree.proofs.walk_before.Tie as tie
 
 abbrev Inv-loop : tie.InvT-loop
-Inv-loop image words ids spots base path w₀ at₀ w at =
-    Toward base path w × ((v : Volume ℕ) → InodesOf image words ids spots v → Along (byPlace image) v base path w at)
+Inv-loop image ids spots base path w₀ at₀ w at =
+    Toward base path w × ((v : Volume ℕ) → InodesOf image ids spots v → Along (byPlace image) v base path w at)
 
 abbrev μ-loop : tie.MeasureT-loop
-μ-loop image words ids spots base path w₀ at₀ w at = length (namesFrom base path w)
+μ-loop image ids spots base path w₀ at₀ w at = length (namesFrom base path w)
 
 -- the arguments, from the head of the loop
 abbrev start : tie.At-loop Inv-loop μ-loop → tie.Start Inv-loop μ-loop
-start l = l .before .before .before .before .before .before .before .before
+start l = l .before .before .before .before .before .before .before
 
 -- a name that is not the last
 more : (e : tie.Else1 Inv-loop μ-loop) → let l = e .before .before in let s = start l in
@@ -30,11 +30,11 @@ more : (e : tie.Else1 Inv-loop μ-loop) → let l = e .before .before in let s =
 more e = sym (e .before .is-last .ensures) ∙ e .if1 .left
 
 start-requires : tie.Need-start-requires Inv-loop μ-loop
-start-requires c κs = c .before .before .before .before .before .before .pre .1 .0
+start-requires c κs = c .before .before .before .before .before .pre .1 .0
 
 loop-holds : tie.Need-loop-holds Inv-loop μ-loop
 loop-holds c =
-    let s = c .before .before .before .before .before .before .before in (
+    let s = c .before .before .before .before .before .before in (
       toward-begins (s .args .base .now) (s .args .path .now) (c .start .result) (s .pre .1 .1) (c .start .ensures),
       λ v rows. along-begins (byPlace (s .args .image .now)) v (s .args .base .now) (s .args .path .now) (c .start .result) (c .start .ensures),
     )
