@@ -1,15 +1,20 @@
-// Where new records go: the free space of the clean file areas, and the first of it that has room.
+// Where new records go: the free space of the clean file areas, looked up in their rows, and the first of it that has room.
 ghost use mathlib.Core.Path.{_≡_};
-ghost use Prim.Native.Nat.{_≤_};
+ghost use mathlib.Core.List.{List};
+ghost use Prim.Native.Nat.{min, _≤_};
 ghost use lib.ListN.{length, take};
-ghost use Rattle.calls.specs.Areas.{mostAreas};
+ghost use Rattle.calls.specs.Areas.{largestImage, fileAreas};
 ghost use Rattle.calls.specs.Storing.{spaces, firstFit};
-ghost use Rattle.descriptors.specs.Described.{described};
-ghost use Rattle.listing.specs.Listing.{Fit};
+ghost use Rattle.calls.specs.declared.Descriptor.{Descriptor};
+ghost use Rattle.mounted.specs.State.{Safe, Holds};
 ghost use Rattle.free_space.specs.Spaces.{spacesOf, fitOf, placeOf, placeIn, EndsAt};
 ghost use Rattle.free_space.specs.First.{First};
-use areas::read_area;
-use descriptors::MOST_AREAS;
+ghost use Rattle.free_space.specs.Rows.{AreaRows, rowSpaces};
+use calls::MOST_AREAS;
+use listing::FREE;
+use listing::SPANS;
+use listing::STRETCHES;
+use mounted::Mounted;
 
 // Where a record goes.
 pub enum Place {
@@ -17,28 +22,32 @@ pub enum Place {
     Nowhere,
 }
 
-// Puts the free space of the clean areas, in their order, into the first places of `froms` and `ends`; answers how many there are.
+// The smaller of two numbers.
+pub fn smaller(a: usize, b: usize) -> usize
+    ensures { λ r. ⌜ r ≡ min a b ⌝ }
+{
+    if a < b {
+        return a;
+    }
+    b
+}
+
+// Puts the free space of the clean areas, in the order of their rows, into the first places of `froms` and `ends`; answers how many there are.
 // A damaged area is left out: it waits for collection.
-pub fn find_spaces(
-    image: &[u8],
-    offsets: &[u32],
-    lengths: &[u32],
-    froms: &mut [u32],
-    ends: &mut [u32],
-) -> usize
-    requires { ⌜ Fit (now image) (now offsets) (now lengths) ⌝ }
-    requires { ⌜ (length (now offsets) ≤ length (now froms)) × (length (now offsets) ≤ length (now ends)) ⌝ }
-    ensures are { λ r. ⌜ spacesOf (take r (now (froms .exit))) (take r (now (ends .exit))) ≡ spaces (now (image .entry)) (described (now (offsets .entry)) (now (lengths .entry))) ⌝ }
+pub fn find_spaces(tables: &[u32], files: usize, froms: &mut [u32], ends: &mut [u32]) -> usize
+    requires { ⌜ AreaRows files (now tables) ⌝ }
+    requires { ⌜ (files ≤ length (now froms)) × (files ≤ length (now ends)) ⌝ }
+    ensures are { λ r. ⌜ spacesOf (take r (now (froms .exit))) (take r (now (ends .exit))) ≡ rowSpaces (now (tables .entry)) 0 files ⌝ }
     ensures within { λ r. ⌜ (r ≤ length (now (froms .exit))) × (r ≤ length (now (ends .exit))) ⌝ }
 {
     let mut k = 0;
     let mut i = 0;
-    while i < offsets.len() {
-        let start = offsets[i] as usize;
-        let end = start + lengths[i] as usize;
-        let reading = read_area(&image[start..end]);
-        if reading.stretches == 0 {
-            froms[k] = (start + reading.free) as u32;
+    while i < files {
+        let start = tables[i] as usize;
+        let end = start + tables[SPANS + i] as usize;
+        let from = smaller(start + tables[FREE + i] as usize, end);
+        if tables[STRETCHES + i] == 0 {
+            froms[k] = from as u32;
             ends[k] = end as u32;
             k += 1;
             i += 1;
@@ -51,7 +60,7 @@ pub fn find_spaces(
 
 // The first space with room for `n` bytes; the number of spaces where there is none.
 fn first_fit(froms: &[u32], ends: &[u32], n: usize) -> usize
-    requires { ⌜ (length (now froms) ≡ length (now ends)) × (n ≤ 65536) ⌝ }
+    requires { ⌜ (length (now froms) ≡ length (now ends)) × (n ≤ largestImage) ⌝ }
     ensures { λ r. ⌜ First n (now (froms .entry)) (now (ends .entry)) r ⌝ }
 {
     let mut i = 0;
@@ -66,7 +75,7 @@ fn first_fit(froms: &[u32], ends: &[u32], n: usize) -> usize
 
 // Takes `n` bytes from the first space with room, which then starts behind them; answers where they are.
 pub fn take_place(froms: &mut [u32], ends: &[u32], n: usize) -> Place
-    requires { ⌜ (length (now froms) ≡ length (now ends)) × (n ≤ 65536) ⌝ }
+    requires { ⌜ (length (now froms) ≡ length (now ends)) × (n ≤ largestImage) ⌝ }
     ensures { λ r. ⌜ firstFit n (spacesOf (now (froms .entry)) (now (ends .entry))) ≡ fitOf r (spacesOf (now (froms .exit)) (now (ends .entry))) ⌝ }
 {
     let i = first_fit(&*froms, ends, n);
@@ -78,15 +87,15 @@ pub fn take_place(froms: &mut [u32], ends: &[u32], n: usize) -> Place
     Place::At(at)
 }
 
-// The place of one record of `n` bytes.
-pub fn place_one(image: &[u8], offsets: &[u32], lengths: &[u32], n: usize) -> Place
-    requires { ⌜ Fit (now image) (now offsets) (now lengths) ⌝ }
-    requires { ⌜ (length (now offsets) ≤ mostAreas) × (n ≤ 65536) ⌝ }
-    ensures is { λ r. ⌜ placeOf r ≡ placeIn (firstFit n (spaces (now (image .entry)) (described (now (offsets .entry)) (now (lengths .entry))))) ⌝ }
+// The place of one record of `n` bytes: in the first clean file area with room.
+pub fn place_one(image: &[u8], tables: &[u32], m: Mounted, n: usize) -> Place
+    requires { ⌜ Safe (now image) m (now tables) ⌝ }
+    requires { ⌜ n ≤ largestImage ⌝ }
+    ensures is { λ r. ⌜ ((ds : List Descriptor) → Holds (now (image .entry)) ds m (now (tables .entry)) → placeOf r ≡ placeIn (firstFit n (spaces (now (image .entry)) (fileAreas (now (image .entry)) ds)))) ⌝ }
     ensures inside { λ r. ⌜ EndsAt n (length (now (image .entry))) r ⌝ }
 {
     let mut froms = [0u32; MOST_AREAS];
     let mut ends = [0u32; MOST_AREAS];
-    let count = find_spaces(image, offsets, lengths, &mut froms[..], &mut ends[..]);
+    let count = find_spaces(tables, m.files, &mut froms[..], &mut ends[..]);
     take_place(&mut froms[..count], &ends[..count], n)
 }
