@@ -10,7 +10,7 @@ ghost use Rattle.volume.specs.Tree.{lookupNames};
 ghost use Rattle.calls.specs.Mount.{volume};
 ghost use Rattle.calls.specs.Lookup.{resolve};
 ghost use Rattle.calls.specs.Create.{lastName, namesBefore};
-ghost use Rattle.calls.specs.Unlink.{sequenceOf};
+ghost use Rattle.calls.specs.Rewrite.{sequenceOf};
 ghost use Rattle.calls.specs.declared.Descriptor.{Descriptor};
 ghost use Rattle.place_view.specs.Place.{byPlace};
 ghost use Rattle.paths.specs.Names.{anyNames};
