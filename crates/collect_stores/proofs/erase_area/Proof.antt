@@ -14,7 +14,7 @@ returns c =
     let w = e .before .before .before in
     let s = w .before .before .before .before .before in
     reset-done (s .args .image .now) (s .args .offset) (s .args .span) (s .pre .0) (s .pre .1) (replicate 24 0) _ _ _ refl
-    (rw (add-sub-cancel-left (s .args .offset) 24) at (w .put .ensures))
+    (rw add-sub-cancel-left at (w .put .ensures))
     (e .erase .ensures)
     (q .put2 .ensures)
 
