@@ -55,10 +55,10 @@ module _ (x : Bytes) (t s : Descriptor) (ps : List ℕ) where
       ∙ length-put x (t .offset) _ (omega (arith, l, f .inside))
 
   -- scratch filled, and then the source erased
-  pub stores-move : Removable x t s ps → (y z : Bytes) (id count : ℕ) → id ≡ areaId (areaBytes x s) → count ≡ nextCount (countOf x s)
-      → y ≡ storeAll x (filling id) → z ≡ put y (s .offset) (emptyArea (s .length) count scratchId) → z ≡ movedInto x t s ps
+  pub stores-move : Removable x t s ps → (y z : Bytes) (id count : ℕ) → y ≡ storeAll x (filling id)
+      → z ≡ put y (s .offset) (emptyArea (s .length) count scratchId) → id ≡ areaId (areaBytes x s) → count ≡ nextCount (countOf x s) → z ≡ movedInto x t s ps
   unfolding movedInto collectStores emptyArea
-  stores-move ok y z id count e f g h =
+  stores-move ok y z id count g h e f =
       let own = areaId (areaBytes x s) in
       let header = areaHeader (s .length) (nextCount (countOf x s)) scratchId in
       let d : y ≡ storeAll x (filling own) = rw (← e) g in
