@@ -37,19 +37,19 @@ module _ (image : Bytes) (ds : List Descriptor) where
   file-is d m = let k = keep-mem (λ d. isFileArea (d .length) (areaBytes image d)) ds m in (k .0, T→true (k .1))
 
   -- what survives a collection of s
-  pub survivors : (s : Descriptor) → Survivors (volume image ds) (areaBytes image s) (recordsElsewhere image (fileAreas image ds) s) (copiedRecords image ds s)
-  survivors s = copies-survive (volume image ds) (areaBytes image s) (recordsElsewhere image (fileAreas image ds) s)
+  pub copied-survive : (s : Descriptor) → Survivors (volume image ds) (areaBytes image s) (recordsElsewhere image (fileAreas image ds) s) (copiedRecords image ds s)
+  copied-survive s = copies-survive (volume image ds) (areaBytes image s) (recordsElsewhere image (fileAreas image ds) s)
 
   module _ (p : Passes image ds) (t s : Descriptor) (one-scratch : scratchAreas image ds ≡ t ∷ [])
       (source-is : sourceOf image (fileAreas image ds) t ≡ some s) where
-    -- it has room in scratch
-    pub survivors-fit : areaHeaderSize + length (joinedBytes (copiedRecords image ds s)) ≤ t .length
-    survivors-fit =
+    -- there is room for it in scratch
+    pub copied-fit : areaHeaderSize + length (joinedBytes (copiedRecords image ds s)) ≤ t .length
+    copied-fit =
         let f = source-found image (fileAreas image ds) t s source-is in
         let h = area-fits image ds (p .described) s (file-is s (f .0) .0) in
         omega (
           arith,
-          survivors s .fit,
+          copied-survive s .fit,
           length-drop areaHeaderSize (areaBytes image s),
           part-length image (s .offset) (s .length) (h .1),
           f .1,
@@ -65,4 +65,4 @@ module _ (image : Bytes) (ds : List Descriptor) where
         let f = source-found image (fileAreas image ds) t s source-is in
         let h = area-fits image ds (p .described) s (file-is s (f .0) .0) in
         let k = area-fits image ds (p .described) t (scratch-is t one-scratch .0) in
-        stores-are image t s (copiedRecords image ds s) (k .0) (k .1) (h .0) (h .1) survivors-fit
+        stores-are image t s (copiedRecords image ds s) (k .0) (k .1) (h .0) (h .1) copied-fit

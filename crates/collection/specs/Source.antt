@@ -21,7 +21,7 @@ use Rattle.calls.specs.Areas.{areaEnd, areaBytes, allDisjoint, fileAreas, scrat
 use Rattle.calls.specs.Mount.{recordsOf}
 use Rattle.calls.specs.Collect.{copiedRecords}
 use Rattle.calls.specs.declared.Descriptor.{Descriptor}
-use Rattle.collect_laws.specs.Mounted.{survivors}
+use Rattle.collect_laws.specs.Mounted.{copied-survive}
 use Rattle.place_view.specs.Place.{blockAt, sizeAt, bytesAt, byPlace}
 use Rattle.table.specs.Laws.{getD-mem}
 use Rattle.gather.specs.Gather.{Tables, tableOf, AllGood, AllRows}
@@ -96,7 +96,7 @@ module _ (image : Bytes) (ds : List Descriptor) (pass : AreasPass image ds) (t :
         let g = member-fits image ds pass s (file-member image ds pass s file) in
         let v = volume-copies image ds s tables apart-all long file good rows in
         let e = ap (λ l. length (joinedBytes l)) v in
-        let k = survivors image ds s .fit in
+        let k = copied-survive image ds s .fit in
         let d = length-drop areaHeaderSize (areaBytes image s) in
         let l = length-take (s .length) (drop (s .offset) image) in
         record {

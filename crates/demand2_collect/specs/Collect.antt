@@ -38,7 +38,7 @@ use Rattle.calls.specs.declared.Descriptor.{Descriptor}
 use Rattle.calls_laws.specs.Checks.{Passes, passes, mounts, InArea}
 use Rattle.collect_laws.specs.Source.{source-found}
 use Rattle.collect_laws.specs.Survivors.{Survivors}
-use Rattle.collect_laws.specs.Mounted.{survivors}
+use Rattle.collect_laws.specs.Mounted.{copied-survive}
 use Rattle.demand2.specs.Store.{file-listed}
 use Rattle.demand2.specs.Places.{Distinct, distinct-keep, areas-distinct, files-distinct}
 use Rattle.demand2.specs.Mounted.{agreed, few-ids, ids-few}
@@ -158,7 +158,7 @@ module _ (image : Bytes) (ds : List Descriptor) (g : CollectGoes image ds) where
 
   survive : Survivors (volumeOf byBytes (acceptedRecords image ds)) (areaBytes image s) (recordsElsewhere image (fileAreas image ds) s) (copiedRecords image ds s)
   unfolding volume
-  survive = survivors image ds s
+  survive = copied-survive image ds s
 
   fewer : (b : Bytes) → List·Memᴰ b (acceptedRecords image′ ds) → List·Memᴰ b (acceptedRecords image ds)
   fewer = fewer-records _ _ _ _ _ (c .moved) survive (agreed image ds p)

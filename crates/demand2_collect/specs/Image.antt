@@ -33,7 +33,7 @@ use Rattle.flash.specs.Stores.{joinedBytes}
 use Rattle.collect_laws.specs.Source.{source-found}
 use Rattle.collect_laws.specs.Header.{headerWithId, renamed-size, renamed-id, renamed-file}
 use Rattle.collect_laws.specs.Stores.{filledScratch, filled-long}
-use Rattle.collect_laws.specs.Mounted.{scratch-is, file-is, survivors, survivors-fit, collected-is}
+use Rattle.collect_laws.specs.Mounted.{scratch-is, file-is, copied-survive, copied-fit, collected-is}
 use Rattle.demand2.specs.Store.{same-area, area-length}
 use Rattle.demand2.specs.Places.{area-lengths}
 use Rattle.demand2.specs.Format.{empty-length, empty-scratch}
@@ -160,7 +160,7 @@ module _ (image : Bytes) (ds : List Descriptor) (p : Passes image ds) (t s : Des
   filled-length : length filled ≡ t .length
   filled-length =
       filled-long image t (fits t (scratch-in .0) .0) (fits t (scratch-in .0) .1) (areaId (areaBytes image s)) (joinedBytes kept)
-      (survivors-fit image ds p t s one-scratch source-is)
+      (copied-fit image ds p t s one-scratch source-is)
 
   emptied-length : length emptied ≡ s .length
   emptied-length = empty-length (s .length) (nextCount (countOf image s)) scratchId (fits s source-in .0)
@@ -287,7 +287,7 @@ module _ (image : Bytes) (ds : List Descriptor) (p : Passes image ds) (t s : Des
   unfolding filledScratch
   reads-copies =
       reads-back recordSize records-lawful kept
-      (λ c m. record { some-bytes = survivors image ds s .some-bytes c m; all-of-it = survivors image ds s .accepted c m })
+      (λ c m. record { some-bytes = copied-survive image ds s .some-bytes c m; all-of-it = copied-survive image ds s .accepted c m })
       (areaBytes image′ t) (t .length - (areaHeaderSize + length (joinedBytes kept)))
       (ap (drop areaHeaderSize) scratch-bytes
       ∙ drop-at (headerWithId (areaBytes image t) (areaId (areaBytes image s))) _ areaHeaderSize
