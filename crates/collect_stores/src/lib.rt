@@ -84,7 +84,7 @@ fn erase_area(image: &mut [u8], offset: u32, span: u32)
     put(&mut *image, start, &header);
 }
 
-// Erases the scratch area, but for its header, if it is not erased already.
+// Erases the scratch area and restores its header, if it is not erased behind its header already.
 fn ready_scratch(image: &mut [u8], offset: u32, span: u32)
     requires { ⌜ (offset + span ≤ length (now image)) × (areaHeaderSize ≤ span) ⌝ }
     ensures { λ _. ⌜ now (image .exit) ≡ storeAll (now (image .entry)) (readyStores (now (image .entry)) (areaOf offset span)) ⌝ }
