@@ -29,8 +29,8 @@ use Rattle.calls.specs.Append.{shortestLength, cutInto, piecesOf, blockRecords,
 use Rattle.calls.specs.Rewrite.{rewritten, rewritePlan, rewriteNumber, imageRewritten}
 use Rattle.calls.specs.Unlink.{deletion, unlinkOne, unlinking, unlinkOf, imageUnlinked}
 use Rattle.calls.specs.Collect.{eligible, precedes, firstLowest, sourceOf, isOther, recordsElsewhere, counts, firstPlaces, dropsBlock, namesInode}
-use Rattle.calls.specs.Collect.{dropsInode, drops, copies, joinedBytes, headerWithId, filledScratch, nextCount, collected, collecting, collectOf}
-use Rattle.calls.specs.Collect.{imageCollected}
+use Rattle.calls.specs.Collect.{dropsInode, drops, copies, isBlank, resetStores, readyStores, recordStores, nextCount, collectStores, collected}
+use Rattle.calls.specs.Collect.{collecting, collectOf, imageCollected}
 use Rattle.calls.specs.declared.Descriptor.{Descriptor}
 
 -- two areas of 160 bytes
@@ -84,6 +84,6 @@ unfolding
     unusedFrom unusedId emptyArea formatNumber longestLength numbered labelled blanked rooted formatted imageFormatted lastName namesBefore
     firstIdOf newId newInode createIn creating createOf imageCreated shortestLength cutInto piecesOf blockRecords newBlocks appendTo
     appending appendOf imageAppended deletion rewritten rewritePlan rewriteNumber imageRewritten unlinkOne unlinking unlinkOf imageUnlinked eligible precedes firstLowest sourceOf isOther
-    recordsElsewhere counts firstPlaces dropsBlock namesInode dropsInode drops copies joinedBytes headerWithId filledScratch nextCount
-    collected collecting collectOf imageCollected
+    recordsElsewhere counts firstPlaces dropsBlock namesInode dropsInode drops copies isBlank resetStores readyStores recordStores
+    nextCount collectStores collected collecting collectOf imageCollected
 accepted = refl
