@@ -3,6 +3,9 @@
 --     meets-by     the contract, from a walk with the parameters' machine values written out
 --     lists        the call of `areas_of`, with the token of the list's lifetime. What the other parameters own is passed by, and what the second call asks is left
 --     ends         the second call, the return, and the contract's `post`: what the callee ensures gives what the function ensures
+--     stands, begins, goes-on      the theorem about the routine, the entry, and both calls up to the return, by the numbers of the locals
+--     reslices     a `&mut [T]` is lent again
+--     clauses3, together, says3    a contract's three clauses, learned as one fact, and shown
 -- In front of the locals stand two entries: on entry the tokens and what is owned, and after `lists` what the callee asks and the list's token. So local i is entry i + 2.
 -- Assumes `Given`, and that the table of calls is monotone under a frame.
 use mathlib.Core.Path.{_≡_, refl, sym, ap, _∙_, subst}
@@ -25,7 +28,7 @@ use ghost.Atoms.{Atoms, sem}
 use contract.Monad.{Fun, fact, factI, fact-use}
 use contract.Lifetimes.{Lfts, Shares, toks}
 use contract.Running.{GhostRules, Running, givenOf, tables, tablesOf}
-use types.Kit.{Given, Item, ‵, raw, some, later, _⊛_, mean, _$_, _∵_, !, qed, by, Goal, Seq, Sq, Step, step, nth, runs, lands, atRet, Post, move, drop, use1, use2, split, join, pick, fsplit, fjoin, updating, now as updated, show, frame, await, done}
+use types.Kit.{Given, Item, ‵, raw, some, later, _⊛_, mean, _$_, _∵_, !, qed, by, Goal, Seq, Sq, Step, step, prop, nth, runs, lands, atRet, Post, move, drop, use1, use2, split, join, pick, fsplit, fjoin, updating, now as updated, show, frame, await, done}
 use types.Run.{Opds, look, init, stop, hop, fld, from, load, addr, and-then, no-more, assigns, land, returns}
 use types.Part.{Part, agg, whole, sub, look-in}
 use sound.WpLaws.{FmC, fmOf}
@@ -126,6 +129,29 @@ no-asks 𝓤 P = via 𝓤 (sep 𝓤 (emp 𝓤) P) (emp∗ 𝓤 P) (comm∗ 𝓤 
 -- a fact that follows from another
 pub follows : {M : Type 1} (𝓤 : URA M) {φ ψ : Type 0} → (φ → ψ) → ent 𝓤 (fact 𝓤 φ) (fact 𝓤 ψ)
 follows 𝓤 {φ} {ψ} h = fact-use 𝓤 φ (id⊢ 𝓤 (fact 𝓤 φ)) (λ x. factI 𝓤 ψ (fact 𝓤 φ) (h x))
+
+-- three clauses as one fact, and shown one by one
+abbrev pub clauses3 : {M : Type 1} (𝓤 : URA M) → Type 0 → Type 0 → Type 0 → SProp 𝓤
+clauses3 𝓤 φ ψ χ = sep 𝓤 (fact 𝓤 φ) (sep 𝓤 (fact 𝓤 ψ) (fact 𝓤 χ))
+
+pub together : {M : Type 1} (𝓤 : URA M) (φ ψ χ : Type 0) → ent 𝓤 (clauses3 𝓤 φ ψ χ) (fact 𝓤 (φ × ψ × χ))
+together 𝓤 φ ψ χ =
+    let P = clauses3 𝓤 φ ψ χ in
+    let R = sep 𝓤 (fact 𝓤 ψ) (fact 𝓤 χ) in
+    fact-use 𝓤 φ (fst∗ 𝓤 (fact 𝓤 φ) R) (λ x.
+    fact-use 𝓤 ψ (via 𝓤 R (snd∗ 𝓤 (fact 𝓤 φ) R) (fst∗ 𝓤 (fact 𝓤 ψ) (fact 𝓤 χ))) (λ y.
+    fact-use 𝓤 χ (via 𝓤 R (snd∗ 𝓤 (fact 𝓤 φ) R) (snd∗ 𝓤 (fact 𝓤 ψ) (fact 𝓤 χ))) (λ z. factI 𝓤 (φ × ψ × χ) P (x, y, z))))
+
+shown : {M : Type 1} (𝓤 : URA M) (P : SProp 𝓤) (φ ψ χ : Type 0) → φ × ψ × χ → ent 𝓤 P (sep 𝓤 P (clauses3 𝓤 φ ψ χ))
+shown 𝓤 P φ ψ χ e = via 𝓤 (sep 𝓤 P (emp 𝓤)) (no-asks 𝓤 P) (monoR 𝓤 P all)
+  where
+    all : ent 𝓤 (emp 𝓤) (clauses3 𝓤 φ ψ χ)
+    all =
+        via 𝓤 (fact 𝓤 φ) (factI 𝓤 φ (emp 𝓤) (e .0)) (via 𝓤 (sep 𝓤 (fact 𝓤 φ) (emp 𝓤)) (no-asks 𝓤 (fact 𝓤 φ)) (monoR 𝓤 (fact 𝓤 φ)
+        (via 𝓤 (fact 𝓤 ψ) (factI 𝓤 ψ (emp 𝓤) (e .1)) (via 𝓤 (sep 𝓤 (fact 𝓤 ψ) (emp 𝓤)) (no-asks 𝓤 (fact 𝓤 ψ)) (monoR 𝓤 (fact 𝓤 ψ) (factI 𝓤 χ (emp 𝓤) (e .2)))))))
+
+pub says3 : {M : Type 1} {𝓤 : URA M} {H : Heap 𝓤} {A : Atoms 𝓤} {K : Type 0} {W : Given 𝓤 H A} {Γ : List (Item 𝓤)} → K → {φ ψ χ : Type 0} {P : SProp 𝓤} → φ × ψ × χ → Step K W Γ (prop P) Γ (prop (sep 𝓤 P (clauses3 𝓤 φ ψ χ)))
+says3 {𝓤 = 𝓤} t {φ} {ψ} {χ} {P} e = step (λ s. record { prf = via 𝓤 P (s .prf) (shown 𝓤 P φ ψ χ e) })
 
 -- what is ensured at the same last values
 pub alike : {M : Type 1} (𝓤 : URA M) (H : Heap 𝓤) (A : Atoms 𝓤) (T : Ended) (κs : Lfts (T .signature .lifetimes)) (a : Args (T .signature) κs) (P Q : Lasts T κs a → SProp 𝓤) → ((ws : Lasts T κs a) → ent 𝓤 (P ws) (Q ws))

@@ -126,9 +126,9 @@ pub struct HandleRead {
 
 // Reads the file of a handle from its position on, and moves the position behind what was given; a refused read leaves handle and buffer as they are.
 pub fn read_of(image: &[u8], areas: Areas, h: Handle, buffer: &mut [u8]) -> HandleRead
-    ensures { λ r. ⌜ (r .answer ≡ readAnswer (readGiven (now (image .entry)) (areaList (areas .numbers)) (h .id) (h .position) (length (now (buffer .entry)))))
-        × (r .handle ≡ handleAfter (readGiven (now (image .entry)) (areaList (areas .numbers)) (h .id) (h .position) (length (now (buffer .entry)))) h)
-        × (now (buffer .exit) ≡ bufferAfter (readGiven (now (image .entry)) (areaList (areas .numbers)) (h .id) (h .position) (length (now (buffer .entry)))) (now (buffer .entry))) ⌝ }
+    ensures answer { λ r. ⌜ r .answer ≡ readAnswer (readGiven (now (image .entry)) (areaList (areas .numbers)) (h .id) (h .position) (length (now (buffer .entry)))) ⌝ }
+    ensures handle { λ r. ⌜ r .handle ≡ handleAfter (readGiven (now (image .entry)) (areaList (areas .numbers)) (h .id) (h .position) (length (now (buffer .entry)))) h ⌝ }
+    ensures bytes { λ r. ⌜ now (buffer .exit) ≡ bufferAfter (readGiven (now (image .entry)) (areaList (areas .numbers)) (h .id) (h .position) (length (now (buffer .entry)))) (now (buffer .entry)) ⌝ }
 {
     let id = h.id;
     let position = h.position;
@@ -147,9 +147,9 @@ pub extern "C" fn nffs_read(
     h: &mut Handle,
     buffer: &mut [u8],
 ) -> ReadAnswer
-    ensures { λ r. ⌜ (r ≡ readAnswer (readGiven (now (image .entry)) (listed (now (areas .entry))) (now (h .entry) .id) (now (h .entry) .position) (length (now (buffer .entry)))))
-        × (now (h .exit) ≡ handleAfter (readGiven (now (image .entry)) (listed (now (areas .entry))) (now (h .entry) .id) (now (h .entry) .position) (length (now (buffer .entry)))) (now (h .entry)))
-        × (now (buffer .exit) ≡ bufferAfter (readGiven (now (image .entry)) (listed (now (areas .entry))) (now (h .entry) .id) (now (h .entry) .position) (length (now (buffer .entry)))) (now (buffer .entry))) ⌝ }
+    ensures answer { λ r. ⌜ r ≡ readAnswer (readGiven (now (image .entry)) (listed (now (areas .entry))) (now (h .entry) .id) (now (h .entry) .position) (length (now (buffer .entry)))) ⌝ }
+    ensures handle { λ r. ⌜ now (h .exit) ≡ handleAfter (readGiven (now (image .entry)) (listed (now (areas .entry))) (now (h .entry) .id) (now (h .entry) .position) (length (now (buffer .entry)))) (now (h .entry)) ⌝ }
+    ensures bytes { λ r. ⌜ now (buffer .exit) ≡ bufferAfter (readGiven (now (image .entry)) (listed (now (areas .entry))) (now (h .entry) .id) (now (h .entry) .position) (length (now (buffer .entry)))) (now (buffer .entry)) ⌝ }
 {
     let r = read_of(image, areas_of(areas), *h, buffer);
     *h = r.handle;

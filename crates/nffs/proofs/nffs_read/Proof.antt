@@ -31,7 +31,6 @@ use denote.Triple.Spec.{tripleOf}
 use denote.Triple.Statement.{Contract}
 use denote.Triple.Call.{calls-at}
 use denote.Triple.Clauses.{ensured, Lasts, lasts, atExit}
-use denote.Triple.Walked.{says}
 use Rattle.calls.specs.Areas.{listed, areaList}
 use Rattle.calls.specs.Read.{Given as Gives, readGiven, readAnswer, bufferAfter, handleAfter}
 use Rattle.calls.specs.declared.Descriptor.{Descriptor}
@@ -49,7 +48,7 @@ use Rattle.nffs.proofs.HandleRead as N
 use Rattle.nffs.proofs.HandleRead.Laws as N′
 use Rattle.descriptor_list.specs.Cut.{read-whole}
 use Rattle.entry_walk.proofs.Frame.{leaves}
-use Rattle.entry_walk.proofs.Forward.{Kind, shared, lent, referred, list, spells, tell, spelt, typed, Told, no-asks, stands, begins, lists}
+use Rattle.entry_walk.proofs.Forward.{Kind, shared, lent, referred, list, spells, tell, spelt, typed, Told, no-asks, clauses3, together, says3, stands, begins, lists}
 use Rattle.nffs.proofs.read_of as g
 use Rattle.nffs.proofs.read_of.Symbol as g-def
 use Rattle.nffs.proofs.read_of.Met as g-thm
@@ -112,6 +111,10 @@ module _ {M : Type 1} (𝓤 : URA M) (H : Heap 𝓤) (A : Atoms 𝓤) (mem : Mem
     abbrev Said : HandleRead → List ℕ → List Descriptor → Type 0
     Said r zs ds = (r .answer ≡ readAnswer (gives ds)) × (r .handle ≡ handleAfter (gives ds) (h .now)) × (zs ≡ bufferAfter (gives ds) (buffer .now))
 
+    -- the clauses that say so
+    abbrev Says : HandleRead → List ℕ → List Descriptor → SProp 𝓤
+    Says r zs ds = clauses3 𝓤 (r .answer ≡ readAnswer (gives ds)) (r .handle ≡ handleAfter (gives ds) (h .now)) (zs ≡ bufferAfter (gives ds) (buffer .now))
+
     -- the same of the whole list
     whole-said : (n : Areas) (r : HandleRead) (zs : List ℕ) → Told (y .0 .3 .1 .0 .now) n → Said r zs (areaList (n .numbers)) → Said r zs (listed (y .0 .3 .1 .0 .now))
     whole-said n r zs e = subst (λ (u : Gives). (r .answer ≡ readAnswer u) × (r .handle ≡ handleAfter u (h .now)) × (zs ≡ bufferAfter u (buffer .now))) (ap gives (e .1) ∙ read-whole (image .now) (listed (y .0 .3 .1 .0 .now)) (h .now .id) (h .now .position) (length (buffer .now)))
@@ -124,7 +127,7 @@ module _ {M : Type 1} (𝓤 : URA M) (H : Heap 𝓤) (A : Atoms 𝓤) (mem : Mem
         move ! (4 ∷ []) $ split ! $ move ! (2 ∷ 1 ∷ []) $ join ! $ move ! (4 ∷ 0 ∷ []) $ join ! $ move ! (1 ∷ 0 ∷ []) $ join ! $
         owned ! Q.the-row (Is Q.the-row) ((LL.makes Q.the-type Q′.the-plain) 𝓤 H A) (r .answer) _ is $ move ! (1 ∷ 0 ∷ []) $ join ! $ frame ! $ fjoin ! $ nothing ! $ fjoin ! $ nothing ! $ fjoin ! $
         show ! (λ (ws : Lasts f.ended (y .0 .0) (y .0 .3)). sep 𝓤 (sem 𝓤 H A (lasts f.ended (y .0 .0) (y .0 .3) ws)) (f.clauses 𝓤 H A mem run (y .0 .0) (y .0 .3) .ensures tt (r .answer) (atExit f.ended (y .0 .0) (y .0 .3) ws))) (tt, (tt, (r .handle, (zs, tt)))) $
-        says ! e $ done !
+        says3 ! e $ done !
 
 pub nffs-read-spec : {M : Type 1} → stated.statement M
 unfolding code.routine
@@ -154,8 +157,8 @@ nffs-read-spec 𝓤 H 𝓜 𝓖 𝓡 =
     use2 W (raw (Of 𝓤 H A mem run .pre (to 𝓤 H A mem run W y n v))) (no-asks 𝓤 _) $
     calls-at ! fm (Of 𝓤 H A mem run) known (to 𝓤 H A mem run W y n v) (and-then ! (load ! (from ! (stop !)) (look ! 9 refl)) (and-then ! (load ! (from ! (stop !)) (look ! 14 refl)) (and-then ! (load ! (from ! (stop !)) (look ! 15 refl)) (and-then ! (load ! (from ! (stop !)) (look ! 17 refl)) (no-more !))))) (λ w.
     use1 W (later (some (λ (r : HandleRead). ((‵ (t₀ 𝓤 H A mem run W y) ⊛ ‵ (t₃ 𝓤 H A mem run W y) ⊛ ‵ ftrue) ⊛ ‵ (N.the-row .own r (w ∷ []))) ⊛ raw (ensured 𝓤 H A g.ended (g.clauses 𝓤 H A mem run) (to 𝓤 H A mem run W y n v .0 .0) (to 𝓤 H A mem run W y n v .0 .3) tt r)))) (id⊢ 𝓤 _) $ await ! tt $ pick ! (λ r.
-    split ! $ move ! (1 ∷ []) $ use1 W (some (λ (zs : Unit {0} × (Unit {0} × (Unit {0} × (List ℕ × Unit {0})))). ‵ (fsep ftrue (fsep ftrue (fsep ftrue (Last 𝓤 H A mem run W y (zs .1 .1 .1 .0))))) ⊛ raw (fact 𝓤 (Said 𝓤 H A mem run W y r (zs .1 .1 .1 .0) (areaList (n .numbers)))))) (id⊢ 𝓤 _) $ pick ! (λ zs.
-    split ! $ move ! (1 ∷ []) $ heard ! (Said 𝓤 H A mem run W y r (zs .1 .1 .1 .0) (areaList (n .numbers))) (λ s. fsplit ! $ drop ! $ fsplit ! $ drop ! $ fsplit ! $ drop ! $
+    split ! $ move ! (1 ∷ []) $ use1 W (some (λ (zs : Unit {0} × (Unit {0} × (Unit {0} × (List ℕ × Unit {0})))). ‵ (fsep ftrue (fsep ftrue (fsep ftrue (Last 𝓤 H A mem run W y (zs .1 .1 .1 .0))))) ⊛ raw (Says 𝓤 H A mem run W y r (zs .1 .1 .1 .0) (areaList (n .numbers))))) (id⊢ 𝓤 _) $ pick ! (λ zs.
+    split ! $ move ! (1 ∷ []) $ use1 W (raw (fact 𝓤 (Said 𝓤 H A mem run W y r (zs .1 .1 .1 .0) (areaList (n .numbers))))) (together 𝓤 _ _ _) $ heard ! (Said 𝓤 H A mem run W y r (zs .1 .1 .1 .0) (areaList (n .numbers))) (λ s. fsplit ! $ drop ! $ fsplit ! $ drop ! $ fsplit ! $ drop ! $
     -- [the last list; the tokens and the result; the handle's cell; what it owned; the open borrow; obs; auth; true; the list's token; _0; …]
     move ! (1 ∷ []) $ split ! $ move ! (1 ∷ []) $ peeks ! N.the-row (Is N.the-row) (shows 𝓤 H A N.the-row) r (w ∷ []) (λ so.
     let parts = LL.owed N.the-type N′.the-laws r _ so in

@@ -40,7 +40,7 @@ returns : tie.Need-returns
 returns c =
     let r : tie.After-read-at-of = c .before .before .before in
     let s = start r in
-    (r .read-at-of .ensures .0, moved (gives s) (s .args .h) (r .read-at-of .result) (r .read-at-of .ensures .0), r .read-at-of .ensures .1)
+    (r .read-at-of .ensures .0, (moved (gives s) (s .args .h) (r .read-at-of .result) (r .read-at-of .ensures .0), r .read-at-of .ensures .1))
 
 pub read-of-spec : {M : Type 1} → statement M
 read-of-spec = tie.close (tie.spec (λ c κs. search needs) add-t11 (λ c. search needs) returns)
