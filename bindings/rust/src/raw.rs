@@ -58,7 +58,12 @@ mod exports {
     use super::*;
 
     extern "C" {
-        pub fn nffs_format(image: *mut u8, size: usize, areas: *const Area, areas_count: usize) -> u32;
+        pub fn nffs_format(
+            image: *mut u8,
+            size: usize,
+            areas: *const Area,
+            areas_count: usize,
+        ) -> u32;
         pub fn nffs_report(
             image: *const u8,
             size: usize,
@@ -137,7 +142,12 @@ mod exports {
             path: *const u8,
             path_length: usize,
         ) -> u32;
-        pub fn nffs_collect(image: *mut u8, size: usize, areas: *const Area, areas_count: usize) -> u32;
+        pub fn nffs_collect(
+            image: *mut u8,
+            size: usize,
+            areas: *const Area,
+            areas_count: usize,
+        ) -> u32;
     }
 }
 
@@ -151,21 +161,12 @@ const _: () = assert!(size_of::<CreateAnswer>() == 8);
 
 pub fn format(image: &mut [u8], areas: &[Area]) -> u32 {
     // SAFETY: slices as the call needs them, see above.
-    unsafe {
-        exports::nffs_format(
-            image.as_mut_ptr(),
-            image.len(),
-            areas.as_ptr(),
-            areas.len(),
-        )
-    }
+    unsafe { exports::nffs_format(image.as_mut_ptr(), image.len(), areas.as_ptr(), areas.len()) }
 }
 
 pub fn report(image: &[u8], areas: &[Area]) -> ReportAnswer {
     // SAFETY: slices as the call needs them, see above.
-    unsafe {
-        exports::nffs_report(image.as_ptr(), image.len(), areas.as_ptr(), areas.len())
-    }
+    unsafe { exports::nffs_report(image.as_ptr(), image.len(), areas.as_ptr(), areas.len()) }
 }
 
 pub fn lookup(image: &[u8], areas: &[Area], base: &[u8], path: &[u8]) -> LookupAnswer {
@@ -296,12 +297,5 @@ pub fn unlink(image: &mut [u8], areas: &[Area], base: &[u8], path: &[u8]) -> u32
 
 pub fn collect(image: &mut [u8], areas: &[Area]) -> u32 {
     // SAFETY: slices as the call needs them, see above.
-    unsafe {
-        exports::nffs_collect(
-            image.as_mut_ptr(),
-            image.len(),
-            areas.as_ptr(),
-            areas.len(),
-        )
-    }
+    unsafe { exports::nffs_collect(image.as_mut_ptr(), image.len(), areas.as_ptr(), areas.len()) }
 }
