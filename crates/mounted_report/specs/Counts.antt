@@ -8,14 +8,11 @@ use lib.ListN.{length, take, length-take}
 use borrow.Author.Tests.{eq-eqb, ne-eqb}
 use Rattle.format.specs.Bytes.{Bytes}
 use Rattle.volume.specs.View.{byBytes}
-use Rattle.volume.specs.Counting.{inodeIds}
 use Rattle.volume.specs.Fate.{liveIds}
 use Rattle.volume_laws.specs.Map.{liveIds-map}
 use Rattle.volume_laws.specs.Lists.{keep-shorter}
 use Rattle.place_view.specs.Place.{bytesAt, byPlace}
 use Rattle.place_view.specs.Laws.{place-views}
-use Rattle.table.specs.Laws.{rows-number}
-use Rattle.table.specs.Parts.{part-long}
 use Rattle.fate.specs.Fates.{liveBy, liveRows}
 use Rattle.fate.specs.Laws.{live-rows}
 use Rattle.calls.specs.Areas.{fileAreas}
@@ -24,8 +21,8 @@ use Rattle.calls.specs.Report.{stretchesIn, damagedIn, refusedReport, mountedRe
 use Rattle.calls.specs.declared.Descriptor.{Descriptor}
 use Rattle.calls.specs.declared.Report.{Report}
 use Rattle.listing.specs.Bridge.{placedVolume, volume-places}
-use Rattle.mounted.specs.State.{inodeIdsAt, inodeIds as idRows, inodeSpots, Safe, Holds, Mounts}
-use Rattle.mounted.specs.Bridge.{ids-are}
+use Rattle.mounted.specs.State.{inodeIds, inodeSpots, Safe, Holds, Mounts}
+use Rattle.mounted.specs.Bridge.{inodes-number}
 use Rattle.mounted.specs.declared.Mounted.{Mounted}
 
 -- no more are live than the table has
@@ -39,24 +36,15 @@ unfolding reportOf
 report-refused {image} {ds} c h r e = e ∙ rw (c .number, ne-eqb (mountNumber image ds) 0 (λ z. h (c .number ∙ z)))
 
 module _ {image : Bytes} {ds : List Descriptor} {m : Mounted} {t : List ℕ} (s : Safe image m t) (h : Holds image ds m t) where
-  ids-long : length (idRows m t) ≡ m .inodes
-  ids-long = part-long inodeIdsAt (m .inodes) t (omega (arith, s .inodes-few, s .long))
-
-  inodes-are : m .inodes ≡ length (inodeIds byBytes (volume image ds))
-  inodes-are =
-      sym ids-long
-      ∙ rows-number (byPlace image) (placedVolume image ds .inodes) (length (idRows m t)) (idRows m t) (inodeSpots m t) (h .inodes) (omega arith)
-      ∙ ap length (ids-are image ds)
-
-  live-are : length (liveRows (byPlace image) (length (idRows m t)) (idRows m t) (inodeSpots m t)) ≡ length (liveIds byBytes (volume image ds))
+  live-are : length (liveRows (byPlace image) (length (inodeIds m t)) (inodeIds m t) (inodeSpots m t)) ≡ length (liveIds byBytes (volume image ds))
   live-are =
       let e : liveIds byBytes (volume image ds) ≡ liveIds (byPlace image) (placedVolume image ds) =
       rw (volume-places image ds) (liveIds-map (byPlace image) byBytes (bytesAt image) (place-views image) (placedVolume image ds)) in
-      ap length (live-rows (byPlace image) (placedVolume image ds) (length (idRows m t)) (idRows m t) (inodeSpots m t) (h .inodes) (omega arith) ∙ sym e)
+      ap length (live-rows (byPlace image) (placedVolume image ds) (length (inodeIds m t)) (inodeIds m t) (inodeSpots m t) (h .inodes) (omega arith) ∙ sym e)
 
   pub report-is : (live stretches skipped : ℕ)
-      → live ≡ length (liveRows (byPlace image) (length (idRows m t)) (idRows m t) (inodeSpots m t))
+      → live ≡ length (liveRows (byPlace image) (length (inodeIds m t)) (inodeIds m t) (inodeSpots m t))
       → stretches ≡ stretchesIn image (fileAreas image ds) → skipped ≡ damagedIn image (fileAreas image ds)
       → record { number = 0; inodes = m .inodes; live = live; stretches = stretches; skipped = skipped } ≡ reportOf image ds
   unfolding reportOf mountedReport
-  report-is live stretches skipped l a b = rw (l, live-are, a, b, inodes-are, eq-eqb (mountNumber image ds) 0 (h .number))
+  report-is live stretches skipped l a b = rw (l, live-are, a, b, inodes-number s h, eq-eqb (mountNumber image ds) 0 (h .number))
