@@ -114,7 +114,7 @@ module _ (image : Bytes) (ds : List Descriptor) (p : AreasPass image ds) (r : Ar
   files-lie = record {
     small = p .description .small;
     pairs = spans-long ∙ sym starts-long;
-    header = λ i h. omega (arith, file-fits i h .long);
+    long = λ i h. file-fits i h .long;
     inside = λ i h. file-fits i h .inside;
     apart = omega (arith, total, p .description .small);
   }

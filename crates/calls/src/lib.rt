@@ -11,6 +11,9 @@ pub const SHORTEST_AREA: usize = 128;
 
 pub const LARGEST_IMAGE: usize = 65536;
 
+// The most bytes that one append takes.
+pub const MOST_APPENDED: usize = 8192;
+
 // The most records that fit in the largest image: none is shorter than 20 bytes, an inode's header.
 pub const MOST_RECORDS: usize = LARGEST_IMAGE / 20;
 

@@ -49,7 +49,7 @@ module _ (image : Bytes) (os ls ps₀ ps : List ℕ) (k i : ℕ) (f : Files imag
 
     pub area-room : Room area start ps k
     area-room = record {
-      header = omega (arith, area-length, f .fit .header i h);
+      header = omega (arith, area-length, f .fit .long i h);
       inside = omega (arith, area-length, f .fit .inside i h, f .fit .small);
       room = omega (arith, area-length, total-more, t .few, t .long, f .fit .apart, f .room);
     }

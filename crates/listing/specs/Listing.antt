@@ -7,7 +7,7 @@ use Rattle.format.specs.Bytes.{Bytes}
 use Rattle.format.specs.Record.{recordSize}
 use Rattle.format.specs.AreaHeader.{areaHeaderSize}
 use Rattle.format.specs.Reading.{Placed, areaRecords}
-use Rattle.calls.specs.Areas.{largestImage}
+use Rattle.calls.specs.Areas.{shortestArea, largestImage}
 use Rattle.calls.specs.Mount.{mostRecords, recordsOf}
 use Rattle.descriptors.specs.Described.{described}
 use Rattle.descriptors.specs.Places.{totalLength}
@@ -37,7 +37,7 @@ pub record Listed (area : Bytes) (base : ℕ) (ps : List ℕ) (n r : ℕ) (ps′
 pub record Fit (image : Bytes) (os ls : List ℕ) : Type 0 where
   pub small : length image ≤ largestImage
   pub pairs : length ls ≡ length os
-  pub header : (i : ℕ) → i < length os → areaHeaderSize ≤ getD ls i 0
+  pub long : (i : ℕ) → i < length os → shortestArea ≤ getD ls i 0
   pub inside : (i : ℕ) → i < length os → getD os i 0 + getD ls i 0 ≤ length image
   pub apart : totalLength (described os ls) ≤ largestImage
 

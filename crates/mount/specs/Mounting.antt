@@ -3,7 +3,7 @@ use Prim.Native.Nat.{ℕ, _+_, _≤_, _<_}
 use mathlib.Core.Path.{_≡_, refl, sym, ap, ap₂, subst, _∙_}
 use mathlib.Core.List.{List}
 use native.Mathlib.Omega.{arith}
-use lib.ListN.{length, take, drop, getD}
+use lib.ListN.{length, take, drop, getD, length-take}
 use lib.Seq.{getD-take}
 use Rattle.format.specs.Bytes.{Bytes}
 use Rattle.volume.specs.Counting.{Volume, volumeOf}
@@ -18,7 +18,7 @@ use Rattle.calls.specs.Refusal.{firstRefusal}
 use Rattle.calls.specs.Mount.{acceptedRecords, volume, mountNumber, mostInodes, mostBlocks, mostRecords}
 use Rattle.calls.specs.declared.Descriptor.{Descriptor}
 use Rattle.calls_laws.specs.Records.{records-sound}
-use Rattle.descriptors.specs.Described.{described}
+use Rattle.descriptors.specs.Described.{described, described-length}
 use Rattle.area_kinds.specs.Checks.{recordChecks, mount-refused, mount-goes-on, Checked, Split}
 use Rattle.area_kinds.specs.Places.{AreasPass, checked-pass, files-lie}
 use Rattle.area_kinds.specs.declared.Areas.{Areas}
@@ -65,6 +65,10 @@ module _ (image : Bytes) (ds : List Descriptor) (a : Areas) (t : List ℕ) (long
 
     fits : Fit image (part 0 (a .files) t) (part spansAt (a .files) t)
     fits = files-lie image ds passed a t split (omega (arith, long))
+
+    -- check 3 asks for a file area
+    some-file : 0 < a .files
+    some-file = omega (arith, passed .kinds .some, ap length (split .files), described-length (part 0 (a .files) t) (part spansAt (a .files) t) (sym (fits .pairs)), length-take (a .files) t)
 
     pub pass-lent : (places : List ℕ) → length places ≡ mostRecords → PassLent image t (a .files) places
     pass-lent places h = record { long = omega (arith, long); few = split .few; files-are = record { fit = fits; room = omega arith } }
@@ -174,12 +178,13 @@ module _ (image : Bytes) (ds : List Descriptor) (a : Areas) (t : List ℕ) (long
           block-spots : part blockSpotsAt (f .blocks) full ≡ part (inodeRows + mostBlocks) (f .blocks) rows
           block-spots = inner (inodeRows + mostBlocks) (f .blocks) (omega (arith, rowed .blocks-few))
 
-          pub mount-passes : Mounts image ds (record { number = 0; files = a .files; records = n; inodes = f .inodes; blocks = f .blocks; scratch = a .scratch })
+          pub mount-passes : length ps ≡ mostRecords → Mounts image ds (record { number = 0; files = a .files; records = n; inodes = f .inodes; blocks = f .blocks; scratch = a .scratch })
               (putBack inodeIdsAt allRows u rows) ps
-          mount-passes = record {
+          mount-passes ps-long = record {
             number = sym y ∙ checked;
             safe = λ w. record {
               long = full-long;
+              some-file = some-file;
               files-few = split .few;
               inodes-few = rowed .inodes-few;
               blocks-few = rowed .blocks-few;
@@ -199,6 +204,6 @@ module _ (image : Bytes) (ds : List Descriptor) (a : Areas) (t : List ℕ) (long
                   (subst (λ (v : Volume ℕ). RowsOf (byPlace image) (v .blocks) (part inodeRows (f .blocks) rows) (part (inodeRows + mostBlocks) (f .blocks) rows)) is-volume
                   (rowed .block-rows));
             };
-            safe-places = λ w. record { few = few; lie = all-lie };
+            safe-places = λ w. record { few = few; records-few = omega (arith, few, ps-long); lie = all-lie };
             holds-places = λ w. listed;
           }

@@ -61,6 +61,7 @@ pub record Lent (tables places : List ℕ) : Type 0 where
 -- Safety: what the code relies on to stay in bounds, for any tables, also such as hold nothing true.
 pub record Safe (image : Bytes) (m : Mounted) (tables : List ℕ) : Type 0 where
   pub long : length tables ≡ tablesSize
+  pub some-file : 0 < m .files
   pub files-few : m .files ≤ mostAreas
   pub inodes-few : m .inodes ≤ mostInodes
   pub blocks-few : m .blocks ≤ mostBlocks
@@ -81,6 +82,7 @@ pub record Holds (image : Bytes) (ds : List Descriptor) (m : Mounted) (tables : 
 -- the same two of the places of all records, for the calls that walk them
 pub record SafePlaces (image : Bytes) (m : Mounted) (places : List ℕ) : Type 0 where
   pub few : m .records ≤ length places
+  pub records-few : m .records ≤ mostRecords
   pub lie : AllLie image places (m .records)
 
 abbrev pub HoldsPlaces : Bytes → List Descriptor → Mounted → List ℕ → Type 0

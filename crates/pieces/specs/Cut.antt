@@ -1,17 +1,22 @@
 -- The pieces of data, cut one after the other. Document 01, "Create, append, unlink": "pieces of the greatest block size, the last one shorter".
-use Prim.Native.Nat.{ℕ, zero, suc, min, _+_, _-_, _/_, _≤_, _<_}
+use Prim.Native.Nat.{ℕ, zero, suc, min, _+_, _-_, _*_, _/_, _≤_, _<_}
 use mathlib.Core.Path.{_≡_, refl, sym, ap, ap₂, _∙_}
 use mathlib.Core.Bool.{Bool, true, false}
 use mathlib.Core.List.{List, [], _∷_}
 use native.Mathlib.Omega.{arith}
 use native.Mathlib.Numerals.{add-one}
-use native.Mathlib.Nat.{div-eq-of-lt, div-eq-sub-div}
+use native.Mathlib.Nat.{div-eq-of-lt, div-eq-sub-div, mul-le-mul-right, mul-le-mul-left, add-mul, mul-comm}
 use lib.ListN.{length, take, drop, getD, length-drop, drop-of-length-le}
 use lib.Seq.{drop-drop, drop-cons, take-all}
 use lib.Dec.{leb}
+use lib.Ieee.Nearest.{div-mono}
 use borrow.Author.Tests.{leb-true, leb-false}
 use Rattle.format.specs.Bytes.{Bytes}
-use Rattle.calls.specs.Append.{cutInto, shortestLength}
+use Rattle.format.specs.BlockSize.{greatestBlock}
+use Rattle.format_laws.specs.BlockSize.{block-bounds, block-grows}
+use Rattle.calls.specs.Areas.{shortestArea}
+use Rattle.calls.specs.Mount.{mostBlocks}
+use Rattle.calls.specs.Append.{mostAppended, cutInto, shortestLength}
 use Rattle.descriptors.specs.Described.{described}
 
 -- data cut into pieces of n bytes
@@ -95,6 +100,33 @@ module _ (n : ℕ) (some-room : 1 ≤ n) where
             let g = leb-false n (length text - start) e in
             let d = length-drop start text in
             drop-of-length-le (drop start text) {i = n} (omega arith) ∙ sym (drop-of-length-le text {i = start + k} (omega arith))
+
+-- fewer bytes in greater pieces are no more pieces
+fewer : (n m s t : ℕ) → n ≤ m → 1 ≤ t → t ≤ s → (n + (s - 1)) / s ≤ (m + (t - 1)) / t
+fewer zero m s t h p l = omega (arith, div-eq-of-lt {n = 0 + (s - 1)} {m = s} (omega arith))
+fewer (suc n) m s t h p l = div-mono (suc n + (s - 1)) s (m + (t - 1)) t (omega arith) (omega arith) products
+  where
+    products : (suc n + (s - 1)) * t ≤ (m + (t - 1)) * s
+    products =
+        let a : suc n + (s - 1) ≡ n + s = omega arith in
+        let b : m + (t - 1) ≡ (m - 1) + t = omega arith in
+        let c : n * t ≤ (m - 1) * t = mul-le-mul-right t (omega arith) in
+        let d : (m - 1) * t ≤ (m - 1) * s = mul-le-mul-left (m - 1) l in
+        rw (a, b, add-mul n s t, add-mul (m - 1) t s, mul-comm s t) (omega (arith, c, d))
+
+-- the most pieces of one append: those of the most bytes where the shortest file area is as short as one may be
+abbrev pub mostPieces : ℕ
+mostPieces = (mostAppended + (greatestBlock shortestArea - 1)) / greatestBlock shortestArea
+
+pub few-pieces : (shortest : ℕ) (text : Bytes) → shortestArea ≤ shortest → length text ≤ mostAppended → length (pieces (greatestBlock shortest) text) ≤ mostPieces
+few-pieces shortest text h l =
+    rw (pieces-count (greatestBlock shortest) (block-bounds shortest h .0) text)
+    (fewer (length text) mostAppended (greatestBlock shortest) (greatestBlock shortestArea) l (block-bounds shortestArea (omega arith) .0) (block-grows shortestArea shortest h))
+
+-- the table of blocks has places for them
+pub pieces-fit : mostPieces ≤ mostBlocks
+unfolding greatestBlock
+pieces-fit = omega arith
 
 -- past the data there is no piece
 pub pieces-end : (n : ℕ) (text : Bytes) (start : ℕ) → length text ≤ start → pieces n (drop start text) ≡ []

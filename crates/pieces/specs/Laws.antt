@@ -1,6 +1,6 @@
 -- The loops of an append: places taken, ids taken, and the pieces stored, one after the other.
 use Prim.Native.Nat.{ℕ, suc, _+_, _-_, _≤_, _<_}
-use mathlib.Core.Path.{_≡_, refl, sym, ap, _∙_}
+use mathlib.Core.Path.{_≡_, refl, sym, ap, subst, _∙_}
 use mathlib.Core.Bool.{Bool, true, false}
 use mathlib.Core.List.{List, [], _∷_, _++_, append-nil, append-assoc}
 use mathlib.Core.Option.{Option, none, some}
@@ -11,21 +11,26 @@ use lib.ListN.{length, take, drop, getD, set, length-take, length-drop, length-s
 use lib.Seq.{take-suc-set, take-all, drop-cons}
 use Rattle.format.specs.Bytes.{Bytes}
 use Rattle.format.specs.Ids.{firstBlockId}
-use Rattle.format.specs.Record.{block}
+use Rattle.format.specs.Record.{block, longestData}
 use Rattle.format.specs.Encoding.{blockBytes}
 use Rattle.format_laws.specs.Encoding.{block-size}
 use Rattle.volume.specs.Lists.{bind}
 use Rattle.calls.specs.Image.{put}
-use Rattle.calls.specs.Storing.{firstFit, storeAll, unusedId}
+use Rattle.calls.specs.Areas.{fileAreas}
+use Rattle.calls.specs.Storing.{Space, spaces, firstFit, storeAll, unusedId}
+use Rattle.calls.specs.declared.Descriptor.{Descriptor}
+use Rattle.mounted.specs.State.{Safe, Holds}
+use Rattle.mounted.specs.declared.Mounted.{Mounted}
 use Rattle.flash.specs.Laws.{length-put}
 use Rattle.occupancy.specs.Occupancy.{places, capacity, firstZero}
 use Rattle.unused_ids.specs.Window.{Marks}
 use Rattle.unused_ids.specs.Laws.{unused-within}
 use Rattle.free_space.specs.Spaces.{spacesOf, fitOf}
+use Rattle.free_space.specs.Rows.{rowSpaces, rows-within, rows-are}
 use Rattle.free_space.specs.declared.Place.{Place}
 use Rattle.free_space.specs.declared.Place.the-variants.{At, Nowhere}
 use Rattle.pieces.specs.Cut.{pieces, nextLength, next-some, pieces-next, pieces-end}
-use Rattle.pieces.specs.Plan.{idsFor, placeThen, placesFor, storesOf, Ends, Planned}
+use Rattle.pieces.specs.Plan.{idsFor, placeThen, placesFor, storesOf, Ends, Planned, PlannedAt, places-planned}
 
 -- what an answer of `take_places` says
 abbrev pub plannedOf : Bool → List ℕ → Option (List ℕ)
@@ -108,6 +113,16 @@ module _ (n : ℕ) (some-room : 1 ≤ n) (text : Bytes) (es fs₀ qs₀ fs qs : 
       let w : some (take i qs ++ []) ≡ placesFor (spacesOf fs₀ es) (pieces n text) = rw z at (g .left) in
       sym w ∙ ap some (append-nil (take i qs) ∙ take-all i qs a)
 
+-- places in the free space of a mounted volume, by its rows
+pub rows-planned : {image : Bytes} {m : Mounted} {t : List ℕ} → Safe image m t → (fs es : List ℕ) (ps : List Bytes) (r : Bool) (qs : List ℕ)
+    → spacesOf fs es ≡ rowSpaces t 0 (m .files) → placesFor (spacesOf fs es) ps ≡ plannedOf r qs
+    → ((ds : List Descriptor) → Holds image ds m t → placesFor (spaces image (fileAreas image ds)) ps ≡ plannedOf r qs) × PlannedAt (length image) ps (plannedOf r qs)
+rows-planned {image} {m} {t} s fs es ps r qs e q =
+    let here : placesFor (rowSpaces t 0 (m .files)) ps ≡ plannedOf r qs = rw e at q in (
+      (λ ds h. ap (λ (ss : List Space). placesFor ss ps) (sym (rows-are s h)) ∙ here),
+      subst (PlannedAt (length image) ps) here (places-planned (length image) (rowSpaces t 0 (m .files)) ps (rows-within s)),
+    )
+
 -- ---- ids
 
 -- i ids are taken of those that are not among the names, and marked
@@ -181,7 +196,7 @@ pub record Storing (n : ℕ) (text : Bytes) (is qs : List ℕ) (f last : ℕ) (x
 -- as many ids and places as pieces, and the places in the image
 pub record Ready (n : ℕ) (text : Bytes) (is qs : List ℕ) (x : Bytes) : Type 0 where
   pub some-room : 1 ≤ n
-  pub small : n ≤ 2048
+  pub small : n ≤ longestData
   pub ids-count : length is ≡ length (pieces n text)
   pub planned : Planned (length x) (pieces n text) qs
 

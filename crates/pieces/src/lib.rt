@@ -1,35 +1,40 @@
 // The pieces that an append cuts its data into: how long they are, which ids and places they get, and their stores.
 // Ids and places are all found before the first store, so that all pieces are written or none.
 ghost use mathlib.Core.Path.{_≡_};
-ghost use Prim.Native.Nat.{min, _+_, _-_, _/_, _≤_, _<_};
+ghost use mathlib.Core.List.{List};
+ghost use Prim.Native.Nat.{_+_, _-_, _/_, _≤_, _<_};
 ghost use lib.ListN.{length};
-ghost use Rattle.format.specs.Record.{block};
+ghost use Rattle.format.specs.Record.{block, longestData};
 ghost use Rattle.format.specs.BlockSize.{greatestBlock};
 ghost use Rattle.format.specs.Encoding.{blockBytes};
-ghost use Rattle.calls.specs.Areas.{mostAreas};
+ghost use Rattle.calls.specs.Areas.{shortestArea, fileAreas};
+ghost use Rattle.calls.specs.Mount.{mostRecords};
+ghost use Rattle.calls.specs.Append.{mostAppended};
 ghost use Rattle.calls.specs.Image.{put};
 ghost use Rattle.calls.specs.Storing.{spaces, storeAll};
-ghost use Rattle.descriptors.specs.Described.{described};
-ghost use Rattle.listing.specs.Listing.{Fit};
+ghost use Rattle.calls.specs.declared.Descriptor.{Descriptor};
 ghost use Rattle.place_view.specs.Place.{AllLie};
+ghost use Rattle.mounted.specs.State.{Safe, Holds};
 ghost use Rattle.unused_ids.specs.Window.{namedAt};
 ghost use Rattle.free_space.specs.Spaces.{spacesOf};
-ghost use Rattle.pieces.specs.Cut.{pieces, shortestOf};
-ghost use Rattle.pieces.specs.Plan.{idsFor, placesFor, storesOf};
+ghost use Rattle.pieces.specs.Cut.{pieces, mostPieces, shortestOf};
+ghost use Rattle.pieces.specs.Plan.{idsFor, placesFor, storesOf, PlannedAt};
 ghost use Rattle.pieces.specs.Laws.{plannedOf, Ready};
-use descriptors::MOST_AREAS;
+use calls::MOST_APPENDED;
+use calls::MOST_AREAS;
+use calls::SHORTEST_AREA;
 use encode::write_block;
 use free_space::Place;
 use free_space::find_spaces;
+use free_space::smaller;
 use free_space::take_place;
+use mounted::Mounted;
 use records::BlockHeader;
+use records::FIRST_BLOCK_ID;
 use records::LONGEST_DATA;
 use unused_ids::ID_WORDS;
 use unused_ids::mark_named;
 use unused_ids::take_id;
-
-// The first id of a block.
-const FIRST_BLOCK_ID: u32 = 0x80000000;
 
 // The length of the shortest area.
 pub fn shortest(lengths: &[u32]) -> u32
@@ -50,19 +55,9 @@ pub fn shortest(lengths: &[u32]) -> u32
     least
 }
 
-// The smaller of two numbers.
-fn smaller(a: usize, b: usize) -> usize
-    ensures { λ r. ⌜ r ≡ min a b ⌝ }
-{
-    if a < b {
-        return a;
-    }
-    b
-}
-
 // The greatest block size of writers, by the shortest file area's length: the one function that knows this rule.
 pub fn greatest_block(shortest: u32) -> usize
-    requires { ⌜ 128 ≤ shortest ⌝ }
+    requires { ⌜ shortestArea ≤ shortest ⌝ }
     ensures { λ r. ⌜ r ≡ greatestBlock shortest ⌝ }
 {
     smaller(
@@ -71,9 +66,15 @@ pub fn greatest_block(shortest: u32) -> usize
     )
 }
 
+// The greatest block size beside the shortest area that there may be.
+const LEAST_BLOCK: usize = SHORTEST_AREA / 2 - BlockHeader::SIZE;
+
+// The most pieces of one append.
+pub const MOST_PIECES: usize = (MOST_APPENDED + (LEAST_BLOCK - 1)) / LEAST_BLOCK;
+
 // How many pieces of `size` bytes data of a length is cut into.
 pub fn piece_count(length: usize, size: usize) -> usize
-    requires { ⌜ (1 ≤ size) × (size ≤ 65536) × (length ≤ 65536) ⌝ }
+    requires { ⌜ (1 ≤ size) × (size ≤ longestData) × (length ≤ mostAppended) ⌝ }
     ensures { λ r. ⌜ r ≡ (length + (size - 1)) / size ⌝ }
 {
     (length + (size - 1)) / size
@@ -87,7 +88,7 @@ fn take_places(
     size: usize,
     places: &mut [u32],
 ) -> bool
-    requires { ⌜ (length (now froms) ≡ length (now ends)) × (1 ≤ size) × (size ≤ 2048) ⌝ }
+    requires { ⌜ (length (now froms) ≡ length (now ends)) × (1 ≤ size) × (size ≤ longestData) ⌝ }
     requires { ⌜ length (now places) ≡ length (pieces size (now text)) ⌝ }
     ensures { λ r. ⌜ placesFor (spacesOf (now (froms .entry)) (now (ends .entry))) (pieces size (now (text .entry))) ≡ plannedOf r (now (places .exit)) ⌝ }
 {
@@ -105,30 +106,31 @@ fn take_places(
     true
 }
 
-// Finds a place in the areas for each piece; answers whether there is room for all.
+// Finds a place in the file areas for each piece; answers whether there is room for all.
 pub fn plan_places(
     image: &[u8],
-    offsets: &[u32],
-    lengths: &[u32],
+    tables: &[u32],
+    m: Mounted,
     text: &[u8],
     size: usize,
     places: &mut [u32],
 ) -> bool
-    requires { ⌜ Fit (now image) (now offsets) (now lengths) ⌝ }
-    requires { ⌜ (length (now offsets) ≤ mostAreas) × (1 ≤ size) × (size ≤ 2048) ⌝ }
+    requires { ⌜ Safe (now image) m (now tables) ⌝ }
+    requires { ⌜ (1 ≤ size) × (size ≤ longestData) ⌝ }
     requires { ⌜ length (now places) ≡ length (pieces size (now text)) ⌝ }
-    ensures { λ r. ⌜ placesFor (spaces (now (image .entry)) (described (now (offsets .entry)) (now (lengths .entry)))) (pieces size (now (text .entry))) ≡ plannedOf r (now (places .exit)) ⌝ }
+    ensures are { λ r. ⌜ ((ds : List Descriptor) → Holds (now (image .entry)) ds m (now (tables .entry)) → placesFor (spaces (now (image .entry)) (fileAreas (now (image .entry)) ds)) (pieces size (now (text .entry))) ≡ plannedOf r (now (places .exit))) ⌝ }
+    ensures inside { λ r. ⌜ PlannedAt (length (now (image .entry))) (pieces size (now (text .entry))) (plannedOf r (now (places .exit))) ⌝ }
 {
     let mut froms = [0u32; MOST_AREAS];
     let mut ends = [0u32; MOST_AREAS];
-    let n = find_spaces(image, offsets, lengths, &mut froms[..], &mut ends[..]);
+    let n = find_spaces(tables, m.files, &mut froms[..], &mut ends[..]);
     take_places(&mut froms[..n], &ends[..n], text, size, &mut *places)
 }
 
 // The smallest block ids that no record names, in order, none of them twice.
-pub fn plan_ids(image: &[u8], records: &[u32], ids: &mut [u32])
+pub fn plan_ids(image: &[u8], records: &[u16], ids: &mut [u32])
     requires { ⌜ AllLie (now image) (now records) (length (now records)) ⌝ }
-    requires { ⌜ (length (now records) ≤ 3276) × (length (now ids) ≤ 256) ⌝ }
+    requires { ⌜ (length (now records) ≤ mostRecords) × (length (now ids) ≤ mostPieces) ⌝ }
     ensures { λ _. ⌜ now (ids .exit) ≡ idsFor (namedAt (now (image .entry)) (now (records .entry))) (length (now (ids .entry))) ⌝ }
 {
     let mut words = [0u64; ID_WORDS];
@@ -142,7 +144,7 @@ pub fn plan_ids(image: &[u8], records: &[u32], ids: &mut [u32])
 
 // Stores one piece as a block of the file.
 fn store_piece(image: &mut [u8], at: u32, id: u32, file: u32, previous: u32, piece: &[u8])
-    requires { ⌜ (at + (block .headerSize + length (now piece)) ≤ length (now image)) × (length (now piece) ≤ 2048) ⌝ }
+    requires { ⌜ (at + (block .headerSize + length (now piece)) ≤ length (now image)) × (length (now piece) ≤ longestData) ⌝ }
     ensures { λ _. ⌜ now (image .exit) ≡ put (now (image .entry)) at (blockBytes id 0 file previous (now (piece .entry))) ⌝ }
 {
     let header = BlockHeader {

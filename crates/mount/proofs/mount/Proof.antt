@@ -64,7 +64,7 @@ returns-3 c =
     let a = at-areas e in
     mount-passes _ _ _ _ (long a) (a .check-areas .ensures) (e .if1 .left) _ _ (l .list-areas .last .1 .0) (l .list-areas .ensures .0) (l .list-areas .ensures .1 .0)
     (l .list-areas .kept .1 .0) (l .list-areas .ensures .1 .1)
-    (f .fill-tables .result) _ (f .fill-tables .ensures) (f .fill-tables .kept .1 .1 .1 .0) (c .before .if2 .left)
+    (f .fill-tables .result) _ (f .fill-tables .ensures) (f .fill-tables .kept .1 .1 .1 .0) (c .before .if2 .left) (l .list-areas .kept .1 .1 .1 .0 ∙ start a .pre .places-long)
 
 pub mount-spec : {M : Type 1} → statement M
 mount-spec =

@@ -5,8 +5,9 @@ use native.Mathlib.Omega.{arith}
 use borrow.Author.Needs.{needs}
 use lib.ListN.{length}
 use Rattle.occupancy.specs.Occupancy.{capacity}
-use Rattle.unused_ids.specs.Window.{namedAt}
+use Rattle.unused_ids.specs.Window.{namedAt, idWords}
 use Rattle.unused_ids.specs.Laws.{few-names}
+use Rattle.pieces.specs.Cut.{pieces-fit}
 use Rattle.pieces.specs.Laws.{Taking, taking-begins, taking-room, taking-on, taking-ends}
 use Rattle.pieces.proofs.plan_ids.Statement.{statement}
 use Rattle.pieces.proofs.plan_ids.Tie as tie
@@ -32,15 +33,15 @@ room : (m : tie.After-mark-named Inv-loop μ-loop)
     → length (namedAt (lent m .args .image .now) (lent m .args .records .now)) + length (lent m .args .ids .now) < capacity (m .mark-named .last .1 .1 .0)
 room m =
     let s = lent m in
-    let e : length (m .mark-named .last .1 .1 .0) ≡ 158 = m .mark-named .kept .1 .1 .0 in
-    omega (arith, few-names (s .args .image .now) (s .args .records .now), s .pre .1)
+    let e : length (m .mark-named .last .1 .1 .0) ≡ idWords = m .mark-named .kept .1 .1 .0 in
+    omega (arith, few-names (s .args .image .now) (s .args .records .now), s .pre .1, pieces-fit)
 
 take-id-requires : tie.Need-take-id-requires Inv-loop μ-loop
 take-id-requires c κs =
     let n = c .before in
     let l = n .before in
     let m = marked l in
-    let e : length (m .mark-named .last .1 .1 .0) ≡ 158 = m .mark-named .kept .1 .1 .0 in
+    let e : length (m .mark-named .last .1 .1 .0) ≡ idWords = m .mark-named .kept .1 .1 .0 in
     (omega (arith, l .loop .inv .words-long), (taking-room (l .loop .inv) (room m) (omega (arith, n .loop-test .taken, l .loop .inv .ids-long)), omega arith))
 
 loop-again : tie.Need-loop-again Inv-loop μ-loop
