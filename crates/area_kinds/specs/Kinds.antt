@@ -1,7 +1,7 @@
 -- The file areas and the scratch areas among good descriptors, and whether file areas share an id.
 use Prim.Native.Nat.{ℕ, zero, suc, _+_, _*_, _≤_, _<_}
 use mathlib.Core.Path.{_≡_, refl, sym, ap, ap₂, _∙_}
-use mathlib.Core.Bool.{Bool, true, false, cond, not, _&&_}
+use mathlib.Core.Bool.{Bool, true, false, not, _&&_}
 use mathlib.Core.Logic.{⊎-elim}
 use mathlib.Core.List.{List, [], _∷_, _++_, map, append-assoc, append-nil, List·Memᴰ·cases-cons, Memᴰ·cast}
 use native.Mathlib.Omega.{arith}
@@ -14,7 +14,7 @@ use Rattle.format.specs.AreaHeader.{areaHeaderSize}
 use Rattle.format_laws.specs.Record.{and-left, and-right}
 use Rattle.volume.specs.Lists.{keep, all, once}
 use Rattle.volume_laws.specs.Tests.{T→true, true→T, not-is-false}
-use Rattle.volume_laws.specs.Lists.{keep-mem, all-mem, mem-all, not-all, all-map}
+use Rattle.volume_laws.specs.Lists.{keep-mem, keep-whole, all-mem, mem-all, not-all, all-map}
 use Rattle.volume_laws.specs.Once.{once-nodup, once-mem, mem-once, pigeons}
 use Rattle.calls.specs.Areas.{paired, mostAreas, goodArea, fileAreas, scratchAreas}
 use Rattle.calls.specs.Mount.{sharedAreaId}
@@ -49,20 +49,11 @@ distinct = pairwise (λ x y. not (eqb y x))
 once-short : (l : List ℕ) → length (once l) ≤ length l
 once-short l = pigeons (once l) l (once-nodup l) (λ x m. once-mem l m)
 
-keep-whole : (p : ℕ → Bool) (l : List ℕ) → T (all p l) → keep p l ≡ l
-unfolding keep all
-keep-whole p [] t = refl
-keep-whole p (a ∷ l) t = go (p a) t (keep-whole p l)
-  where
-    go : (b : Bool) → T (b && all p l) → (T (all p l) → keep p l ≡ l) → cond b (a ∷ keep p l) (keep p l) ≡ a ∷ l
-    go true t ih = ap (λ x. a ∷ x) (ih t)
-    go false t ih = absurd t
-
 -- a number that does not come again, and one that does
 once-new : (x : ℕ) (l : List ℕ) → all (λ y. not (eqb y x)) l ≡ true → length (once (x ∷ l)) ≡ suc (length (once l))
 unfolding once
 once-new x l e =
-    ap (λ m. suc (length m)) (keep-whole _ (once l) (mem-all _ (once l) (λ y m. all-mem (λ z. not (eqb z x)) l (true→T e) (once-mem l m))))
+    ap (λ m. suc (length m)) (keep-whole _ (once l) (λ y m. T→true (all-mem (λ z. not (eqb z x)) l (true→T e) (once-mem l m))))
 
 once-again : (x : ℕ) (l : List ℕ) → all (λ y. not (eqb y x)) l ≡ false → length (once (x ∷ l)) ≤ length (once l)
 once-again x l e =

@@ -1,6 +1,6 @@
 -- Create. Document 01, "Create, append, unlink" and refusals 8 to 12, 5 and 15.
 use Prim.Native.Nat.{ℕ, suc}
-use mathlib.Core.List.{List, [], _∷_}
+use mathlib.Core.List.{List, [], _∷_, _++_}
 use mathlib.Core.Bool.{Bool, cond, not, _||_}
 use lib.ListN.{length}
 use lib.Dec.{eqb, ltb}
@@ -11,7 +11,7 @@ use Rattle.volume.specs.View.{byBytes}
 use Rattle.volume.specs.Counting.{Volume, inodeIds}
 use Rattle.volume.specs.Path.{goodPath, pathNames}
 use Rattle.volume.specs.Tree.{Found, found, absent, children, lookupNames}
-use Rattle.calls.specs.Refusal.{_refused-by_, firstRefusal}
+use Rattle.calls.specs.Refusal.{Check, _refused-by_, firstRefusal}
 use Rattle.calls.specs.Areas.{fileAreas}
 use Rattle.calls.specs.Mount.{mostInodes, volume, mountNumber}
 use Rattle.calls.specs.Storing.{spaces, placeAll, noPlace, storedOr, namedIds, unusedId}
@@ -44,16 +44,19 @@ newId v kind = unusedId (firstIdOf kind) (namedIds v)
 unfoldable pub newInode : Volume Bytes → ℕ → ℕ → Bytes → Bytes
 newInode v kind d n = inodeBytes (newId v kind) 0 d n
 
--- "for that name, in a directory, only 12 is asked"; then 5 again "with the new records counted in", before 15
+-- a new name below the inode d: 11 where d is a file; "for that name, in a directory, only 12 is asked"
+abbrev pub nameChecks : Volume Bytes → ℕ → Bytes → List Check
+nameChecks v d n = (not (isDirectoryId d) refused-by 11) ∷ (ltb 0 (length (children byBytes v d n)) refused-by 12) ∷ []
+
+-- then 5 again "with the new records counted in", before 15
 unfoldable pub createIn : Bytes → List Descriptor → ℕ → ℕ → Bytes → ℕ
 createIn image ds kind d n =
     let v = volume image ds in
     firstRefusal
-    ((not (isDirectoryId d) refused-by 11)
-    ∷ (ltb 0 (length (children byBytes v d n)) refused-by 12)
-    ∷ (ltb mostInodes (suc (length (inodeIds byBytes v))) refused-by 5)
+    (nameChecks v d n
+    ++ ((ltb mostInodes (suc (length (inodeIds byBytes v))) refused-by 5)
     ∷ (noPlace (placeAll (spaces image (fileAreas image ds)) (newInode v kind d n ∷ [])) refused-by 15)
-    ∷ [])
+    ∷ []))
 
 -- what becomes of a create: the directory and the name, or a number of refusal
 pub data Creating : Type 0 where

@@ -10,6 +10,7 @@ pub mod Format
 pub mod Storing
 pub mod Create
 pub mod Append
+pub mod Rewrite
 pub mod Unlink
 pub mod Collect
 pub mod Program

@@ -1,43 +1,25 @@
 -- Unlink. Document 01, "Create, append, unlink" and refusals 8 to 11, 16 and 15.
-use Prim.Native.Nat.{ℕ, suc}
-use mathlib.Core.List.{List, [], _∷_}
+use Prim.Native.Nat.{ℕ}
+use mathlib.Core.List.{List, []}
 use mathlib.Core.Bool.{cond, not, _||_}
-use mathlib.Core.Option.{Option, none, some}
 use lib.Dec.{eqb}
 use Rattle.format.specs.Bytes.{Bytes}
 use Rattle.format.specs.Ids.{NONE}
-use Rattle.format.specs.Record.{recordSequence}
-use Rattle.format.specs.Encoding.{inodeBytes}
 use Rattle.volume.specs.View.{byBytes}
-use Rattle.volume.specs.Counting.{Volume, inodeOf}
+use Rattle.volume.specs.Counting.{Volume}
 use Rattle.volume.specs.Path.{goodPath, pathNames}
 use Rattle.volume.specs.Tree.{Found, found, absent, lookupNames}
-use Rattle.calls.specs.Refusal.{_refused-by_, firstRefusal}
-use Rattle.calls.specs.Areas.{fileAreas}
 use Rattle.calls.specs.Mount.{volume, mountNumber}
-use Rattle.calls.specs.Storing.{spaces, placeAll, noPlace, storedOr}
+use Rattle.calls.specs.Rewrite.{rewritten, rewriteNumber, imageRewritten}
 use Rattle.calls.specs.Create.{isRoot}
 use Rattle.calls.specs.declared.Descriptor.{Descriptor}
 
--- the greatest sequence
-abbrev pub lastSequence : ℕ
-lastSequence = 0xffffffff
-
-abbrev pub sequenceOf : Option Bytes → ℕ
-sequenceOf none = 0
-sequenceOf (some r) = recordSequence r
-
--- "a deletion record, sequence plus one, no name"
+-- "a deletion record, sequence plus one, no name": the inode rewritten with no parent and no name
 unfoldable pub deletion : Volume Bytes → ℕ → Bytes
-deletion v i = inodeBytes i (suc (sequenceOf (inodeOf byBytes v i))) NONE []
+deletion v i = rewritten v i NONE []
 
 unfoldable pub unlinkOne : Bytes → List Descriptor → ℕ → ℕ
-unlinkOne image ds i =
-    let v = volume image ds in
-    firstRefusal
-    ((eqb (sequenceOf (inodeOf byBytes v i)) lastSequence refused-by 16)
-    ∷ (noPlace (placeAll (spaces image (fileAreas image ds)) (deletion v i ∷ [])) refused-by 15)
-    ∷ [])
+unlinkOne image ds i = rewriteNumber image ds i NONE []
 
 -- what becomes of an unlink: the inode, or a number of refusal
 pub data Unlinking : Type 0 where
@@ -60,7 +42,7 @@ unlinkNumber (unlinks i) = 0
 unlinkNumber (refuses r) = r
 
 abbrev pub unlinkImage : Bytes → List Descriptor → Unlinking → Bytes
-unlinkImage image ds (unlinks i) = storedOr image (placeAll (spaces image (fileAreas image ds)) (deletion (volume image ds) i ∷ []))
+unlinkImage image ds (unlinks i) = imageRewritten image ds i NONE []
 unlinkImage image ds (refuses r) = image
 
 unfoldable pub unlinkOf : Bytes → List Descriptor → Bytes → Bytes → ℕ

@@ -3,3 +3,4 @@ pub mod Checks
 pub mod Records
 pub mod Reads
 pub mod Unused
+pub mod Storing

@@ -16,7 +16,7 @@ use Rattle.format_laws.specs.Record.{record-inside}
 use Rattle.format_laws.specs.Reading.{records-lawful}
 use Rattle.format_laws.specs.Taken.{records-from, from-each}
 use Rattle.volume.specs.Lists.{keep}
-use Rattle.volume_laws.specs.Lists.{keep-append, keep-none}
+use Rattle.volume_laws.specs.Lists.{keep-append, keep-none, keep-whole}
 use Rattle.calls.specs.Areas.{areaEnd, areaBytes, allDisjoint, fileAreas}
 use Rattle.calls.specs.Mount.{recordsOf, bytesOf, recordsIn, volume}
 use Rattle.calls.specs.Collect.{isOther, recordsElsewhere, copies}
@@ -27,7 +27,6 @@ use Rattle.descriptors.specs.Places.{Clear, clear-sym, split-first}
 use Rattle.listing.specs.Listing.{starts, placesIn}
 use Rattle.listing.specs.Bridge.{starts-each, places-bytes, placedVolume, volume-places}
 use Rattle.collect_copies.specs.Copied.{inside, copiedPlaces}
-use Rattle.collect_copies.specs.Lists.{keep-whole}
 use Rattle.collect_copies.specs.Tests.{copies-are}
 
 -- ---- one area

@@ -3,7 +3,7 @@ use Prim.Native.Nat.{ℕ, _+_, _≤_, _<_}
 use mathlib.Core.Path.{_≡_, refl, sym, _∙_}
 use mathlib.Core.Bool.{Bool, true, false, cond, not, _&&_}
 use mathlib.Core.Option.{Option, none, some}
-use mathlib.Core.List.{List, [], _∷_, List·Memᴰ, List·Memᴰ·head, List·Memᴰ·tail}
+use mathlib.Core.List.{List, [], _∷_}
 use native.Mathlib.Omega.{arith}
 use lib.ListN.{length, drop, getD}
 use lib.Seq.{getD-take, getD-drop}
@@ -127,17 +127,3 @@ module _ (image : Bytes) (os ls : List ℕ) (pairs : length os ≡ length ls) (w
     pub first-nowhere : length os ≤ i → areaAt os ls i ≡ firstLeading image wanted fs (rest i)
     unfolding firstLeading
     first-nowhere h = rw (described-end os ls i h, le-ltb i (length os) h)
-
--- ---- the source is one of the areas
-
-leading-mem : (image : Bytes) (wanted : ℕ) (fs gs : List Descriptor) (s : Descriptor) → firstLeading image wanted fs gs ≡ some s → List·Memᴰ s gs
-unfolding firstLeading
-leading-mem image wanted fs [] s e = let z : _≡_ {A = ℕ} 0 1 = cc in absurd (omega arith)
-leading-mem image wanted fs (d ∷ gs) s e = go (leads image wanted fs d) e (leading-mem image wanted fs gs s)
-  where
-    go : (b : Bool) → cond b (some d) (firstLeading image wanted fs gs) ≡ some s → (firstLeading image wanted fs gs ≡ some s → List·Memᴰ s gs) → List·Memᴰ s (d ∷ gs)
-    go true q ih = let z : s ≡ d = cc in List·Memᴰ·head z
-    go false q ih = List·Memᴰ·tail (ih q)
-
-pub source-mem : (image : Bytes) (fs : List Descriptor) (t s : Descriptor) → sourceOf image fs t ≡ some s → List·Memᴰ s fs
-source-mem image fs t s e = leading-mem image (t .length) fs fs s (sym (source-leads image t fs) ∙ e)

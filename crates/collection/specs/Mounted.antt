@@ -21,7 +21,7 @@ use Rattle.area_kinds.specs.Places.{AreasPass, areas-pass, files-fit}
 use Rattle.listing.specs.Listing.{placesIn}
 use Rattle.mount.specs.Mount.{Mounts}
 use Rattle.mount.specs.declared.Mounted.{Mounted}
-use Rattle.collect_source.specs.Source.{source-mem}
+use Rattle.collect_laws.specs.Source.{source-found}
 use Rattle.collect_stores.specs.Moved.{movedInto}
 use Rattle.collection.specs.Collection.{Ready, afterFrom}
 use Rattle.collection.specs.Source.{collectable, moved-copies}
@@ -83,7 +83,7 @@ module _ {image : Bytes} {ds : List Descriptor} {m : Mounted} {os ls ps : List �
     unfolding afterFrom collected movedInto
     from-source none e = refl
     from-source (some s) e =
-        rw (moved-copies image ds pass scratch one-scratch s (source-mem image (fileAreas image ds) scratch s e) tables
+        rw (moved-copies image ds pass scratch one-scratch s (source-found image (fileAreas image ds) scratch s e .0) tables
         (c .state z .records .good) (c .state z .records .rows))
 
     -- and so is the image that it leaves

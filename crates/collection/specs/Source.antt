@@ -3,7 +3,7 @@ use Prim.Native.Nat.{ℕ, _+_, _≤_, _<_}
 use mathlib.Core.Path.{_≡_, ap, subst, _∙_}
 use mathlib.Core.Logic.{inl, inr}
 use mathlib.Core.Bool.{not, _&&_}
-use mathlib.Core.List.{List, List·Memᴰ}
+use mathlib.Core.List.{List, map, List·Memᴰ}
 use native.Mathlib.Omega.{arith}
 use lib.ListN.{length, drop, getD, length-take, length-drop}
 use lib.Dec.{T}
@@ -18,14 +18,15 @@ use Rattle.volume.specs.Lists.{keep}
 use Rattle.volume_laws.specs.Tests.{true→T, and-T}
 use Rattle.volume_laws.specs.Lists.{keep-mem, mem-keep}
 use Rattle.calls.specs.Areas.{areaEnd, areaBytes, allDisjoint, fileAreas, scratchAreas}
-use Rattle.calls.specs.Mount.{recordsOf, bytesOf, volume}
-use Rattle.calls.specs.Collect.{joinedBytes, copies, recordsElsewhere}
+use Rattle.calls.specs.Mount.{recordsOf}
+use Rattle.calls.specs.Collect.{copiedRecords}
 use Rattle.calls.specs.declared.Descriptor.{Descriptor}
-use Rattle.collect_laws.specs.Room.{copies-fit}
-use Rattle.place_view.specs.Place.{blockAt, sizeAt, byPlace}
+use Rattle.collect_laws.specs.Mounted.{copied-survive}
+use Rattle.place_view.specs.Place.{blockAt, sizeAt, bytesAt, byPlace}
 use Rattle.table.specs.Laws.{getD-mem}
 use Rattle.gather.specs.Gather.{Tables, tableOf, AllGood, AllRows}
 use Rattle.flash.specs.Apart.{Apart, apart-before, apart-after}
+use Rattle.flash.specs.Stores.{joinedBytes}
 use Rattle.descriptors.specs.Places.{Clear}
 use Rattle.area_kinds.specs.Places.{AreasPass, member-fits, file-member, scratch-member, file-scratch-apart, files-disjoint, scratch-longest}
 use Rattle.listing.specs.Listing.{starts, placesIn}
@@ -95,7 +96,7 @@ module _ (image : Bytes) (ds : List Descriptor) (pass : AreasPass image ds) (t :
         let g = member-fits image ds pass s (file-member image ds pass s file) in
         let v = volume-copies image ds s tables apart-all long file good rows in
         let e = ap (λ l. length (joinedBytes l)) v in
-        let k = copies-fit (volume image ds) (areaBytes image s) (recordsElsewhere image (fileAreas image ds) s) in
+        let k = copied-survive image ds s .fit in
         let d = length-drop areaHeaderSize (areaBytes image s) in
         let l = length-take (s .length) (drop (s .offset) image) in
         record {
@@ -129,7 +130,5 @@ module _ (image : Bytes) (ds : List Descriptor) (pass : AreasPass image ds) (t :
         }
 
     -- what is moved are the copies
-    pub moved-copies : moved image cs
-        ≡ joinedBytes (copies (volume image ds) (bytesOf (recordsOf image s)) (recordsElsewhere image (fileAreas image ds) s))
-    unfolding moved
-    moved-copies = ap joinedBytes (volume-copies image ds s tables apart-all long file good rows)
+    pub moved-copies : map (bytesAt image) cs ≡ copiedRecords image ds s
+    moved-copies = volume-copies image ds s tables apart-all long file good rows

@@ -6,47 +6,30 @@ use mathlib.Core.Bool.{Bool, true, false, cond, not, _||_}
 use mathlib.Core.Option.{Option, none, some}
 use mathlib.Core.List.{List, [], _∷_}
 use native.Mathlib.Omega.{arith}
-use lib.ListN.{length, take, getD, length-take}
+use lib.ListN.{length}
 use lib.Dec.{eqb, ltb}
 use borrow.Author.Tests.{eq-eqb, ne-eqb, lt-ltb, le-ltb}
 use Rattle.format.specs.Bytes.{Bytes}
 use Rattle.format.specs.Ids.{firstFileId, isDirectoryId}
 use Rattle.format.specs.Encoding.{inodeBytes}
-use Rattle.volume.specs.Lists.{Only, nobody, several, one, only}
-use Rattle.volume.specs.View.{View, byBytes}
-use Rattle.volume.specs.Counting.{Volume, volumeOf, inodeIds}
+use Rattle.volume.specs.View.{byBytes}
+use Rattle.volume.specs.Counting.{Volume, inodeIds}
 use Rattle.volume.specs.Path.{goodPath, pathNames}
 use Rattle.volume.specs.Tree.{Found, found, absent, children, lookupNames}
-use Rattle.volume_laws.specs.Map.{overVolume}
-use Rattle.place_view.specs.Place.{byPlace, bytesAt, AllLie}
-use Rattle.table.specs.Table.{taken}
-use Rattle.table.specs.Laws.{rows-number, ids-room, getD-mem}
-use Rattle.calls.specs.Refusal.{Check, _refused-by_, firstRefusal}
+use Rattle.calls.specs.Refusal.{firstRefusal}
 use Rattle.calls.specs.Areas.{fileAreas}
 use Rattle.calls.specs.Mount.{mostInodes, volume, mountNumber}
 use Rattle.calls.specs.Storing.{Store, Space, spaces, placeAll, noPlace, storedOr, namedIds, unusedId}
-use Rattle.calls.specs.Create.{lastName, namesBefore, isRoot, firstIdOf, newId, newInode, createIn, Creating, creates, refuses, createWhere, creating, createAnswer, createImage, createOf, imageCreated}
+use Rattle.calls.specs.Create.{lastName, namesBefore, isRoot, firstIdOf, newId, newInode, nameChecks, createIn, Creating, creates, refuses, createWhere, creating}
+use Rattle.calls.specs.Create.{createAnswer, createImage, createOf, imageCreated}
 use Rattle.calls.specs.declared.Descriptor.{Descriptor}
 use Rattle.calls.specs.declared.Created.{Created}
-use Rattle.descriptors.specs.Described.{described}
-use Rattle.listing.specs.Listing.{placesIn}
-use Rattle.listing.specs.Bridge.{placedVolume, volume-places, places-lie}
-use Rattle.lookup.specs.Found.{InodesOf, InodeTable, refusalOf}
-use Rattle.gather.specs.Gather.{Tables}
-use Rattle.mount.specs.Mount.{Mounts}
-use Rattle.mount.specs.declared.Mounted.{Mounted}
+use Rattle.lookup.specs.Found.{refusalOf}
+use Rattle.tree.specs.Parent.{parentOf}
 use Rattle.inode_store.specs.Stored.{placeNumber}
-use Rattle.inode_store.specs.Mounted.{MountedInodes, names-are, children-are, ids-are}
-use Rattle.creating.specs.Names.{parentOf}
-
--- the places of records: they lie in the image, and are no more than an image can hold
-pub record Places (image : Bytes) (ps : List ℕ) : Type 0 where
-  pub lie : AllLie image ps (length ps)
-  pub few : length ps ≤ 3276
-
--- the volume of the records at some places
-abbrev pub volumeAt : Bytes → List ℕ → Volume Bytes
-volumeAt image ps = overVolume (bytesAt image) (volumeOf (byPlace image) ps)
+use Rattle.mounted.specs.State.{Safe, Holds, Mounts}
+use Rattle.mounted.specs.Bridge.{inodes-number}
+use Rattle.mounted.specs.declared.Mounted.{Mounted}
 
 -- "A refused answer's other numbers are 0"
 abbrev pub notCreated : ℕ → Created
@@ -55,54 +38,6 @@ notCreated n = record { number = n; id = 0 }
 -- the answer by where the new inode goes
 abbrev pub storedAnswer : Volume Bytes → ℕ → Option (List Store) → Created
 storedAnswer v kind o = cond (noPlace o) (notCreated 15) (record { number = 0; id = newId v kind })
-
--- ---- the checks of a name in a directory
-
-abbrev pub anyOf : Only ℕ → Bool
-anyOf nobody = false
-anyOf several = true
-anyOf (one i) = true
-
--- those before a place is asked for
-abbrev pub checksIn : {A : Type 0} → View A → Volume A → ℕ → Bytes → List Check
-checksIn F v d n =
-    (not (isDirectoryId d) refused-by 11)
-    ∷ (ltb 0 (length (children F v d n)) refused-by 12)
-    ∷ (ltb mostInodes (suc (length (inodeIds F v))) refused-by 5)
-    ∷ []
-
-any-only : (l : List ℕ) → anyOf (only l) ≡ ltb 0 (length l)
-unfolding only
-any-only [] = refl
-any-only (a ∷ []) = refl
-any-only (a ∷ b ∷ l) = sym (lt-ltb 0 (length (a ∷ b ∷ l)) (omega arith))
-
-module _ (F : View ℕ) (v : Volume ℕ) (d : ℕ) (n : Bytes) where
-  pub checks-file : isDirectoryId d ≡ false → 11 ≡ firstRefusal (checksIn F v d n)
-  unfolding firstRefusal
-  checks-file e = rw e
-
-  module _ (e : isDirectoryId d ≡ true) (o : Only ℕ) (q : o ≡ only (children F v d n)) where
-    is-any : (b : Bool) → anyOf o ≡ b → ltb 0 (length (children F v d n)) ≡ b
-    is-any b a = sym (any-only (children F v d n)) ∙ ap anyOf (sym q) ∙ a
-
-    pub checks-taken : anyOf o ≡ true → 12 ≡ firstRefusal (checksIn F v d n)
-    unfolding firstRefusal
-    checks-taken a = rw (e, is-any true a)
-
-    module _ (a : anyOf o ≡ false) (k : ℕ) (c : k ≡ length (inodeIds F v)) where
-      pub checks-full : mostInodes ≤ k → 5 ≡ firstRefusal (checksIn F v d n)
-      unfolding firstRefusal
-      checks-full h = rw (e, is-any false a, lt-ltb mostInodes (suc (length (inodeIds F v))) (omega (arith, c)))
-
-      pub checks-pass : k < mostInodes → 0 ≡ firstRefusal (checksIn F v d n)
-      unfolding firstRefusal
-      checks-pass h = rw (e, is-any false a, le-ltb mostInodes (suc (length (inodeIds F v))) (omega (arith, c)))
-
--- the number of inodes is the number of rows
-pub rows-taken : {image : Bytes} {words ids spots : List ℕ} → InodeTable image words ids spots → (v : Volume ℕ) → InodesOf image words ids spots v
-    → taken words ≡ length (inodeIds (byPlace image) v)
-rows-taken {image} {words} {ids} {spots} t v r = rows-number (byPlace image) (v .inodes) (taken words) ids spots r (ids-room (t .good .sized))
 
 -- ---- the new inode
 
@@ -149,21 +84,19 @@ module _ (image : Bytes) (v : Volume Bytes) (kind d : ℕ) (n : Bytes) (ss : Lis
 
 -- ---- the ways that a create ends
 
--- 11, 12 and 5, and then x
-abbrev numberOr : Bool → Bool → Bool → ℕ → ℕ
-numberOr a b c x = cond a 11 (cond b 12 (cond c 5 x))
+-- 11 and 12, and then x
+abbrev numberOr : Bool → Bool → ℕ → ℕ
+numberOr a b x = cond a 11 (cond b 12 x)
 
-checks-before : (a b c : Bool) (x : ℕ) → numberOr a b c 0 ≢ 0 → numberOr a b c x ≡ numberOr a b c 0
-checks-before true b c x h = refl
-checks-before false true c x h = refl
-checks-before false false true x h = refl
-checks-before false false false x h = absurd (h refl)
+checks-before : (a b : Bool) (x : ℕ) → numberOr a b 0 ≢ 0 → numberOr a b x ≡ numberOr a b 0
+checks-before true b x h = refl
+checks-before false true x h = refl
+checks-before false false x h = absurd (h refl)
 
-checks-last : (a b c : Bool) (x : ℕ) → numberOr a b c 0 ≡ 0 → numberOr a b c x ≡ x
-checks-last true b c x h = absurd (omega arith)
-checks-last false true c x h = absurd (omega arith)
-checks-last false false true x h = absurd (omega arith)
-checks-last false false false x h = refl
+checks-last : (a b : Bool) (x : ℕ) → numberOr a b 0 ≡ 0 → numberOr a b x ≡ x
+checks-last true b x h = absurd (omega arith)
+checks-last false true x h = absurd (omega arith)
+checks-last false false x h = refl
 
 module _ (image : Bytes) (ds : List Descriptor) (base path : Bytes) (kind : ℕ) where
   -- the answer and the image of a create
@@ -181,6 +114,9 @@ module _ (image : Bytes) (ds : List Descriptor) (base path : Bytes) (kind : ℕ)
   module _ (mounted : mountNumber image ds ≡ 0) where
     abbrev name : Bytes
     name = lastName (pathNames base path)
+
+    abbrev v : Volume Bytes
+    v = volume image ds
 
     creating-is : creating image ds base path kind ≡ createWhere image ds kind (lastName (pathNames base path)) (parentOf byBytes (volume image ds) base path)
     unfolding creating
@@ -203,67 +139,62 @@ module _ (image : Bytes) (ds : List Descriptor) (base path : Bytes) (kind : ℕ)
       one-in : (k : ℕ) → createIn image ds kind d name ≡ k → creating image ds base path kind ≡ cond (eqb k 0) (creates d name) (refuses k)
       one-in k q = creating-is ∙ ap (createWhere image ds kind name) e ∙ rw q
 
-      where-refused : (k : ℕ) → k ≡ firstRefusal (checksIn byBytes (volume image ds) d name) → k ≢ 0 → Outcome (notCreated k) image
+      -- the checks of the name, and then those of the table and of the place
+      name-first : createIn image ds kind d name
+          ≡ numberOr (not (isDirectoryId d)) (ltb 0 (length (children byBytes v d name))) (cond (ltb mostInodes (suc (length (inodeIds byBytes v)))) 5 (cond (noPlace plan) 15 0))
       unfolding createIn firstRefusal
+      name-first = refl
+
+      where-refused : (k : ℕ) → k ≡ firstRefusal (nameChecks v d name) → k ≢ 0 → Outcome (notCreated k) image
+      unfolding firstRefusal
       where-refused k q h =
           outcome (refuses k)
-          (one-in k (checks-before (not (isDirectoryId d)) (ltb 0 (length (children byBytes (volume image ds) d name))) (ltb mostInodes (suc (length (inodeIds byBytes (volume image ds))))) _
-          (λ z. h (q ∙ z)) ∙ sym q) ∙ rw (ne-eqb k 0 h))
+          (one-in k (name-first ∙ checks-before (not (isDirectoryId d)) (ltb 0 (length (children byBytes v d name))) _ (λ z. h (q ∙ z)) ∙ sym q) ∙ rw (ne-eqb k 0 h))
 
-      passes : firstRefusal (checksIn byBytes (volume image ds) d name) ≡ 0 → createIn image ds kind d name ≡ cond (noPlace plan) 15 0
-      unfolding createIn firstRefusal
-      passes z =
-          checks-last (not (isDirectoryId d)) (ltb 0 (length (children byBytes (volume image ds) d name))) (ltb mostInodes (suc (length (inodeIds byBytes (volume image ds)))))
-          (cond (noPlace plan) 15 0) z
+      module _ (z : firstRefusal (nameChecks v d name) ≡ 0) where
+        name-passes : createIn image ds kind d name ≡ cond (ltb mostInodes (suc (length (inodeIds byBytes v)))) 5 (cond (noPlace plan) 15 0)
+        unfolding firstRefusal
+        name-passes = name-first ∙ checks-last (not (isDirectoryId d)) (ltb 0 (length (children byBytes v d name))) _ z
 
-      where-stored : firstRefusal (checksIn byBytes (volume image ds) d name) ≡ 0 → (r : Created) → r ≡ storedAnswer (volume image ds) kind plan
-          → (x : Bytes) → x ≡ storedOr image plan → Outcome r x
-      where-stored z r a x b = go plan refl a b
-        where
-          go : (o : Option (List Store)) → plan ≡ o → r ≡ storedAnswer (volume image ds) kind o → x ≡ storedOr image o → Outcome r x
-          go none p a b = let u = outcome (refuses 15) (one-in 15 (passes z ∙ rw p)) in (a ∙ u .0, b ∙ u .1)
-          go (some l) p a b = let u = outcome (creates d name) (one-in 0 (passes z ∙ rw p)) in (a ∙ u .0, b ∙ (sym (ap (storedOr image) p) ∙ u .1))
+        where-full : mostInodes ≤ length (inodeIds byBytes v) → Outcome (notCreated 5) image
+        where-full h = outcome (refuses 5) (one-in 5 (name-passes ∙ rw (lt-ltb mostInodes (suc (length (inodeIds byBytes v))) (omega arith))))
+
+        where-stored : length (inodeIds byBytes v) < mostInodes → (r : Created) → r ≡ storedAnswer v kind plan → (x : Bytes) → x ≡ storedOr image plan → Outcome r x
+        where-stored h r a x b = go plan refl a b
+          where
+            passes : createIn image ds kind d name ≡ cond (noPlace plan) 15 0
+            passes = name-passes ∙ rw (le-ltb mostInodes (suc (length (inodeIds byBytes v))) (omega arith))
+
+            go : (o : Option (List Store)) → plan ≡ o → r ≡ storedAnswer v kind o → x ≡ storedOr image o → Outcome r x
+            go none p a b = let u = outcome (refuses 15) (one-in 15 (passes ∙ rw p)) in (a ∙ u .0, b ∙ u .1)
+            go (some l) p a b = let u = outcome (creates d name) (one-in 0 (passes ∙ rw p)) in (a ∙ u .0, b ∙ (sym (ap (storedOr image) p) ∙ u .1))
 
 -- ---- by the tables of a mount
 
-pub create-refused : {image : Bytes} {ds : List Descriptor} {m : Mounted} {os ls ps : List ℕ} {t : Tables} → Mounts image ds m os ls ps t
+pub create-refused : {image : Bytes} {ds : List Descriptor} {m : Mounted} {t ps : List ℕ} → Mounts image ds m t ps
     → (base path : Bytes) (kind : ℕ) → m .number ≢ 0 → Outcome image ds base path kind (notCreated (m .number)) image
 create-refused {image} {ds} c base path kind h = rw (c .number) (not-mounted image ds base path kind (λ z. h (c .number ∙ z)))
 
--- the places that a mount lists
-module _ {image : Bytes} {ds : List Descriptor} {m : Mounted} {os ls ps : List ℕ} {t : Tables} (c : Mounts image ds m os ls ps t) (z : m .number ≡ 0) where
-  pub mounted-listed : take (m .records) ps ≡ placesIn image (fileAreas image ds)
-  mounted-listed = c .state z .records .listed
-
-  pub mounted-places : length ps ≤ 3276 → Places image (take (m .records) ps)
-  mounted-places h = rw mounted-listed (record {
-    lie = λ i l. places-lie image (fileAreas image ds) (getD (placesIn image (fileAreas image ds)) i 0) (getD-mem (placesIn image (fileAreas image ds)) i l);
-    few = omega (arith, ap length mounted-listed, length-take (m .records) ps);
-  })
-
-module _ {image : Bytes} {starts spans words ids spots : List ℕ} {ds : List Descriptor} (m : MountedInodes image starts spans words ids spots ds) (base path : Bytes) (kind : ℕ)
-    (f : Found) (e : f ≡ parentOf (byPlace image) (placedVolume image ds) base path) where
-  where-is : f ≡ parentOf byBytes (volume image ds) base path
-  where-is = e ∙ rw (names-are image ds (namesBefore (pathNames base path)))
-
+module _ {image : Bytes} {ds : List Descriptor} {m : Mounted} {t : List ℕ} (s : Safe image m t) (h : Holds image ds m t) (base path : Bytes) (kind : ℕ)
+    (f : Found) (e : f ≡ parentOf byBytes (volume image ds) base path) where
   pub create-absent : (n : ℕ) → f ≡ absent n → (k : ℕ) → k ≡ refusalOf f → (r : Created) → r ≡ notCreated k → Outcome image ds base path kind r image
   create-absent n q k a r b =
       let z : r ≡ notCreated n = b ∙ ap notCreated (a ∙ ap refusalOf q) in
-      rw z (where-absent image ds base path kind (m .number) n (sym where-is ∙ q))
+      rw z (where-absent image ds base path kind (h .number) n (sym e ∙ q))
 
-  module _ (d : ℕ) (q : f ≡ found d) (n : Bytes) (l : n ≡ lastName (pathNames base path)) (k : ℕ)
-      (g : k ≡ firstRefusal (checksIn (byPlace image) (placedVolume image ds) d n)) where
-    checks-are : k ≡ firstRefusal (checksIn byBytes (volume image ds) d (lastName (pathNames base path)))
-    checks-are = rw (l, children-are image ds d (lastName (pathNames base path)), ids-are image ds) at g
+  module _ (d : ℕ) (q : f ≡ found d) (n : Bytes) (l : n ≡ lastName (pathNames base path)) (k : ℕ) (g : k ≡ firstRefusal (nameChecks (volume image ds) d n)) where
+    checks-are : k ≡ firstRefusal (nameChecks (volume image ds) d (lastName (pathNames base path)))
+    checks-are = rw l at g
 
     pub create-fails : k ≢ 0 → (r : Created) → r ≡ notCreated k → Outcome image ds base path kind r image
-    create-fails h r b = rw b (where-refused image ds base path kind (m .number) d (sym where-is ∙ q) k checks-are h)
+    create-fails z r b = rw b (where-refused image ds base path kind (h .number) d (sym e ∙ q) k checks-are z)
 
-    pub create-stored : k ≡ 0 → (ps : List ℕ) → ps ≡ placesIn image (fileAreas image ds) → (r : Created) (x : Bytes)
-        → r ≡ storedAnswer (volumeAt image ps) kind (placeAll (spaces image (described starts spans)) (newInode (volumeAt image ps) kind d n ∷ []))
-        → x ≡ storedOr image (placeAll (spaces image (described starts spans)) (newInode (volumeAt image ps) kind d n ∷ []))
+    pub create-full : k ≡ 0 → mostInodes ≤ m .inodes → (r : Created) → r ≡ notCreated 5 → Outcome image ds base path kind r image
+    create-full z w r b = rw b (where-full image ds base path kind (h .number) d (sym e ∙ q) (sym checks-are ∙ z) (omega (arith, inodes-number s h)))
+
+    pub create-stored : k ≡ 0 → m .inodes < mostInodes → (r : Created) (x : Bytes)
+        → r ≡ storedAnswer (volume image ds) kind (placeAll (spaces image (fileAreas image ds)) (newInode (volume image ds) kind d n ∷ []))
+        → x ≡ storedOr image (placeAll (spaces image (fileAreas image ds)) (newInode (volume image ds) kind d n ∷ []))
         → Outcome image ds base path kind r x
-    create-stored z ps p r x a b =
-        let v : volumeAt image ps ≡ volume image ds = ap (volumeAt image) p ∙ sym (volume-places image ds) in
-        where-stored image ds base path kind (m .number) d (sym where-is ∙ q) (sym checks-are ∙ z)
-        r (rw (v, m .files, l) at a) x (rw (v, m .files, l) at b)
+    create-stored z w r x a b =
+        where-stored image ds base path kind (h .number) d (sym e ∙ q) (sym checks-are ∙ z) (omega (arith, inodes-number s h)) r (rw l at a) x (rw l at b)

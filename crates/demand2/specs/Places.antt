@@ -21,6 +21,7 @@ use Rattle.calls.specs.Areas.{areaEnd, areaBytes, fileAreas, goodArea, goodArea
 use Rattle.calls.specs.Mount.{badDescription, recordsOf}
 use Rattle.calls.specs.Storing.{Space, Fit, Store, spaces, keepSpace, firstFit, prepend, placeAll, storeAll, noPlace}
 use Rattle.calls.specs.declared.Descriptor.{Descriptor}
+use Rattle.calls_laws.specs.Storing.{kept-fit}
 use Rattle.demand2.specs.Area.{Whole}
 use Rattle.demand2.specs.Store.{OneStored, same-area, freePlace, Fits, one-stored, file-listed, same-file-areas, same-described}
 
@@ -102,13 +103,6 @@ pub record Fitted (image : Bytes) (ds fs : List Descriptor) (b : Bytes) (f : Fit
   pub fits : Fits image ds area b
   pub placed-at : f .place ≡ freePlace image area
   pub left-is : spaces (put image (freePlace image area) b) fs ≡ f .left
-
-kept-fit : (s : Space) (o : Option Fit) (f : Fit) → keepSpace s o ≡ some f
-    → (g : Fit) × (o ≡ some g) × (f .place ≡ g .place) × (f .left ≡ s ∷ g .left)
-kept-fit s none f e = let z : _≡_ {A = ℕ} 0 1 = cc in absurd (omega arith)
-kept-fit s (some g) f e =
-    let q : _≡_ {A = Fit} (record { place = g .place; left = s ∷ g .left }) f = cc in
-    (g, refl, (λ i. sym q i .place), (λ i. sym q i .left))
 
 module _ (image : Bytes) (ds : List Descriptor) (described : badDescription image ds ≡ false) (b : Bytes) (w : Whole recordSize b) where
   pub first-fitted : (fs : List Descriptor) → Distinct fs → ((d : Descriptor) → List·Memᴰ d fs → List·Memᴰ d (fileAreas image ds)) → (f : Fit)

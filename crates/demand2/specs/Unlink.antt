@@ -33,7 +33,8 @@ use Rattle.calls.specs.Storing.{Store, spaces, placeAll, noPlace}
 use Rattle.calls.specs.Create.{isRoot}
 use Rattle.calls.specs.Lookup.{resolve}
 use Rattle.calls.specs.Read.{refused, give}
-use Rattle.calls.specs.Unlink.{lastSequence, sequenceOf, deletion, unlinkOne, Unlinking, unlinks, refuses, unlinkWhat, unlinking, unlinkNumber}
+use Rattle.calls.specs.Rewrite.{lastSequence, sequenceOf, rewritten, rewritePlan, rewriteNumber, imageRewritten}
+use Rattle.calls.specs.Unlink.{deletion, unlinkOne, Unlinking, unlinks, refuses, unlinkWhat, unlinking, unlinkNumber}
 use Rattle.calls.specs.Unlink.{unlinkOf, imageUnlinked}
 use Rattle.calls.specs.declared.Descriptor.{Descriptor}
 use Rattle.calls_laws.specs.Checks.{Passes, passes, mounts}
@@ -72,7 +73,7 @@ module _ (image : Bytes) (ds : List Descriptor) (base path : Bytes) where
 
   -- the checks of `unlinkOne`
   checked : (i : ℕ) → unlinkOne image ds i ≡ 0 → (sequenceOf (inodeOf byBytes before i) ≢ lastSequence) × ((l : List Store) × (placing i ≡ some l))
-  unfolding unlinkOne firstRefusal
+  unfolding unlinkOne rewriteNumber rewritePlan deletion firstRefusal
   checked i e =
       let a = passed-check (eqb (sequenceOf (inodeOf byBytes before i)) lastSequence) 15 _ e in
       let b = passed-check (noPlace (placing i)) 14 0 (a .1) in
@@ -212,11 +213,11 @@ module _ (image : Bytes) (ds : List Descriptor) (base path : Bytes) (octets : Oc
   }
 
   is : IsInode b i (suc (recordSequence (was .0))) NONE []
-  unfolding deletion
-  is = rw (deletion, was .1) (inode-made i (suc (recordSequence (was .0))) NONE [] meant)
+  unfolding deletion rewritten
+  is = rw (deletion, rewritten, was .1) (inode-made i (suc (recordSequence (was .0))) NONE [] meant)
 
   went-one : WrittenOne image image′ ds b
-  unfolding imageUnlinked
+  unfolding imageUnlinked imageRewritten rewritePlan deletion rewritten
   went-one = rw (imageUnlinked, g .goes, g .placed)
       (written-one (all-placed ds image (b ∷ []) (g .stores) (p .described) (λ c m. rw (List·Memᴰ·eq-of-singleton m) (is .whole)) (g .placed)))
 

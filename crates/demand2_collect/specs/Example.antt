@@ -26,10 +26,11 @@ use Rattle.calls.specs.Storing.{spaces, firstFit, placeAll, storeAll, namedByIn
 use Rattle.calls.specs.Format.{emptyArea, formatNumber, longestLength, numbered, labelled, blanked, rooted, formatted, imageFormatted}
 use Rattle.calls.specs.Create.{lastName, namesBefore, firstIdOf, newId, newInode, createIn, creating, createOf, imageCreated}
 use Rattle.calls.specs.Append.{shortestLength, cutInto, piecesOf, blockRecords, newBlocks, appendTo, appending, appendOf, imageAppended}
+use Rattle.calls.specs.Rewrite.{rewritten, rewritePlan, rewriteNumber, imageRewritten}
 use Rattle.calls.specs.Unlink.{deletion, unlinkOne, unlinking, unlinkOf, imageUnlinked}
 use Rattle.calls.specs.Collect.{eligible, precedes, firstLowest, sourceOf, isOther, recordsElsewhere, counts, firstPlaces, dropsBlock, namesInode}
-use Rattle.calls.specs.Collect.{dropsInode, drops, copies, joinedBytes, headerWithId, filledScratch, nextCount, collected, collecting, collectOf}
-use Rattle.calls.specs.Collect.{imageCollected}
+use Rattle.calls.specs.Collect.{dropsInode, drops, copies, isBlank, resetStores, readyStores, recordStores, nextCount, collectStores, collected}
+use Rattle.calls.specs.Collect.{collecting, collectOf, imageCollected}
 use Rattle.calls.specs.declared.Descriptor.{Descriptor}
 
 -- two areas of 160 bytes
@@ -82,7 +83,7 @@ unfolding
     shortScratch tooManyIds noRoot mountChecks mountNumber spaces firstFit placeAll storeAll namedByInodes namedByBlocks namedIds isAmong
     unusedFrom unusedId emptyArea formatNumber longestLength numbered labelled blanked rooted formatted imageFormatted lastName namesBefore
     firstIdOf newId newInode createIn creating createOf imageCreated shortestLength cutInto piecesOf blockRecords newBlocks appendTo
-    appending appendOf imageAppended deletion unlinkOne unlinking unlinkOf imageUnlinked eligible precedes firstLowest sourceOf isOther
-    recordsElsewhere counts firstPlaces dropsBlock namesInode dropsInode drops copies joinedBytes headerWithId filledScratch nextCount
-    collected collecting collectOf imageCollected
+    appending appendOf imageAppended deletion rewritten rewritePlan rewriteNumber imageRewritten unlinkOne unlinking unlinkOf imageUnlinked eligible precedes firstLowest sourceOf isOther
+    recordsElsewhere counts firstPlaces dropsBlock namesInode dropsInode drops copies isBlank resetStores readyStores recordStores
+    nextCount collectStores collected collecting collectOf imageCollected
 accepted = refl

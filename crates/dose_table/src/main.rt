@@ -1,12 +1,13 @@
 // A dose table stored and read back: areas described by a list of structs, and a read by a handle whose position moves.
-use append_call::append;
 use calls::Descriptor;
 use calls::Handle;
-use create_call::create;
+use descriptor_list::Areas;
 use descriptor_list::areas_in;
-use formatting::format;
-use handle_calls::read_value;
-use path_calls::open;
+use nffs::append_of;
+use nffs::create_of;
+use nffs::format_of;
+use nffs::open_of;
+use nffs::read_of;
 
 const FILE: u32 = 1;
 
@@ -18,20 +19,20 @@ fn show(call: &[u8], number: u32) {
 }
 
 // Formats the image, and stores the table in a file of its own.
-fn store(image: &mut [u8], areas: &[u32]) {
-    show(b"format ", format(&mut *image, areas));
-    let made = create(&mut *image, areas, b"/", b"dose", FILE);
+fn store(image: &mut [u8], areas: Areas) {
+    show(b"format ", format_of(&mut *image, areas));
+    let made = create_of(&mut *image, areas, b"/", b"dose", FILE);
     show(b"create ", made.number);
     show(
         b"append ",
-        append(&mut *image, areas, b"/", b"dose", b"0.5 ml/h, 1.0 ml/h"),
+        append_of(&mut *image, areas, b"/", b"dose", b"0.5 ml/h, 1.0 ml/h"),
     );
 }
 
 // Reads once with a handle, prints what was given, and answers the handle after it.
-fn read_on(image: &[u8], areas: &[u32], h: Handle) -> Handle {
+fn read_on(image: &[u8], areas: Areas, h: Handle) -> Handle {
     let mut buffer = [0u8; 10];
-    let r = read_value(image, areas, h, &mut buffer);
+    let r = read_of(image, areas, h, &mut buffer);
     let answer = r.answer;
     let given = answer.given as usize;
     if given <= 10 {
@@ -56,16 +57,15 @@ fn main() {
         length: 0,
     };
     // what stands behind the end is not looked at
-    let listed = areas_in([first, second, end, first, first, first, first, first, first]);
-    let areas = listed.numbers;
-    store(&mut image, &areas);
-    let opened = open(&image, &areas, b"/", b"dose");
+    let areas = areas_in([first, second, end, first, first, first, first, first, first]);
+    store(&mut image, areas);
+    let opened = open_of(&image, areas, b"/", b"dose");
     show(b"open ", opened.number);
     let handle = Handle {
         id: opened.id,
         position: opened.position,
     };
-    let moved = read_on(&image, &areas, handle);
-    let last = read_on(&image, &areas, moved);
+    let moved = read_on(&image, areas, handle);
+    let last = read_on(&image, areas, moved);
     show(b"position ", last.position);
 }

@@ -2,3 +2,4 @@
 pub mod Apart
 pub mod Laws
 pub mod Storing
+pub mod Stores

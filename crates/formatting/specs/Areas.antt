@@ -1,11 +1,11 @@
 -- The areas of a format, written one after the other.
-use Prim.Native.Nat.{ℕ, zero, suc, max, _+_, _-_, _≤_, _<_}
+use Prim.Native.Nat.{ℕ, max, _+_, _-_, _≤_, _<_}
 use mathlib.Core.Path.{_≡_, refl, sym, ap, _∙_}
 use mathlib.Core.Bool.{Bool, true, false, cond, false≢true}
 use mathlib.Core.List.{List, [], _∷_, _++_}
 use native.Mathlib.Omega.{arith}
 use native.Mathlib.Numerals.{add-one}
-use native.Mathlib.Nat.{zero-add, add-zero, sub-zero, zero-sub, suc-sub-suc, le-trans, le-of-lt, le-max-left, max-eq-left, max-eq-right, zero-max, max-zero}
+use native.Mathlib.Nat.{le-trans, le-of-lt, le-max-left, max-eq-left, max-eq-right, zero-max, max-zero}
 use borrow.Author.Tests.{leb-true, leb-false}
 use lib.ListN.{length, getD, drop, length-append, length-replicate, drop-of-length-le}
 use lib.Seq.{drop-cons}
@@ -18,7 +18,8 @@ use Rattle.format_laws.specs.Encoding.{header-size}
 use Rattle.calls.specs.Image.{put, erased}
 use Rattle.calls.specs.Format.{emptyArea, longestLength, Labelled, numbered, labelled, blanked, rooted, rootBytes}
 use Rattle.calls.specs.declared.Descriptor.{Descriptor}
-use Rattle.flash.specs.Laws.{length-put, put-within}
+use Rattle.flash.specs.Laws.{length-put}
+use Rattle.flash.specs.Stores.{put-erased}
 use Rattle.descriptors.specs.Described.{areaOf, described, described-step, described-end}
 use Rattle.descriptors.specs.Good.{Good, Fits, fits-at}
 
@@ -34,24 +35,13 @@ lent-kept e l = record { small = rw e (l .small); few = l .few; good = rw e (l .
 
 -- ---- one area
 
-pub drop-erased : (k n : ℕ) → drop k (erased n) ≡ erased (n - k)
-drop-erased zero n = rw (sub-zero n)
-drop-erased (suc k) zero = rw (zero-sub (suc k))
-drop-erased (suc k) (suc n) = rw (suc-sub-suc n k) (drop-erased k n)
-
-over-erased : (b : Bytes) (n : ℕ) → put (erased n) 0 b ≡ b ++ erased (n - length b)
-unfolding put
-over-erased b n = rw (zero-add (length b), drop-erased (length b) n)
-
 -- a header written over erased bytes
 pub headed : (x : Bytes) (o n count id : ℕ) → o + n ≤ length x → areaHeaderSize ≤ n
     → put (put x o (erased n)) o (areaHeader n count id) ≡ put x o (emptyArea n count id)
 unfolding emptyArea
 headed x o n count id h g =
     let k = header-size n count id in
-    let e = length-replicate n ERASED in
-    rw (add-zero) at (put-within x o (erased n) 0 (areaHeader n count id) (omega arith) (omega arith))
-    ∙ ap (put x o) (over-erased (areaHeader n count id) n ∙ rw k)
+    put-erased x o n (areaHeader n count id) h (omega arith) ∙ rw k
 
 -- ---- the longest
 

@@ -1,6 +1,6 @@
 -- Free space as two lists of numbers, and where a record goes. Document 01, "Create, append, unlink".
 use Prim.Native.Nat.{ℕ, _+_, _≤_, _<_}
-use mathlib.Core.Path.{_≡_, refl, sym, ap, subst}
+use mathlib.Core.Path.{_≡_, refl, ap, subst}
 use mathlib.Core.Bool.{Bool, true, false, cond}
 use mathlib.Core.Option.{Option, none, some}
 use mathlib.Core.List.{List, [], _∷_, _++_}
@@ -11,6 +11,7 @@ use lib.Seq.{take-suc-set}
 use lib.Dec.{leb}
 use borrow.Author.Tests.{leb-true}
 use Rattle.calls.specs.Storing.{Space, Fit, keepSpace, firstFit}
+use Rattle.calls_laws.specs.Storing.{kept-fit}
 use Rattle.free_space.specs.declared.Place.{Place}
 use Rattle.free_space.specs.declared.Place.the-variants.{At, Nowhere}
 
@@ -48,13 +49,6 @@ EndsAt n m Nowhere = Unit {0}
 abbrev pub Within : ℕ → List Space → Type 0
 Within m [] = Unit {0}
 Within m (s ∷ ss) = (s .end ≤ m) × Within m ss
-
-kept-fit : (s : Space) (o : Option Fit) (f : Fit) → keepSpace s o ≡ some f
-    → (g : Fit) × (o ≡ some g) × (f .place ≡ g .place) × (f .left ≡ s ∷ g .left)
-kept-fit s none f e = let z : _≡_ {A = ℕ} 0 1 = cc in absurd (omega arith)
-kept-fit s (some g) f e =
-    let q : _≡_ {A = Fit} (record { place = g .place; left = s ∷ g .left }) f = cc in
-    (g, refl, (λ i. sym q i .place), (λ i. sym q i .left))
 
 -- what fits lies within what the spaces lie within, and so do the spaces left
 pub fit-within : (n m : ℕ) (ss : List Space) (f : Fit) → firstFit n ss ≡ some f → Within m ss → (f .place + n ≤ m) × Within m (f .left)

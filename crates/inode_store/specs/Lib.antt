@@ -1,3 +1,3 @@
--- One inode stored, and what the mounted inodes tell.
+-- One inode stored where it first fits, and an inode rewritten.
 pub mod Stored
-pub mod Mounted
+pub mod Rewriting

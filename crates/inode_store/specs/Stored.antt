@@ -7,19 +7,12 @@ use mathlib.Core.List.{List, [], _∷_}
 use native.Mathlib.Omega.{arith}
 use lib.ListN.{length}
 use Rattle.format.specs.Bytes.{Bytes}
-use Rattle.calls.specs.Areas.{mostAreas}
 use Rattle.calls.specs.Image.{put}
 use Rattle.calls.specs.Storing.{Space, Store, firstFit, placeAll, storeAll, noPlace, storedOr}
-use Rattle.calls.specs.Storing.{Fit as Fitting}
-use Rattle.listing.specs.Listing.{Fit}
+use Rattle.calls.specs.Storing.{Fit}
 use Rattle.free_space.specs.Spaces.{placeOf, placeIn, EndsAt}
 use Rattle.free_space.specs.declared.Place.{Place}
 use Rattle.free_space.specs.declared.Place.the-variants.{At, Nowhere}
-
--- the file areas of a mounted volume: they lie in the image, and are no more than a list may describe
-pub record Areas (image : Bytes) (starts spans : List ℕ) : Type 0 where
-  pub fit : Fit image starts spans
-  pub few : length starts ≤ mostAreas
 
 -- 15 where there is no place
 abbrev pub placeNumber : Option (List Store) → ℕ
@@ -30,13 +23,13 @@ inside-at n m r p h e = rw e at h
 
 -- what `place_one` told of one record b
 module _ (image : Bytes) (ss : List Space) (b : Bytes) (r : Place) (n : ℕ) (e : placeOf r ≡ placeIn (firstFit n ss)) (l : n ≡ length b) where
-  fits-at : (o : Option Fitting) → firstFit (length b) ss ≡ o → (p : ℕ) → some p ≡ placeIn o
+  fits-at : (o : Option Fit) → firstFit (length b) ss ≡ o → (p : ℕ) → some p ≡ placeIn o
       → placeAll ss (b ∷ []) ≡ some (record { place = p; bytes = b } ∷ [])
   unfolding placeAll
   fits-at none q p s = let z : _≡_ {A = ℕ} 0 1 = cc in absurd (omega arith)
   fits-at (some f) q p s = let t : p ≡ f .place = cc in rw (q, t)
 
-  fits-nowhere : (o : Option Fitting) → firstFit (length b) ss ≡ o → none ≡ placeIn o → placeAll ss (b ∷ []) ≡ none
+  fits-nowhere : (o : Option Fit) → firstFit (length b) ss ≡ o → none ≡ placeIn o → placeAll ss (b ∷ []) ≡ none
   unfolding placeAll
   fits-nowhere none q s = rw q
   fits-nowhere (some f) q s = let z : _≡_ {A = ℕ} 0 1 = cc in absurd (omega arith)

@@ -14,6 +14,7 @@ use Rattle.format_laws.specs.Reading.{records-lawful}
 use Rattle.format_laws.specs.Taken.{Taken, records-from, from-each}
 use Rattle.volume.specs.View.{byBytes}
 use Rattle.volume.specs.Counting.{Volume, volumeOf}
+use Rattle.volume_laws.specs.Lists.{map-append}
 use Rattle.volume_laws.specs.Map.{overVolume, volumeOf-map}
 use Rattle.place_view.specs.Place.{bytesAt, byPlace, Lies}
 use Rattle.place_view.specs.Laws.{place-views, bytes-taken, lies-taken}
@@ -44,10 +45,6 @@ unfolding starts
 starts-bytes image d [] h = refl
 starts-bytes image d (r ∷ l) h =
     ap₂ (λ (b : Bytes) (bs : List Bytes). b ∷ bs) (h r (List·Memᴰ·head refl)) (starts-bytes image d l (λ s n. h s (List·Memᴰ·tail n)))
-
-map-append : {A B : Type 0} (f : A → B) (l m : List A) → map f (l ++ m) ≡ map f l ++ map f m
-map-append f [] m = refl
-map-append f (a ∷ l) m = ap (λ x. f a ∷ x) (map-append f l m)
 
 pub places-bytes : (image : Bytes) (fs : List Descriptor) → map (bytesAt image) (placesIn image fs) ≡ recordsIn image fs
 unfolding placesIn recordsIn

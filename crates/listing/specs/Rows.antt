@@ -8,7 +8,7 @@ use native.Mathlib.Decide.{ℕ-discrete}
 use lib.ListN.{length, take, drop, getD, set, length-take, length-set}
 use lib.Seq.{getD-take, getD-drop, take-set-le, getD-set-same, getD-set-other}
 use Rattle.format.specs.Bytes.{Bytes}
-use Rattle.calls.specs.Areas.{mostAreas}
+use Rattle.calls.specs.Areas.{mostAreas, largestImage}
 use Rattle.table.specs.Parts.{part}
 use Rattle.listing.specs.Reading.{readingOf}
 use Rattle.listing.specs.Listing.{Room, Listed, Files}
@@ -38,6 +38,12 @@ areaAt image rows i = take (getD rows (spansAt + i) 0) (drop (getD rows i 0) ima
 abbrev pub readingAt : List ℕ → ℕ → Reading
 readingAt rows i = record { stretches = getD rows (stretchesAt + i) 0; skipped = getD rows (skippedAt + i) 0; free = getD rows (freeAt + i) 0 }
 
+-- what a row tells of a reading is no more than an image holds
+pub record Small (rows : List ℕ) (i : ℕ) : Type 0 where
+  pub stretches : getD rows (stretchesAt + i) 0 ≤ largestImage
+  pub skipped : getD rows (skippedAt + i) 0 ≤ largestImage
+  pub free : getD rows (freeAt + i) 0 ≤ largestImage
+
 -- what is lent
 pub record Lent (image : Bytes) (rows : List ℕ) (files : ℕ) (places : List ℕ) : Type 0 where
   pub long : areaRows ≤ length rows
@@ -48,6 +54,7 @@ pub record Lent (image : Bytes) (rows : List ℕ) (files : ℕ) (places : List �
 pub record Readings (image : Bytes) (n : ℕ) (rows rows′ : List ℕ) : Type 0 where
   pub areas : take stretchesAt rows′ ≡ take stretchesAt rows
   pub read : (i : ℕ) → i < n → readingAt rows′ i ≡ readingOf (areaAt image rows i)
+  pub small : (i : ℕ) → i < n → Small rows′ i
 
 pub record Going (image : Bytes) (rows₀ : List ℕ) (files : ℕ) (ps₀ rows ps : List ℕ) (k i : ℕ) : Type 0 where
   pub through : Through image (part 0 files rows₀) (part spansAt files rows₀) ps₀ ps k i
@@ -58,7 +65,7 @@ pub going-begins : (image : Bytes) (rows : List ℕ) (files : ℕ) (ps : List �
 going-begins image rows files ps = record {
   through = through-begins image (part 0 files rows) (part spansAt files rows) ps;
   long = refl;
-  readings = record { areas = refl; read = λ i h. absurd (omega arith) };
+  readings = record { areas = refl; read = λ i h. absurd (omega arith); small = λ i h. absurd (omega arith) };
 }
 
 -- a reading stored in its row
@@ -142,13 +149,15 @@ module _ (image : Bytes) (rows₀ : List ℕ) (files : ℕ) (ps₀ rows ps : Lis
   pub going-on : (ps′ : List ℕ) (r : ℕ) (x : Reading) → length ps′ ≡ length ps
       → Listed (take (getD rows (spansAt + i) 0) (drop (getD rows i 0) image)) (getD rows i 0) ps k r ps′
       → x ≡ readingOf (take (getD rows (spansAt + i) 0) (drop (getD rows i 0) image))
+      → x .stretches ≤ largestImage → x .skipped ≤ largestImage → x .free ≤ largestImage
       → Going image rows₀ files ps₀ (stored rows i (x .stretches) (x .skipped) (x .free)) ps′ r (i + 1)
-  going-on ps′ r x l listed read = record {
+  going-on ps′ r x l listed read sa sb sc = record {
     through = through-on image (part 0 files rows₀) (part spansAt files rows₀) ps₀ ps k i (lent .files-are) (g .through) inner ps′ r l (rw (← start-is, ← span-is) at listed);
     long = stored-long rows i (x .stretches) (x .skipped) (x .free) few rows-long ∙ g .long;
     readings = record {
       areas = stored-areas rows i (x .stretches) (x .skipped) (x .free) few rows-long ∙ g .readings .areas;
       read = λ j b. each j b (ℕ-discrete j i);
+      small = λ j b. fits j b (ℕ-discrete j i);
     };
   }
     where
@@ -161,3 +170,18 @@ module _ (image : Bytes) (rows₀ : List ℕ) (files : ℕ) (ps₀ rows ps : Lis
       each : (j : ℕ) → j < i + 1 → Dec (j ≡ i) → readingAt (stored rows i (x .stretches) (x .skipped) (x .free)) j ≡ readingOf (areaAt image rows₀ j)
       each j b (yes e) = rw e (stored-here rows i (x .stretches) (x .skipped) (x .free) few rows-long ∙ read ∙ ap readingOf same-area)
       each j b (no e) = stored-other rows i (x .stretches) (x .skipped) (x .free) few rows-long j (omega arith) ∙ g .readings .read j (omega arith)
+
+      fits : (j : ℕ) → j < i + 1 → Dec (j ≡ i) → Small (stored rows i (x .stretches) (x .skipped) (x .free)) j
+      fits j b (yes e) = rw e (record {
+        stretches = omega (arith, sa, is-stretches rows i (x .stretches) (x .skipped) (x .free) few rows-long);
+        skipped = omega (arith, sb, is-skipped rows i (x .stretches) (x .skipped) (x .free) few rows-long);
+        free = omega (arith, sc, is-free rows i (x .stretches) (x .skipped) (x .free) few rows-long);
+      })
+      fits j b (no e) =
+          let s = g .readings .small j (omega arith) in
+          let y = stored-other rows i (x .stretches) (x .skipped) (x .free) few rows-long j (omega arith) in
+          record {
+            stretches = omega (arith, s .stretches, ap (λ (z : Reading). z .stretches) y);
+            skipped = omega (arith, s .skipped, ap (λ (z : Reading). z .skipped) y);
+            free = omega (arith, s .free, ap (λ (z : Reading). z .free) y);
+          }

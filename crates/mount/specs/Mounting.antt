@@ -24,7 +24,7 @@ use Rattle.area_kinds.specs.Places.{AreasPass, checked-pass, files-lie}
 use Rattle.area_kinds.specs.declared.Areas.{Areas}
 use Rattle.listing.specs.Listing.{placesIn, Fit}
 use Rattle.listing.specs.Reading.{readingOf}
-use Rattle.listing.specs.Rows.{spansAt, stretchesAt, skippedAt, freeAt, areaRows, areaAt, readingAt, Readings}
+use Rattle.listing.specs.Rows.{spansAt, stretchesAt, skippedAt, freeAt, areaRows, areaAt, readingAt, Readings, Small}
 use Rattle.listing.specs.Rows.{Lent as PassLent}
 use Rattle.listing.specs.Bridge.{placedVolume, places-bytes, places-lie}
 use Rattle.mounted.specs.State.{tablesSize, inodeIdsAt, inodeSpotsAt, blockIdsAt, blockSpotsAt, Mounts, refusedMount}
@@ -147,6 +147,16 @@ module _ (image : Bytes) (ds : List Descriptor) (a : Areas) (t : List ℕ) (long
               ∙ read .read i h
               ∙ ap readingOf (ap₂ (λ (x o : ℕ). take x (drop o image)) (sym (at-area (spansAt + i) (omega arith))) (sym (at-area i (omega arith))))
 
+          smalls : (i : ℕ) → i < a .files → Small full i
+          smalls i h =
+              let w : i < mostAreas = omega (arith, split .few) in
+              let s = read .small i h in
+              record {
+                stretches = omega (arith, s .stretches, at-row (stretchesAt + i) (omega arith));
+                skipped = omega (arith, s .skipped, at-row (skippedAt + i) (omega arith));
+                free = omega (arith, s .free, at-row (freeAt + i) (omega arith));
+              }
+
           is-volume : volumeOf (byPlace image) (take n ps) ≡ placedVolume image ds
           is-volume = ap (volumeOf (byPlace image)) listed
 
@@ -179,6 +189,7 @@ module _ (image : Bytes) (ds : List Descriptor) (a : Areas) (t : List ℕ) (long
               inodes-few = rowed .inodes-few;
               blocks-few = rowed .blocks-few;
               fit = both (Fit image) starts-still spans-still fits;
+              readings = smalls;
               inodes = both (InodeTable image) inode-ids inode-spots (rowed .inodes);
               blocks = both (BlockTable image) block-ids block-spots (rowed .blocks);
             };

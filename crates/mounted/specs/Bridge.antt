@@ -1,12 +1,13 @@
 -- What the tables of a mounted volume tell of the volume that the calls speak of: places for bytes, and parts for slices.
 use Prim.Native.Nat.{ℕ, _+_, _-_, _≤_}
-use mathlib.Core.Path.{_≡_, sym, ap₂, _∙_}
+use mathlib.Core.Path.{_≡_, sym, ap, ap₂, _∙_}
 use mathlib.Core.List.{List}
 use native.Mathlib.Omega.{arith}
 use lib.ListN.{length, take, drop, length-take}
 use Rattle.format.specs.Bytes.{Bytes}
 use Rattle.volume.specs.View.{byBytes}
-use Rattle.volume.specs.Counting.{inodeOf, inodeIds}
+use Rattle.volume.specs.Counting.{inodeOf}
+use Rattle.volume.specs.Counting.{inodeIds as inodesSeen}
 use Rattle.volume.specs.Tree.{children, lookupNames}
 use Rattle.volume_laws.specs.Map.{over, lookupNames-map, children-map, inodeOf-map, inodeIds-map}
 use Rattle.place_view.specs.Place.{byPlace, bytesAt}
@@ -18,9 +19,10 @@ use Rattle.descriptors.specs.Described.{described}
 use Rattle.listing.specs.Listing.{Fit}
 use Rattle.listing.specs.Bridge.{placedVolume, volume-places}
 use Rattle.listing.specs.Rows.{spansAt}
-use Rattle.table.specs.Parts.{lent, lent-front, both}
+use Rattle.table.specs.Parts.{part-long, lent, lent-front, both}
+use Rattle.table.specs.Laws.{rows-number}
 use Rattle.table.specs.Rows.{InodeTable, BlockTable, RowsOf}
-use Rattle.mounted.specs.State.{inodeIdsAt, inodeSpotsAt, blockIdsAt, blockSpotsAt, Safe, Holds}
+use Rattle.mounted.specs.State.{inodeIds, inodeSpots, inodeIdsAt, inodeSpotsAt, blockIdsAt, blockSpotsAt, Safe, Holds}
 use Rattle.mounted.specs.declared.Mounted.{Mounted}
 
 -- the volume of the calls, by the places of its records
@@ -34,7 +36,7 @@ module _ (image : Bytes) (ds : List Descriptor) where
   pub inode-is : (i : ℕ) → inodeOf byBytes (volume image ds) i ≡ over (bytesAt image) (inodeOf (byPlace image) (placedVolume image ds) i)
   inode-is i = rw (volume-places image ds) (inodeOf-map (byPlace image) byBytes (bytesAt image) (place-views image) (placedVolume image ds) i)
 
-  pub ids-are : inodeIds (byPlace image) (placedVolume image ds) ≡ inodeIds byBytes (volume image ds)
+  pub ids-are : inodesSeen (byPlace image) (placedVolume image ds) ≡ inodesSeen byBytes (volume image ds)
   ids-are = sym (rw (volume-places image ds) (inodeIds-map (byPlace image) byBytes (bytesAt image) (place-views image) (placedVolume image ds)))
 
 -- ---- the parts, as the checker states what `&tables[a..a + n]` lends
@@ -66,3 +68,15 @@ module _ {image : Bytes} {ds : List Descriptor} {m : Mounted} {t : List ℕ} (h 
 
   pub files-lent : described (take (m .files - 0) t) (take (spansAt + m .files - spansAt) (drop spansAt t)) ≡ fileAreas image ds
   files-lent = ap₂ described (lent-front (m .files) t) (lent spansAt (m .files) t) ∙ h .files
+
+-- ---- how many inodes and blocks there are
+
+module _ {image : Bytes} {ds : List Descriptor} {m : Mounted} {t : List ℕ} (s : Safe image m t) (h : Holds image ds m t) where
+  pub inode-rows-long : length (inodeIds m t) ≡ m .inodes
+  inode-rows-long = part-long inodeIdsAt (m .inodes) t (omega (arith, s .inodes-few, s .long))
+
+  pub inodes-number : m .inodes ≡ length (inodesSeen byBytes (volume image ds))
+  inodes-number =
+      sym inode-rows-long
+      ∙ rows-number (byPlace image) (placedVolume image ds .inodes) (length (inodeIds m t)) (inodeIds m t) (inodeSpots m t) (h .inodes) (omega arith)
+      ∙ ap length (ids-are image ds)

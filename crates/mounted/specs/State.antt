@@ -11,7 +11,7 @@ use Rattle.calls.specs.Areas.{mostAreas, fileAreas, scratchAreas}
 use Rattle.calls.specs.Mount.{mostInodes, mostBlocks, mostRecords, mountNumber}
 use Rattle.calls.specs.declared.Descriptor.{Descriptor}
 use Rattle.listing.specs.Reading.{readingOf}
-use Rattle.listing.specs.Rows.{spansAt, areaRows, areaAt, readingAt}
+use Rattle.listing.specs.Rows.{spansAt, areaRows, areaAt, readingAt, Small}
 use Rattle.descriptors.specs.Described.{described}
 use Rattle.listing.specs.Listing.{placesIn, Fit}
 use Rattle.listing.specs.Bridge.{placedVolume}
@@ -66,6 +66,7 @@ pub record Safe (image : Bytes) (m : Mounted) (tables : List ℕ) : Type 0 where
   pub inodes-few : m .inodes ≤ mostInodes
   pub blocks-few : m .blocks ≤ mostBlocks
   pub fit : Fit image (starts m tables) (spans m tables)
+  pub readings : (i : ℕ) → i < m .files → Small tables i
   pub inodes : InodeTable image (inodeIds m tables) (inodeSpots m tables)
   pub blocks : BlockTable image (blockIds m tables) (blockSpots m tables)
 

@@ -1,3 +1,3 @@
--- The damage of areas, and the report of a mounted volume.
-pub mod Damage
-pub mod Summary
+-- The report of a mounted volume, by its rows of areas and of inodes.
+pub mod Sums
+pub mod Counts

@@ -1,39 +1,35 @@
 // The report of a mounted volume: distinct inode ids, live ones, damage stretches and their bytes.
 ghost use mathlib.Core.Path.{_≡_};
-ghost use Prim.Native.Nat.{_≤_};
-ghost use Rattle.calls.specs.Report.{refusedReport};
-ghost use Rattle.table.specs.Table.{Good};
-ghost use Rattle.listing.specs.Listing.{Fit};
-ghost use Rattle.mounted_report.specs.Damage.{damageIn};
-ghost use Rattle.mounted_report.specs.Summary.{summary};
-use areas::read_area;
+ghost use mathlib.Core.List.{List};
+ghost use Prim.Native.Nat.{ℕ, _*_, _≤_, _<_};
+ghost use lib.ListN.{length, getD};
+ghost use Rattle.calls.specs.Areas.{mostAreas, largestImage};
+ghost use Rattle.calls.specs.Report.{refusedReport, reportOf};
+ghost use Rattle.calls.specs.declared.Descriptor.{Descriptor};
+ghost use Rattle.mounted.specs.State.{Safe, Holds};
+ghost use Rattle.mounted_report.specs.Sums.{sumOf, AllSmall};
 use calls::Report;
 use fate::live_count;
-use occupancy::taken;
+use listing::SKIPPED;
+use listing::STRETCHES;
+use mounted::INODE_IDS;
+use mounted::INODE_SPOTS;
+use mounted::Mounted;
 
-// The damage of some areas.
-pub struct Damage {
-    pub stretches: usize,
-    pub skipped: usize,
-}
-
-fn damage_in(image: &[u8], starts: &[u32], spans: &[u32]) -> Damage
-    requires { ⌜ Fit (now image) (now starts) (now spans) ⌝ }
-    ensures is { λ r. ⌜ r ≡ damageIn (now (image .entry)) (now (starts .entry)) (now (spans .entry)) ⌝ }
-    ensures within { λ r. ⌜ (r .stretches ≤ 65536) × (r .skipped ≤ 65536) ⌝ }
+// The sum of a column of the rows of areas.
+fn total(column: &[u32]) -> usize
+    requires { ⌜ length (now column) ≤ mostAreas ⌝ }
+    requires { ⌜ AllSmall (now column) ⌝ }
+    ensures is { λ r. ⌜ r ≡ sumOf (now (column .entry)) ⌝ }
+    ensures within { λ r. ⌜ r ≤ mostAreas * largestImage ⌝ }
 {
-    let mut stretches = 0;
-    let mut skipped = 0;
+    let mut sum = 0;
     let mut i = 0;
-    while i < starts.len() {
-        let start = starts[i] as usize;
-        let end = start + spans[i] as usize;
-        let reading = read_area(&image[start..end]);
-        stretches += reading.stretches;
-        skipped += reading.skipped;
+    while i < column.len() {
+        sum += column[i] as usize;
         i += 1;
     }
-    Damage { stretches, skipped }
+    sum
 }
 
 // A refused report.
@@ -49,27 +45,27 @@ pub fn refused_report(number: u32) -> Report
     }
 }
 
-// The report of a mounted volume.
-pub fn report_mounted(
-    image: &[u8],
-    starts: &[u32],
-    spans: &[u32],
-    words: &[u64],
-    ids: &[u32],
-    spots: &[u32],
-) -> Report
-    requires { ⌜ Fit (now image) (now starts) (now spans) ⌝ }
-    requires { ⌜ Good (now image) (now words) (now ids) (now spots) ⌝ }
-    ensures { λ r. ⌜ r ≡ summary (now (image .entry)) (now (starts .entry)) (now (spans .entry)) (now (words .entry)) (now (ids .entry)) (now (spots .entry)) ⌝ }
+// The report, by the rows of areas and of inodes: no area is read again.
+pub fn report_mounted(image: &[u8], tables: &[u32], m: Mounted) -> Report
+    requires { ⌜ Safe (now image) m (now tables) ⌝ }
+    ensures { λ r. ⌜ ((ds : List Descriptor) → Holds (now (image .entry)) ds m (now (tables .entry)) → r ≡ reportOf (now (image .entry)) ds) ⌝ }
 {
-    let inodes = taken(words);
-    let live = live_count(image, words, ids, spots);
-    let damage = damage_in(image, starts, spans);
+    let ids_end = INODE_IDS + m.inodes;
+    let spots_end = INODE_SPOTS + m.inodes;
+    let live = live_count(
+        image,
+        &tables[INODE_IDS..ids_end],
+        &tables[INODE_SPOTS..spots_end],
+    );
+    let stretches_end = STRETCHES + m.files;
+    let skipped_end = SKIPPED + m.files;
+    let stretches = total(&tables[STRETCHES..stretches_end]);
+    let skipped = total(&tables[SKIPPED..skipped_end]);
     Report {
         number: 0,
-        inodes: inodes as u32,
+        inodes: m.inodes as u32,
         live: live as u32,
-        stretches: damage.stretches as u32,
-        skipped: damage.skipped as u32,
+        stretches: stretches as u32,
+        skipped: skipped as u32,
     }
 }

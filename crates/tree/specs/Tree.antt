@@ -22,7 +22,7 @@ use Rattle.paths.specs.Walking.{names-none, names-some}
 use Rattle.calls.specs.Mount.{volume, mountNumber}
 use Rattle.calls.specs.Lookup.{resolve}
 use Rattle.calls.specs.Create.{isRoot}
-use Rattle.calls.specs.Unlink.{sequenceOf}
+use Rattle.calls.specs.Rewrite.{sequenceOf}
 use Rattle.calls.specs.declared.Descriptor.{Descriptor}
 use Rattle.listing.specs.Bridge.{placedVolume}
 use Rattle.table.specs.Rows.{InodeTable, RowsOf, found-in}

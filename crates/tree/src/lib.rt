@@ -9,19 +9,25 @@ ghost use Rattle.volume.specs.Path.{goodPath, pathNames};
 ghost use Rattle.volume.specs.Tree.{lookupNames};
 ghost use Rattle.calls.specs.Mount.{volume};
 ghost use Rattle.calls.specs.Lookup.{resolve};
-ghost use Rattle.calls.specs.Create.{lastName, namesBefore};
-ghost use Rattle.calls.specs.Unlink.{sequenceOf};
+ghost use Rattle.calls.specs.Refusal.{firstRefusal};
+ghost use Rattle.calls.specs.Create.{lastName, namesBefore, nameChecks};
+ghost use Rattle.calls.specs.Rewrite.{sequenceOf};
 ghost use Rattle.calls.specs.declared.Descriptor.{Descriptor};
 ghost use Rattle.place_view.specs.Place.{byPlace};
 ghost use Rattle.paths.specs.Names.{anyNames};
 ghost use Rattle.table.specs.Rows.{InodeTable};
-ghost use Rattle.lookup.specs.Found.{InodesOf, meaning, Kinded};
+ghost use Rattle.lookup.specs.Found.{InodesOf, onlyOf, meaning, Kinded};
 ghost use Rattle.mounted.specs.State.{Safe, Holds};
 ghost use Rattle.tree.specs.Tree.{belowRoot};
 ghost use Rattle.tree.specs.Parent.{ShortName, parentOf, Below};
+ghost use Rattle.tree.specs.NewName.{anyOf};
 use calls::BAD_PATH;
+use calls::EXISTS;
+use calls::WRONG_KIND;
+use lookup::Child;
 use lookup::Found;
 use lookup::enter;
+use lookup::find_child;
 use lookup::resolve;
 use mounted::INODE_IDS;
 use mounted::INODE_SPOTS;
@@ -186,4 +192,38 @@ pub fn find_parent<'a>(
         base,
         path,
     )
+}
+
+// Whether a child was found, once or oftener.
+fn any_child(child: Child) -> bool
+    ensures { λ r. ⌜ r ≡ anyOf (onlyOf child) ⌝ }
+{
+    match child {
+        Child::Nobody => false,
+        Child::Several => true,
+        Child::One(_) => true,
+    }
+}
+
+// The number of refusal of a new name below an inode: it is a file, or the name is there.
+pub fn name_refusal(image: &[u8], tables: &[u32], m: Mounted, directory: u32, name: &[u8]) -> u32
+    requires { ⌜ Safe (now image) m (now tables) ⌝ }
+    ensures { λ r. ⌜ ((ds : List Descriptor) → Holds (now (image .entry)) ds m (now (tables .entry)) → r ≡ firstRefusal (nameChecks (volume (now (image .entry)) ds) directory (now (name .entry)))) ⌝ }
+{
+    if is_directory_id(directory) {} else {
+        return WRONG_KIND;
+    }
+    let ids_end = INODE_IDS + m.inodes;
+    let spots_end = INODE_SPOTS + m.inodes;
+    let child = find_child(
+        image,
+        &tables[INODE_IDS..ids_end],
+        &tables[INODE_SPOTS..spots_end],
+        directory,
+        name,
+    );
+    if any_child(child) {
+        return EXISTS;
+    }
+    0
 }

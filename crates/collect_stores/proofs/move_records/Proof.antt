@@ -14,11 +14,11 @@ returns c =
     let n = f .before .before in
     let k = n .before in
     let s = k .before .before .before .before .before in
-    stores-move (s .args .image .now) (s .args .scratch) _ (s .args .places .now) _ _ _ _
-    (id-byte (s .args .image .now) (s .args .offset) (s .args .span) (s .pre .header))
-    (n .next-count .ensures ∙ ap nextCount (k .count-at .ensures .is (s .args .span) (s .pre .header)))
+    stores-move (s .args .image .now) (s .args .scratch) _ (s .args .places .now) (s .pre) _ _ _ _
     (f .fill-scratch .ensures)
     (w .write-area .ensures)
+    (id-byte (s .args .image .now) (s .args .offset) (s .args .span) (s .pre .header))
+    (n .next-count .ensures ∙ ap nextCount (k .count-at .ensures .is (s .args .span) (s .pre .header)))
 
 pub move-records-spec : {M : Type 1} → statement M
 move-records-spec =

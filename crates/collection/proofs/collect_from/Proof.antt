@@ -1,8 +1,12 @@
 -- `collection::collect_from` meets its contract.
-use mathlib.Core.Path.{refl}
+use Prim.Native.Nat.{ℕ}
+use mathlib.Core.Path.{refl, sym, subst}
+use mathlib.Core.List.{List}
 use native.Mathlib.Omega.{arith}
 use lib.ListN.{length-take}
 use borrow.Author.Needs.{needs}
+use Rattle.descriptors.specs.Described.{areaOf}
+use Rattle.collect_stores.specs.Moved.{Removable}
 use Rattle.collection.proofs.collect_from.Statement.{statement}
 use Rattle.collection.proofs.collect_from.Tie as tie
 
@@ -19,7 +23,11 @@ slice-aggregate-move-records c =
     omega (arith, k .list-copies .ensures .0, length-take (k .list-copies .result) (k .list-copies .last .1 .1 .1 .1 .1 .1 .1 .1 .1 .1 .0), k .list-copies .kept .1 .1 .1 .1 .1 .1 .1 .1 .1 .1 .0)
 
 move-records-requires : tie.Need-move-records-requires
-move-records-requires c κs = let k = c .before .before .before in rw (k .list-copies .ensures .1) (start k .pre .moves)
+move-records-requires c κs =
+    let k = c .before .before .before in
+    let s = start k in
+    subst (λ (ps : List ℕ). Removable (s .args .image .now) (s .args .scratch) (areaOf (s .args .offset) (s .args .span)) ps) (sym (k .list-copies .ensures .1))
+    (s .pre .moves)
 
 returns : tie.Need-returns
 returns c =

@@ -24,7 +24,7 @@ collect-from-requires : tie.Need-collect-from-requires
 collect-from-requires c κs =
     let t = c .before .before .before in
     let k = t .before in
-    start k .pre .each (k .choose-source .result) (t .if1 .taken)
+    start k .pre .each (k .choose-source .result) (omega (arith, t .if1 .taken))
 
 returns : tie.Need-returns
 returns c =
@@ -33,10 +33,10 @@ returns c =
     let k = t .before in
     let s = start k in (
       number-found (s .args .image .now) (s .args .scratch) (s .args .starts .now) (s .args .spans .now) (s .args .places .now) (lent s) (k .choose-source .result)
-          (k .choose-source .ensures) (t .if1 .taken),
+          (k .choose-source .ensures) (omega (arith, t .if1 .taken)),
       w .collect-from .ensures
           ∙ image-found (s .args .image .now) (s .args .scratch) (s .args .starts .now) (s .args .spans .now) (s .args .places .now) (lent s) (k .choose-source .result)
-          (k .choose-source .ensures) (t .if1 .taken),
+          (k .choose-source .ensures) (omega (arith, t .if1 .taken)),
     )
 
 returns-2 : tie.Need-returns-2
@@ -44,9 +44,9 @@ returns-2 c =
     let k = c .before in
     let s = start k in (
       number-none (s .args .image .now) (s .args .scratch) (s .args .starts .now) (s .args .spans .now) (s .args .places .now) (lent s) (k .choose-source .result)
-          (k .choose-source .ensures) (c .if1 .left),
+          (k .choose-source .ensures) (omega (arith, c .if1 .left)),
       image-none (s .args .image .now) (s .args .scratch) (s .args .starts .now) (s .args .spans .now) (s .args .places .now) (lent s) (k .choose-source .result)
-          (k .choose-source .ensures) (c .if1 .left),
+          (k .choose-source .ensures) (omega (arith, c .if1 .left)),
     )
 
 pub collect-mounted-spec : {M : Type 1} → statement M

@@ -8,7 +8,7 @@ use Rattle.dose_table.proofs.read_on.Tie as tie
 
 slice-aggregate-write-all : tie.Need-slice-aggregate-write-all
 slice-aggregate-write-all c =
-    let r = c .before .before .before .before .before .read-value in
+    let r = c .before .before .before .before .before .read-of in
     sym (length-take-le (r .result .answer .given) (r .last .1 .1 .1 .0) (omega (arith, r .kept .1 .1 .1 .0, c .before .if1 .taken)))
 
 pub read-on-spec : {M : Type 1} → statement M

@@ -1,6 +1,5 @@
 -- `inode_store::store_inode` meets its contract.
 use mathlib.Core.Path.{sym}
-use native.Mathlib.Omega.{arith}
 use borrow.Author.Needs.{needs}
 use Rattle.format_laws.specs.Encoding.{inode-size}
 use Rattle.inode_store.specs.Stored.{inside-at, stored-at, stored-nowhere}
@@ -9,18 +8,13 @@ use Rattle.inode_store.proofs.store_inode.Tie as tie
 
 -- the arguments, from where the place was found
 abbrev start : tie.After-place-one → tie.Start
-start k = k .before .before .before .before .before .before
-
-place-one-requires : tie.Need-place-one-requires
-place-one-requires c κs =
-    let s = c .before .before .before .before .before in
-    (s .pre .0 .fit, (s .pre .0 .few, omega (arith, s .pre .1 .1)))
+start k = k .before .before .before .before .before
 
 returns : tie.Need-returns
 returns c =
     let k = c .before .before in
     let s = start k in
-    stored-nowhere (s .args .image .now) _ _ (k .place-one .result) _ (k .place-one .ensures .0) (sym (inode-size _ _ _ _)) (c .enum-told .given .1)
+    λ ds h. stored-nowhere (s .args .image .now) _ _ (k .place-one .result) _ (k .place-one .ensures .0 ds h) (sym (inode-size _ _ _ _)) (c .enum-told .given .1)
 
 write-inode-requires : tie.Need-write-inode-requires
 write-inode-requires c κs =
@@ -35,7 +29,7 @@ returns-2 c =
     let p = w .before .before .before in
     let k = p .before .before in
     let s = start k in
-    stored-at (s .args .image .now) _ _ (k .place-one .result) _ (k .place-one .ensures .0) (sym (inode-size _ _ _ _)) (p .place .given .0 .0) (p .place .given .1)
+    λ ds h. stored-at (s .args .image .now) _ _ (k .place-one .result) _ (k .place-one .ensures .0 ds h) (sym (inode-size _ _ _ _)) (p .place .given .0 .0) (p .place .given .1)
     _ (w .write-inode .ensures)
 
 pub store-inode-spec : {M : Type 1} → statement M
@@ -43,7 +37,7 @@ store-inode-spec =
     tie.close
     (tie.spec
     (λ c. search needs)
-    place-one-requires
+    (λ c κs. search needs)
     (λ c. search needs)
     (λ c. search needs)
     (λ c. search needs)

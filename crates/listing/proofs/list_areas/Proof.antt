@@ -6,7 +6,7 @@ use native.Mathlib.Omega.{arith}
 use native.Mathlib.Nat.{add-sub-cancel-left}
 use borrow.Author.Needs.{needs}
 use lib.ListN.{length, take, drop, getD, set, length-set, length-take}
-use Rattle.calls.specs.Areas.{mostAreas}
+use Rattle.calls.specs.Areas.{mostAreas, largestImage}
 use Rattle.listing.specs.Areas.{through-ends}
 use Rattle.table.specs.Parts.{part}
 use Rattle.listing.specs.Rows.{areaRows, spansAt, stretchesAt, skippedAt, Going, going-begins, going-on, room, inside, small, rows-long}
@@ -28,7 +28,7 @@ record Turn (image rows : List ℕ) (i : ℕ) : Type 0 where
   few : i < mostAreas
   long : areaRows ≤ length rows
   lies : getD rows i 0 + getD rows (spansAt + i) 0 ≤ length image
-  size : length image ≤ 65536
+  size : length image ≤ largestImage
 
 turn : (c : tie.In-loop Inv-loop μ-loop) → Turn (start (c .before) .args .image .now) (c .before .loop .rows) (c .before .loop .i)
 turn c =
@@ -50,9 +50,9 @@ at-list k = k .before .before .before .before
 -- the numbers read fit, as the area does
 record Read (d : tie.After-list-area Inv-loop μ-loop) : Type 0 where
   turned : Turn (start (at-turn d .before) .args .image .now) (at-turn d .before .loop .rows) (at-turn d .before .loop .i)
-  stretches : d .list-area .result .reading .stretches ≤ 65536
-  skipped : d .list-area .result .reading .skipped ≤ 65536
-  free : d .list-area .result .reading .free ≤ 65536
+  stretches : d .list-area .result .reading .stretches ≤ largestImage
+  skipped : d .list-area .result .reading .skipped ≤ largestImage
+  free : d .list-area .result .reading .free ≤ largestImage
 
 read : (d : tie.After-list-area Inv-loop μ-loop) → Read d
 read d =
@@ -169,6 +169,7 @@ loop-again c =
     going-on _ _ _ _ (l .loop .rows) (l .loop .places) (l .loop .k) (l .loop .i) (start l .pre) (l .loop .inv) (n .loop-test .taken)
     (d .list-area .last .1 .1 .0) (d .list-area .result .count) (d .list-area .result .reading) (d .list-area .kept .1 .1 .0)
     (rw add-sub-cancel-left at (d .list-area .ensures .0)) (rw add-sub-cancel-left at (d .list-area .ensures .1 .0))
+    (read d .stretches) (read d .skipped) (read d .free)
 
 returns : tie.Need-returns Inv-loop μ-loop
 returns c =
