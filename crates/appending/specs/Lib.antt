@@ -1,4 +1,4 @@
--- Append by the tables of a mounted volume: what it finds lent, and what it answers and stores.
-pub mod Lent
+-- An append to a mounted volume.
+pub mod Last
+pub mod Written
 pub mod Outcome
-pub mod Mount

@@ -1,12 +1,12 @@
 -- The number of an append and the image after it. Document 01, "Create, append, unlink" and refusals 8 to 11, 13, 5 and 15.
-use Prim.Native.Nat.{ℕ, _+_, _-_, _/_, _≤_, _<_}
+use Prim.Native.Nat.{ℕ, _+_, _≤_, _<_}
 use mathlib.Core.Path.{_≡_, refl, sym, ap, _∙_}
 use mathlib.Core.Bool.{Bool, true, false, cond, not, _||_}
 use mathlib.Core.List.{List}
 use mathlib.Core.Option.{Option, none, some}
 use native.Mathlib.Omega.{arith}
 use lib.ListN.{length}
-use lib.Seq.{length-take-le}
+use lib.Seq.{take-length}
 use lib.Dec.{ltb}
 use borrow.Author.Tests.{lt-ltb, le-ltb, eq-eqb}
 use Rattle.format.specs.Bytes.{Bytes}
@@ -16,19 +16,20 @@ use Rattle.volume.specs.Counting.{blockIds}
 use Rattle.volume.specs.Contents.{lastBlock, fileBlocks}
 use Rattle.volume.specs.Path.{goodPath, pathNames}
 use Rattle.volume.specs.Tree.{Found, found, absent, lookupNames}
-use Rattle.volume_laws.specs.Map.{overVolume, blockIds-map, lastBlock-map, lookupNames-map}
+use Rattle.volume_laws.specs.Map.{overVolume, blockIds-map, lastBlock-map}
 use Rattle.place_view.specs.Place.{byPlace, bytesAt}
 use Rattle.place_view.specs.Laws.{place-views}
-use Rattle.table.specs.Table.{taken, Good}
-use Rattle.table.specs.Laws.{ids-room}
+use Rattle.table.specs.Parts.{part-long}
 use Rattle.calls.specs.Areas.{fileAreas}
 use Rattle.calls.specs.Refusal.{firstRefusal}
 use Rattle.calls.specs.Mount.{mostBlocks, volume, mountNumber}
 use Rattle.calls.specs.Storing.{Store, namedIds, spaces, placeAll, noPlace, storedOr}
+use Rattle.calls.specs.Lookup.{resolve}
 use Rattle.calls.specs.Append.{
   mostAppended,
   piecesOf,
   orNone,
+  blockRecords,
   newBlocks,
   isBroken,
   appendTo,
@@ -42,14 +43,17 @@ use Rattle.calls.specs.Append.{
   imageAppended,
 }
 use Rattle.calls.specs.declared.Descriptor.{Descriptor}
+use Rattle.listing.specs.Listing.{placesIn}
 use Rattle.listing.specs.Bridge.{placedVolume, volume-places}
-use Rattle.contents.specs.Blocks.{BlocksOf}
 use Rattle.lookup.specs.Found.{refusalOf}
-use Rattle.mounted_files.specs.Paths.{pathFound}
 use Rattle.unused_ids.specs.Window.{namedAt}
-use Rattle.pieces.specs.Cut.{pieces, pieces-count, shortest-described}
+use Rattle.pieces.specs.Cut.{pieces, shortest-described}
 use Rattle.pieces.specs.Plan.{records-count}
-use Rattle.appending.specs.Lent.{Areas, Under, sizeFor, size-bounds, lastUnlessBroken, none-broken, some-whole, blocksFor, Written}
+use Rattle.mounted.specs.State.{starts, spans, blockIdsAt, Safe, Holds}
+use Rattle.mounted.specs.State.{blockIds as blockIdsIn}
+use Rattle.mounted.specs.declared.Mounted.{Mounted}
+use Rattle.appending.specs.Last.{lastUnlessBroken, none-broken, some-whole}
+use Rattle.appending.specs.Written.{sizeFor, Written}
 
 module _ (image : Bytes) (ds : List Descriptor) (text : Bytes) where
   -- the number and the image of what becomes of an append
@@ -97,66 +101,63 @@ module _ (image : Bytes) (ds : List Descriptor) (text : Bytes) where
 
 -- ---- what the code found of it
 
-module _ {image : Bytes} {ds : List Descriptor} {starts spans records : List ℕ} (a : Areas image starts spans records) (u : Under image ds starts spans records)
-    (f : ℕ) (text : Bytes) where
+module _ {image : Bytes} {ds : List Descriptor} {m : Mounted} {t : List ℕ} (s : Safe image m t) (h : Holds image ds m t) (records : List ℕ)
+    (l : records ≡ placesIn image (fileAreas image ds)) (f : ℕ) (text : Bytes) (file : isDirectoryId f ≡ false) where
   by-bytes : volume image ds ≡ overVolume (bytesAt image) (placedVolume image ds)
   by-bytes = volume-places image ds
 
   names-are : namedIds (volume image ds) ≡ namedAt image records
-  names-are = rw (by-bytes, u .listed)
+  names-are = rw (by-bytes, l)
 
-  pieces-are : piecesOf (fileAreas image ds) text ≡ pieces (sizeFor spans) text
+  pieces-are : piecesOf (fileAreas image ds) text ≡ pieces (sizeFor m t) text
   unfolding piecesOf
-  pieces-are = rw (← u .files, ← shortest-described starts spans (a .fit .pairs))
+  pieces-are = rw (← h .files, ← shortest-described (starts m t) (spans m t) (s .fit .pairs))
 
-  module _ {words ids spots : List ℕ} (good : Good image words ids spots) (rows : BlocksOf image words ids spots (placedVolume image ds))
-      (file : isDirectoryId f ≡ false) where
-    blocks-are : length (blockIds byBytes (volume image ds)) ≡ taken words
-    blocks-are =
-        ap (λ v. length (blockIds byBytes v)) by-bytes
-        ∙ ap length (blockIds-map (byPlace image) byBytes (bytesAt image) (place-views image) (placedVolume image ds))
-        ∙ ap length (sym (rows .ids-are))
-        ∙ length-take-le (taken words) ids (ids-room (good .sized))
+  blocks-are : length (blockIds byBytes (volume image ds)) ≡ m .blocks
+  blocks-are =
+      ap (λ v. length (blockIds byBytes v)) by-bytes
+      ∙ ap length (blockIds-map (byPlace image) byBytes (bytesAt image) (place-views image) (placedVolume image ds))
+      ∙ ap length (sym (h .blocks .ids-are))
+      ∙ ap length (take-length (blockIdsIn m t))
+      ∙ part-long blockIdsAt (m .blocks) t (omega (arith, s .blocks-few, s .long))
 
-    -- it is broken
-    pub out-broken : none ≡ lastUnlessBroken image (placedVolume image ds) f → Outcome image ds text (appendWhere image ds text (found f)) 13 image
-    out-broken e = to-broken image ds text f file (rw by-bytes (none-broken image (placedVolume image ds) f e))
+  -- it is broken
+  pub out-broken : none ≡ lastUnlessBroken image (placedVolume image ds) f → Outcome image ds text (appendWhere image ds text (found f)) 13 image
+  out-broken e = to-broken image ds text f file (rw by-bytes (none-broken image (placedVolume image ds) f e))
 
-    -- it is not, and has this last block
-    module _ (last : ℕ) (e : some last ≡ lastUnlessBroken image (placedVolume image ds) f) where
-      whole : isBroken (fileBlocks byBytes (volume image ds) f) ≡ false
-      whole = rw by-bytes (some-whole image (placedVolume image ds) f last e .0)
+  -- it is not, and has this last block
+  module _ (last : ℕ) (e : some last ≡ lastUnlessBroken image (placedVolume image ds) f) where
+    whole : isBroken (fileBlocks byBytes (volume image ds) f) ≡ false
+    whole = rw by-bytes (some-whole image (placedVolume image ds) f last e .0)
 
-      last-is : orNone (lastBlock byBytes (volume image ds) f) ≡ last
-      last-is =
-          let l = lastBlock-map (byPlace image) byBytes (bytesAt image) (place-views image) (placedVolume image ds) f in
-          ap orNone (ap (λ v. lastBlock byBytes v f) by-bytes ∙ l ∙ some-whole image (placedVolume image ds) f last e .1)
+    last-is : orNone (lastBlock byBytes (volume image ds) f) ≡ last
+    last-is =
+        let k = lastBlock-map (byPlace image) byBytes (bytesAt image) (place-views image) (placedVolume image ds) f in
+        ap orNone (ap (λ v. lastBlock byBytes v f) by-bytes ∙ k ∙ some-whole image (placedVolume image ds) f last e .1)
 
-      new-are : newBlocks image ds f text ≡ blocksFor image records (sizeFor spans) f last text
-      unfolding newBlocks
-      new-are = rw (names-are, last-is, pieces-are)
+    new-are : newBlocks image ds f text ≡ blockRecords (namedAt image records) f last (pieces (sizeFor m t) text)
+    unfolding newBlocks
+    new-are = rw (names-are, last-is, pieces-are)
 
-      new-count : length (newBlocks image ds f text) ≡ (length text + (sizeFor spans - 1)) / sizeFor spans
-      new-count =
-          ap length new-are
-          ∙ records-count (namedAt image records) f last (pieces (sizeFor spans) text)
-          ∙ pieces-count (sizeFor spans) (size-bounds a .0) text
+    new-count : length (newBlocks image ds f text) ≡ length (pieces (sizeFor m t) text)
+    new-count = ap length new-are ∙ records-count (namedAt image records) f last (pieces (sizeFor m t) text)
 
-      module _ (count : ℕ) (c : count ≡ (length text + (sizeFor spans - 1)) / sizeFor spans) where
-        -- there are too many blocks
-        pub out-full : mostBlocks < taken words + count → Outcome image ds text (appendWhere image ds text (found f)) 5 image
-        out-full h = to-full image ds text f file whole (lt-ltb mostBlocks (length (blockIds byBytes (volume image ds)) + length (newBlocks image ds f text)) (omega (arith, blocks-are, new-count)))
+    module _ (count : ℕ) (c : count ≡ length (pieces (sizeFor m t) text)) where
+      -- there are too many blocks
+      pub out-full : mostBlocks < m .blocks + count → Outcome image ds text (appendWhere image ds text (found f)) 5 image
+      out-full g = to-full image ds text f file whole (lt-ltb mostBlocks (length (blockIds byBytes (volume image ds)) + length (newBlocks image ds f text)) (omega (arith, blocks-are, new-count)))
 
-        -- or the pieces were written
-        pub out-written : taken words + count ≤ mostBlocks → (r : ℕ) (x : Bytes) → Written image starts spans records (sizeFor spans) f last text r x
-            → Outcome image ds text (appendWhere image ds text (found f)) r x
-        out-written h r x w =
-            to-written image ds text f file whole (le-ltb mostBlocks (length (blockIds byBytes (volume image ds)) + length (newBlocks image ds f text)) (omega (arith, blocks-are, new-count))) r x
-            (rw (← u .files, new-are) (w .number)) (rw (← u .files, new-are) (w .stored))
+      -- or the pieces were written
+      pub out-written : m .blocks + count ≤ mostBlocks → (r : ℕ) (x : Bytes)
+          → Written image (spaces image (fileAreas image ds)) (namedAt image records) (record { file = f; last = last; size = sizeFor m t; count = count }) text r x
+          → Outcome image ds text (appendWhere image ds text (found f)) r x
+      out-written g r x w =
+          to-written image ds text f file whole (le-ltb mostBlocks (length (blockIds byBytes (volume image ds)) + length (newBlocks image ds f text)) (omega (arith, blocks-are, new-count))) r x
+          (rw new-are (w .number)) (rw new-are (w .stored))
 
 -- ---- the whole append
 
-module _ {image : Bytes} {ds : List Descriptor} {starts spans records : List ℕ} (u : Under image ds starts spans records) (base path text : Bytes) where
+module _ {image : Bytes} {ds : List Descriptor} {m : Mounted} {t : List ℕ} (h : Holds image ds m t) (base path text : Bytes) where
   abbrev Done : ℕ → Bytes → Type 0
   Done r x = (r ≡ appendOf image ds base path text) × (x ≡ imageAppended image ds base path text)
 
@@ -167,29 +168,24 @@ module _ {image : Bytes} {ds : List Descriptor} {starts spans records : List ℕ
   -- too much
   pub append-long : mostAppended < length text → Done 8 image
   unfolding appending
-  append-long h = done (refuses 8) long (refl, refl)
+  append-long more = done (refuses 8) long (refl, refl)
     where
       or-true : (b : Bool) → (b || true) ≡ true
       or-true true = refl
       or-true false = refl
 
       long : appending image ds base path text ≡ refuses 8
-      long = rw (eq-eqb (mountNumber image ds) 0 (u .mounted), lt-ltb mostAppended (length text) h, or-true (not (goodPath base path)))
+      long = rw (eq-eqb (mountNumber image ds) 0 (h .number), lt-ltb mostAppended (length text) more, or-true (not (goodPath base path)))
 
   -- o is what the path leads to
-  module _ (short : length text ≤ mostAppended) (o : Found) (e : o ≡ pathFound (byPlace image) (placedVolume image ds) base path) where
+  module _ (short : length text ≤ mostAppended) (o : Found) (e : o ≡ resolve image ds base path) where
     goes : appending image ds base path text ≡ appendWhere image ds text o
-    unfolding appending
-    goes = rw (eq-eqb (mountNumber image ds) 0 (u .mounted), le-ltb mostAppended (length text) short, e) (go (goodPath base path))
+    unfolding appending resolve
+    goes = rw (e, eq-eqb (mountNumber image ds) 0 (h .number), le-ltb mostAppended (length text) short) (go (goodPath base path))
       where
-        names : lookupNames byBytes (volume image ds) (pathNames base path) ≡ lookupNames (byPlace image) (placedVolume image ds) (pathNames base path)
-        names =
-            rw (volume-places image ds)
-            (lookupNames-map (byPlace image) byBytes (bytesAt image) (place-views image) (placedVolume image ds) (pathNames base path))
-
         go : (b : Bool) → cond (not b || false) (refuses 8) (appendWhere image ds text (lookupNames byBytes (volume image ds) (pathNames base path)))
-            ≡ appendWhere image ds text (cond b (lookupNames (byPlace image) (placedVolume image ds) (pathNames base path)) (absent 8))
-        go true = ap (appendWhere image ds text) names
+            ≡ appendWhere image ds text (cond b (lookupNames byBytes (volume image ds) (pathNames base path)) (absent 8))
+        go true = refl
         go false = refl
 
     -- nothing; k is the number of refusal

@@ -1,4 +1,4 @@
-// Append over the tables of a mounted volume: what the call does once its image is mounted.
+// Append to a mounted volume: what the call does once its image is mounted.
 // All that can refuse it is asked before the first store.
 ghost use mathlib.Core.Path.{_≡_};
 ghost use mathlib.Core.Bool.{false};
@@ -6,192 +6,203 @@ ghost use mathlib.Core.List.{List};
 ghost use Prim.Native.Nat.{ℕ, _≤_};
 ghost use lib.ListN.{length};
 ghost use Rattle.format.specs.Ids.{isDirectoryId};
+ghost use Rattle.format.specs.Record.{longestData};
 ghost use Rattle.volume.specs.Counting.{Volume};
 ghost use Rattle.volume.specs.Tree.{found};
-ghost use Rattle.calls.specs.Append.{appendWhere, appendOf, imageAppended};
+ghost use Rattle.calls.specs.Areas.{fileAreas};
+ghost use Rattle.calls.specs.Mount.{mostBlocks, mostRecords};
+ghost use Rattle.calls.specs.Storing.{spaces};
+ghost use Rattle.calls.specs.Append.{mostAppended, appendWhere, appendOf, imageAppended};
 ghost use Rattle.calls.specs.declared.Descriptor.{Descriptor};
-ghost use Rattle.listing.specs.Bridge.{placedVolume};
-ghost use Rattle.lookup.specs.Found.{InodesOf, InodeTable};
-ghost use Rattle.contents.specs.Blocks.{BlocksOf, BlockTable, lastOf};
-ghost use Rattle.pieces.specs.Cut.{pieces};
-ghost use Rattle.appending.specs.Lent.{Areas, Under, lastUnlessBroken, Room, Written};
+ghost use Rattle.place_view.specs.Place.{AllLie};
+ghost use Rattle.table.specs.Rows.{BlockTable};
+ghost use Rattle.contents.specs.Blocks.{BlocksOf, lastOf};
+ghost use Rattle.unused_ids.specs.Window.{namedAt};
+ghost use Rattle.mounted.specs.State.{Safe, Holds, SafePlaces, HoldsPlaces};
+ghost use Rattle.appending.specs.Last.{lastUnlessBroken};
+ghost use Rattle.appending.specs.Written.{sizeFor, Cut, Room, Written};
 ghost use Rattle.appending.specs.Outcome.{Outcome};
+use calls::BAD_PATH;
+use calls::BROKEN;
+use calls::MOST_APPENDED;
+use calls::MOST_BLOCKS;
+use calls::NO_ROOM;
+use calls::TOO_MANY_IDS;
+use calls::WRONG_KIND;
 use contents::Last;
 use contents::Size;
 use contents::file_size;
 use contents::last_block;
+use listing::SPANS;
 use lookup::Found;
-use mount::MOST_BLOCKS;
-use mounted_files::find_mounted;
-use occupancy::taken;
+use mounted::BLOCK_IDS;
+use mounted::BLOCK_SPOTS;
+use mounted::Mounted;
+use pieces::MOST_PIECES;
 use pieces::greatest_block;
 use pieces::piece_count;
 use pieces::plan_ids;
 use pieces::plan_places;
 use pieces::shortest;
 use pieces::store_pieces;
+use tree::find_path;
 
-// The most bytes that one append takes.
-const MOST_APPENDED: usize = 8192;
-
-// Numbers of refusal.
-const TOO_MUCH: u32 = 8;
-
-const WRONG_KIND: u32 = 11;
-
-const BROKEN: u32 = 13;
-
-const TOO_MANY_BLOCKS: u32 = 5;
-
-const NO_PLACE: u32 = 15;
+// The blocks that an append adds to the chain of a file: the block before the first, how long they are and how many.
+pub struct Chain {
+    pub file: u32,
+    pub last: u32,
+    pub size: usize,
+    pub count: usize,
+}
 
 // The block that the first piece follows, NONE where the file is empty. A broken file has none.
-fn last_unless_broken(image: &[u8], words: &[u64], ids: &[u32], spots: &[u32], file: u32) -> Last
-    requires { ⌜ BlockTable (now image) (now words) (now ids) (now spots) ⌝ }
-    ensures { λ r. ⌜ ((v : Volume ℕ) → BlocksOf (now (image .entry)) (now (words .entry)) (now (ids .entry)) (now (spots .entry)) v → lastOf r ≡ lastUnlessBroken (now (image .entry)) v file) ⌝ }
+fn last_unless_broken(image: &[u8], ids: &[u32], spots: &[u32], file: u32) -> Last
+    requires { ⌜ BlockTable (now image) (now ids) (now spots) ⌝ }
+    requires { ⌜ length (now ids) ≤ mostBlocks ⌝ }
+    ensures { λ r. ⌜ ((v : Volume ℕ) → BlocksOf (now (image .entry)) (now (ids .entry)) (now (spots .entry)) v → lastOf r ≡ lastUnlessBroken (now (image .entry)) v file) ⌝ }
 {
-    let Size::Whole(_) = file_size(image, words, ids, spots, file) else {
+    let Size::Whole(_) = file_size(image, ids, spots, file) else {
         return Last::Several;
     };
-    last_block(image, words, ids, spots, file)
+    last_block(image, ids, spots, file)
+}
+
+// How long the pieces are: as long as the shortest file area lets blocks be.
+fn piece_size(image: &[u8], tables: &[u32], m: Mounted) -> usize
+    requires { ⌜ Safe (now image) m (now tables) ⌝ }
+    ensures is { λ r. ⌜ r ≡ sizeFor m (now (tables .entry)) ⌝ }
+    ensures within { λ r. ⌜ (1 ≤ r) × (r ≤ longestData) ⌝ }
+{
+    let end = SPANS + m.files;
+    greatest_block(shortest(&tables[SPANS..end]))
 }
 
 // Writes the pieces of the text as blocks of the file, all or none: their places and ids are all found before the first store.
-// Lent are a place and an id for each piece, to plan in.
+// Lent are an id and a place for each piece, to plan in.
 fn write_pieces(
     image: &mut [u8],
-    starts: &[u32],
-    spans: &[u32],
-    records: &[u32],
+    tables: &[u32],
+    m: Mounted,
+    records: &[u16],
     text: &[u8],
-    size: usize,
-    file: u32,
-    last: u32,
+    chain: Chain,
     ids: &mut [u32],
     places: &mut [u32],
 ) -> u32
-    requires { ⌜ Areas (now image) (now starts) (now spans) (now records) ⌝ }
-    requires { ⌜ Room size (now text) (now ids) (now places) ⌝ }
-    ensures { λ r. ⌜ Written (now (image .entry)) (now (starts .entry)) (now (spans .entry)) (now (records .entry)) size file last (now (text .entry)) r (now (image .exit)) ⌝ }
+    requires { ⌜ Safe (now image) m (now tables) ⌝ }
+    requires { ⌜ AllLie (now image) (now records) (length (now records)) ⌝ }
+    requires { ⌜ length (now records) ≤ mostRecords ⌝ }
+    requires { ⌜ Room chain (now text) (now ids) (now places) ⌝ }
+    ensures { λ r. ⌜ ((ds : List Descriptor) → Holds (now (image .entry)) ds m (now (tables .entry)) → Written (now (image .entry)) (spaces (now (image .entry)) (fileAreas (now (image .entry)) ds)) (namedAt (now (image .entry)) (now (records .entry))) chain (now (text .entry)) r (now (image .exit))) ⌝ }
 {
-    if plan_places(&*image, starts, spans, text, size, &mut *places) {} else {
-        return NO_PLACE;
+    if plan_places(&*image, tables, m, text, chain.size, &mut *places) {} else {
+        return NO_ROOM;
     }
     plan_ids(&*image, records, &mut *ids);
-    store_pieces(&mut *image, &*ids, &*places, text, size, file, last);
+    store_pieces(
+        &mut *image,
+        &*ids,
+        &*places,
+        text,
+        chain.size,
+        chain.file,
+        chain.last,
+    );
     0
 }
 
-// Writes `count` pieces.
+// Writes the pieces, with arrays for the plan of the most that there may be.
 fn write_count(
     image: &mut [u8],
-    starts: &[u32],
-    spans: &[u32],
-    records: &[u32],
+    tables: &[u32],
+    m: Mounted,
+    records: &[u16],
     text: &[u8],
-    size: usize,
-    count: usize,
-    file: u32,
-    last: u32,
+    chain: Chain,
 ) -> u32
-    requires { ⌜ Areas (now image) (now starts) (now spans) (now records) ⌝ }
-    requires { ⌜ (1 ≤ size) × (size ≤ 2048) × (count ≡ length (pieces size (now text))) × (count ≤ 256) ⌝ }
-    ensures { λ r. ⌜ Written (now (image .entry)) (now (starts .entry)) (now (spans .entry)) (now (records .entry)) size file last (now (text .entry)) r (now (image .exit)) ⌝ }
+    requires { ⌜ Safe (now image) m (now tables) ⌝ }
+    requires { ⌜ AllLie (now image) (now records) (length (now records)) ⌝ }
+    requires { ⌜ length (now records) ≤ mostRecords ⌝ }
+    requires { ⌜ Cut chain (now text) ⌝ }
+    ensures { λ r. ⌜ ((ds : List Descriptor) → Holds (now (image .entry)) ds m (now (tables .entry)) → Written (now (image .entry)) (spaces (now (image .entry)) (fileAreas (now (image .entry)) ds)) (namedAt (now (image .entry)) (now (records .entry))) chain (now (text .entry)) r (now (image .exit))) ⌝ }
 {
-    let mut ids = [0u32; MOST_BLOCKS];
-    let mut places = [0u32; MOST_BLOCKS];
+    let mut ids = [0u32; MOST_PIECES];
+    let mut places = [0u32; MOST_PIECES];
+    let n = chain.count;
     write_pieces(
         &mut *image,
-        starts,
-        spans,
+        tables,
+        m,
         records,
         text,
-        size,
-        file,
-        last,
-        &mut ids[..count],
-        &mut places[..count],
+        chain,
+        &mut ids[..n],
+        &mut places[..n],
     )
 }
 
-// Appends to a file: 13, then 5 with the new blocks counted in, then 15.
+// Appends to a file: BROKEN, then TOO_MANY_IDS with the new blocks counted in, then NO_ROOM.
 fn append_to(
     image: &mut [u8],
-    starts: &[u32],
-    spans: &[u32],
-    records: &[u32],
-    words: &[u64],
-    ids: &[u32],
-    spots: &[u32],
+    tables: &[u32],
+    places: &[u16],
+    m: Mounted,
     file: u32,
     text: &[u8],
 ) -> u32
-    requires { ⌜ Areas (now image) (now starts) (now spans) (now records) ⌝ }
-    requires { ⌜ BlockTable (now image) (now words) (now ids) (now spots) ⌝ }
-    requires { ⌜ length (now text) ≤ 8192 ⌝ }
-    ensures { λ r. ⌜ ((ds : List Descriptor) → Under (now (image .entry)) ds (now (starts .entry)) (now (spans .entry)) (now (records .entry)) → BlocksOf (now (image .entry)) (now (words .entry)) (now (ids .entry)) (now (spots .entry)) (placedVolume (now (image .entry)) ds) → isDirectoryId file ≡ false → Outcome (now (image .entry)) ds (now (text .entry)) (appendWhere (now (image .entry)) ds (now (text .entry)) (found file)) r (now (image .exit))) ⌝ }
+    requires { ⌜ Safe (now image) m (now tables) ⌝ }
+    requires { ⌜ SafePlaces (now image) m (now places) ⌝ }
+    requires { ⌜ length (now text) ≤ mostAppended ⌝ }
+    ensures { λ r. ⌜ ((ds : List Descriptor) → Holds (now (image .entry)) ds m (now (tables .entry)) → HoldsPlaces (now (image .entry)) ds m (now (places .entry)) → isDirectoryId file ≡ false → Outcome (now (image .entry)) ds (now (text .entry)) (appendWhere (now (image .entry)) ds (now (text .entry)) (found file)) r (now (image .exit))) ⌝ }
 {
-    let Last::Start(last) = last_unless_broken(&*image, words, ids, spots, file) else {
+    let ids_end = BLOCK_IDS + m.blocks;
+    let spots_end = BLOCK_SPOTS + m.blocks;
+    let Last::Start(last) = last_unless_broken(
+        &*image,
+        &tables[BLOCK_IDS..ids_end],
+        &tables[BLOCK_SPOTS..spots_end],
+        file,
+    ) else {
         return BROKEN;
     };
-    let size = greatest_block(shortest(spans));
+    let size = piece_size(&*image, tables, m);
     let count = piece_count(text.len(), size);
-    if taken(words) + count > MOST_BLOCKS {
-        return TOO_MANY_BLOCKS;
+    if m.blocks + count > MOST_BLOCKS {
+        return TOO_MANY_IDS;
     }
-    write_count(
-        &mut *image,
-        starts,
-        spans,
-        records,
-        text,
-        size,
-        count,
+    let chain = Chain {
         file,
         last,
-    )
+        size,
+        count,
+    };
+    let n = m.records;
+    write_count(&mut *image, tables, m, &places[0..n], text, chain)
 }
 
 // Appends a text to the file that a path leads to; answers the number of refusal, or 0.
 pub fn append_mounted<'a>(
     image: &mut [u8],
-    starts: &[u32],
-    spans: &[u32],
-    records: &[u32],
-    iwords: &[u64],
-    iids: &[u32],
-    ispots: &[u32],
-    bwords: &[u64],
-    bids: &[u32],
-    bspots: &[u32],
+    tables: &[u32],
+    places: &[u16],
+    m: Mounted,
     base: &'a [u8],
     path: &'a [u8],
     text: &[u8],
 ) -> u32
-    requires { ⌜ Areas (now image) (now starts) (now spans) (now records) ⌝ }
-    requires { ⌜ InodeTable (now image) (now iwords) (now iids) (now ispots) ⌝ }
-    requires { ⌜ BlockTable (now image) (now bwords) (now bids) (now bspots) ⌝ }
-    ensures { λ r. ⌜ ((ds : List Descriptor) → Under (now (image .entry)) ds (now (starts .entry)) (now (spans .entry)) (now (records .entry)) → InodesOf (now (image .entry)) (now (iwords .entry)) (now (iids .entry)) (now (ispots .entry)) (placedVolume (now (image .entry)) ds) → BlocksOf (now (image .entry)) (now (bwords .entry)) (now (bids .entry)) (now (bspots .entry)) (placedVolume (now (image .entry)) ds) → (r ≡ appendOf (now (image .entry)) ds (now (base .entry)) (now (path .entry)) (now (text .entry))) × (now (image .exit) ≡ imageAppended (now (image .entry)) ds (now (base .entry)) (now (path .entry)) (now (text .entry)))) ⌝ }
+    requires { ⌜ Safe (now image) m (now tables) ⌝ }
+    requires { ⌜ SafePlaces (now image) m (now places) ⌝ }
+    ensures { λ r. ⌜ ((ds : List Descriptor) → Holds (now (image .entry)) ds m (now (tables .entry)) → HoldsPlaces (now (image .entry)) ds m (now (places .entry)) → (r ≡ appendOf (now (image .entry)) ds (now (base .entry)) (now (path .entry)) (now (text .entry))) × (now (image .exit) ≡ imageAppended (now (image .entry)) ds (now (base .entry)) (now (path .entry)) (now (text .entry)))) ⌝ }
 {
     if text.len() > MOST_APPENDED {
-        return TOO_MUCH;
+        return BAD_PATH;
     }
-    let found = find_mounted(&*image, iwords, iids, ispots, base, path);
+    let found = find_path(&*image, tables, m, base, path);
     let Found::Inode(file, directory) = found else {
         return found.refusal();
     };
     if directory {
         return WRONG_KIND;
     }
-    append_to(
-        &mut *image,
-        starts,
-        spans,
-        records,
-        bwords,
-        bids,
-        bspots,
-        file,
-        text,
-    )
+    append_to(&mut *image, tables, places, m, file, text)
 }

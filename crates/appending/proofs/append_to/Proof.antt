@@ -1,15 +1,19 @@
 -- `appending::append_to` meets its contract.
-use Prim.Native.Nat.{_+_, _-_, _/_, _≤_}
+use Prim.Native.Nat.{_≤_}
 use mathlib.Core.Path.{_≡_, sym, ap, _∙_}
+use mathlib.Core.List.{List}
 use native.Mathlib.Omega.{arith}
-use native.Mathlib.Nat.{div-le-self}
 use lib.ListN.{length}
 use borrow.Author.Needs.{needs}
-use Rattle.format.specs.BlockSize.{greatestBlock}
+use Rattle.calls.specs.declared.Descriptor.{Descriptor}
+use Rattle.table.specs.Parts.{lent-front}
 use Rattle.listing.specs.Bridge.{placedVolume}
+use Rattle.mounted.specs.State.{spans, Holds}
+use Rattle.mounted.specs.Bridge.{blocks-lent, blocks-few, block-rows-lent}
 use Rattle.contents.specs.Blocks.{lastOf}
-use Rattle.pieces.specs.Cut.{pieces-count}
-use Rattle.appending.specs.Lent.{sizeFor, shortest-bound, size-bounds}
+use Rattle.pieces.specs.Cut.{pieces, mostPieces, shortestOf, pieces-count, few-pieces, pieces-fit}
+use Rattle.appending.specs.Last.{lastUnlessBroken}
+use Rattle.appending.specs.Written.{sizeFor, shortest-bound, records-lie, records-few}
 use Rattle.appending.specs.Outcome.{out-broken, out-full, out-written}
 use Rattle.appending.proofs.append_to.Statement.{statement}
 use Rattle.appending.proofs.append_to.Tie as tie
@@ -21,101 +25,108 @@ lent l = l .before .before .before .before .before .before .before .before .befo
 abbrev found-last : tie.After-known-told → tie.After-last-unless-broken
 found-last k = k .before .before .before
 
-abbrev known : tie.After-greatest-block → tie.After-known-told
-known g = g .before .before
+abbrev known : tie.After-piece-size → tie.After-known-told
+known p = p .before .before
 
-abbrev start : tie.After-greatest-block → tie.Start
-start g = lent (found-last (known g))
+abbrev start : tie.After-piece-size → tie.Start
+start p = lent (found-last (known p))
 
--- the size of the pieces, and their number
-size-is : (g : tie.After-greatest-block) → g .greatest-block .result ≡ sizeFor (start g .args .spans .now)
-size-is g = g .greatest-block .ensures ∙ ap greatestBlock (g .before .shortest .ensures)
+-- the last block is that of the definition
+last-is : (l : tie.After-last-unless-broken) → let a = lent l .args in
+    (ds : List Descriptor) → Holds (a .image .now) ds (a .m) (a .tables .now) → lastOf (l .last-unless-broken .result) ≡ lastUnlessBroken (a .image .now) (placedVolume (a .image .now) ds) (a .file)
+last-is l ds h = l .last-unless-broken .ensures (placedVolume (lent l .args .image .now) ds) (block-rows-lent h)
 
-size-good : (g : tie.After-greatest-block) → (1 ≤ g .greatest-block .result) × (g .greatest-block .result ≤ 2048)
-size-good g = rw (size-is g) (size-bounds (start g .pre .0))
+-- the number of pieces
+count-is : (c : tie.After-piece-count) → let a = start (c .before) .args in c .piece-count .result ≡ length (pieces (sizeFor (a .m) (a .tables .now)) (a .text .now))
+count-is c =
+    let p = c .before in
+    let a = start p .args in
+    rw (← p .piece-size .ensures .0)
+    (c .piece-count .ensures ∙ sym (pieces-count (p .piece-size .result) (p .piece-size .ensures .1 .0) (a .text .now)))
 
-count-is : (p : tie.After-piece-count)
-    → p .piece-count .result ≡ (length (start (p .before) .args .text .now) + (sizeFor (start (p .before) .args .spans .now) - 1)) / sizeFor (start (p .before) .args .spans .now)
-count-is p = rw (← size-is (p .before)) (p .piece-count .ensures)
+count-few : (c : tie.After-piece-count) → c .piece-count .result ≤ mostPieces
+count-few c =
+    let s = start (c .before) in
+    rw (count-is c) (few-pieces (shortestOf (spans (s .args .m) (s .args .tables .now))) (s .args .text .now) (shortest-bound (s .pre .0)) (s .pre .1 .1))
+
+last-unless-broken-requires : tie.Need-last-unless-broken-requires
+last-unless-broken-requires c κs =
+    let s = c .before .before .before .before .before .before .before .before .before in
+    (blocks-lent (s .pre .0), blocks-few (s .pre .0))
 
 returns : tie.Need-returns
 returns c =
     let l = c .before .before in
     let s = lent l in
-    λ ds u rows d.
-    out-broken (s .pre .0) u (s .args .file) (s .args .text .now) (s .pre .1 .0 .good) rows d
-    (sym (ap lastOf (c .enum-told .given .1)) ∙ l .last-unless-broken .ensures (placedVolume (s .args .image .now) ds) rows)
-
-shortest-requires : tie.Need-shortest-requires
-shortest-requires c κs = let s = lent (found-last c) in omega (arith, s .pre .0 .fit .pairs, s .pre .0 .some-area)
-
-greatest-block-requires : tie.Need-greatest-block-requires
-greatest-block-requires c κs = rw (c .shortest .ensures) (shortest-bound (lent (found-last (c .before)) .pre .0))
-
-piece-count-requires : tie.Need-piece-count-requires
-piece-count-requires c κs = let b = size-good c in (b .0, omega (arith, b .1), omega (arith, start c .pre .1 .1))
+    λ ds h p d. out-broken (s .pre .0) h _ p (s .args .file) (s .args .text .now) d (sym (ap lastOf (c .enum-told .given .1)) ∙ last-is l ds h)
 
 add-if1 : tie.Need-add-if1
-add-if1 c =
-    let p = c .before in
-    let g = p .before in
-    let s = start g in
-    let n = g .greatest-block .result in
-    let w = s .pre .1 .0 .good .sized .few in
-    omega (arith, c .taken .ensures .1, p .piece-count .ensures, div-le-self (length (s .args .text .now) + (n - 1)) n, size-good g, s .pre .1 .1)
+add-if1 c = let s = start (c .before .before) in omega (arith, count-few (c .before), pieces-fit, s .pre .0 .blocks-few)
 
 returns-2 : tie.Need-returns-2
 returns-2 c =
-    let t = c .before in
-    let p = t .before in
+    let p = c .before .before in
     let k = known (p .before) in
     let l = found-last k in
     let s = lent l in
-    λ ds u rows d.
-    out-full (s .pre .0) u (s .args .file) (s .args .text .now) (s .pre .1 .0 .good) rows d (k .before .last .given .0 .0)
-    (sym (ap lastOf (k .before .last .given .1)) ∙ l .last-unless-broken .ensures (placedVolume (s .args .image .now) ds) rows)
-    (p .piece-count .result) (count-is p) (omega (arith, c .if1 .taken, t .taken .ensures .0))
+    λ ds h q d.
+    out-full (s .pre .0) h _ q (s .args .file) (s .args .text .now) d (k .before .last .given .0 .0) (sym (ap lastOf (k .before .last .given .1)) ∙ last-is l ds h)
+    (p .piece-count .result) (count-is p) (omega (arith, c .if1 .taken))
+
+part-write-count-end : tie.Need-part-write-count-end
+part-write-count-end c = let s = start (c .before .before .before .before) in omega (arith, s .pre .1 .0 .few)
 
 write-count-requires : tie.Need-write-count-requires
 write-count-requires c κs =
-    let e = c .before in
+    let e = c .before .before in
     let p = e .before .before in
-    let g = p .before in
-    let s = start g in
-    let b = size-good g in
-    (s .pre .0, (b .0, b .1, p .piece-count .ensures ∙ sym (pieces-count (g .greatest-block .result) (b .0) (s .args .text .now)), omega (arith, e .if1 .left)))
+    let s = start (p .before) in
+    let z = p .before .piece-size .ensures in (
+      s .pre .0,
+      (
+        records-lie (s .pre .1 .0),
+        (records-few (s .pre .1 .0), record { some-room = z .1 .0; small = z .1 .1; count = rw (z .0) (count-is p); few = count-few p }),
+      ),
+    )
 
 returns-3 : tie.Need-returns-3
 returns-3 c =
     let w = c .before .before in
-    let e = w .before .before in
-    let t = e .before in
-    let p = t .before in
-    let g = p .before in
-    let k = known g in
+    let e = w .before .before .before in
+    let p = e .before .before in
+    let k = known (p .before) in
     let l = found-last k in
     let s = lent l in
-    λ ds u rows d.
-    out-written (s .pre .0) u (s .args .file) (s .args .text .now) (s .pre .1 .0 .good) rows d (k .before .last .given .0 .0)
-    (sym (ap lastOf (k .before .last .given .1)) ∙ l .last-unless-broken .ensures (placedVolume (s .args .image .now) ds) rows)
-    (p .piece-count .result) (count-is p) (omega (arith, e .if1 .left, t .taken .ensures .0)) _ _ (rw (size-is g) at (w .write-count .ensures))
+    λ ds h q d.
+    out-written (s .pre .0) h _ (lent-front (s .args .m .records) (s .args .places .now) ∙ q) (s .args .file) (s .args .text .now) d (k .before .last .given .0 .0)
+    (sym (ap lastOf (k .before .last .given .1)) ∙ last-is l ds h) (p .piece-count .result) (count-is p) (omega (arith, e .if1 .left)) _ _
+    (rw (← p .before .piece-size .ensures .0) (w .write-count .ensures ds h))
 
 pub append-to-spec : {M : Type 1} → statement M
 append-to-spec =
     tie.close
     (tie.spec
-    (λ c κs. search needs)
+    (λ c. search needs)
+    (λ c. search needs)
+    (λ c. search needs)
+    (λ c. search needs)
+    (λ c. search needs)
+    (λ c. search needs)
+    (λ c. search needs)
+    (λ c. search needs)
+    last-unless-broken-requires
     (λ c. search needs)
     (λ c. search needs)
     (λ c. search needs)
     returns
-    shortest-requires
-    greatest-block-requires
-    piece-count-requires
-    (λ c κs. start (c .before) .pre .1 .0 .good .sized .few)
+    (λ c κs. search needs)
+    (λ c κs. search needs)
     add-if1
     (λ c. search needs)
     returns-2
+    (λ c. search needs)
+    (λ c. search needs)
+    part-write-count-end
     write-count-requires
     (λ c. search needs)
     returns-3)

@@ -2,7 +2,7 @@
 use mathlib.Core.Path.{sym, ap, _∙_}
 use borrow.Author.Needs.{needs}
 use Rattle.contents.specs.Blocks.{sizeOf}
-use Rattle.appending.specs.Lent.{size-none, size-some}
+use Rattle.appending.specs.Last.{size-none, size-some}
 use Rattle.appending.proofs.last_unless_broken.Statement.{statement}
 use Rattle.appending.proofs.last_unless_broken.Tie as tie
 
@@ -25,5 +25,5 @@ last-unless-broken-spec =
     (λ c. search needs)
     (λ c. search needs)
     returns
-    (λ c κs. c .before .before .before .before .before .before .before .pre .good)
+    (λ c κs. c .before .before .before .before .before .before .pre .0 .usable)
     returns-2)

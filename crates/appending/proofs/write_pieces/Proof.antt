@@ -1,22 +1,25 @@
 -- `appending::write_pieces` meets its contract.
-use mathlib.Core.Path.{_≡_, ap, _∙_}
+use mathlib.Core.Path.{_≡_, ap, subst, _∙_}
 use mathlib.Core.Bool.{Bool}
+use mathlib.Core.List.{List}
 use mathlib.Core.Option.{some}
 use borrow.Author.Needs.{needs}
+use lib.ListN.{length}
+use Rattle.calls.specs.Areas.{fileAreas}
 use Rattle.calls.specs.Storing.{spaces}
-use Rattle.descriptors.specs.Described.{described}
+use Rattle.calls.specs.declared.Descriptor.{Descriptor}
+use Rattle.mounted.specs.State.{Holds}
 use Rattle.unused_ids.specs.Window.{namedAt}
 use Rattle.pieces.specs.Cut.{pieces}
-use Rattle.pieces.specs.Plan.{idsFor, placesFor}
+use Rattle.pieces.specs.Plan.{idsFor, placesFor, Planned, PlannedAt}
 use Rattle.pieces.specs.Laws.{plannedOf}
-use lib.ListN.{length}
-use Rattle.appending.specs.Lent.{not-written, writing-ready, written}
+use Rattle.appending.specs.Written.{not-written, writing-ready, written}
 use Rattle.appending.proofs.write_pieces.Statement.{statement}
 use Rattle.appending.proofs.write_pieces.Tie as tie
 
 -- the arguments, from the plan of the places; and that plan, from the plan of the ids
 abbrev lent : tie.After-plan-places → tie.Start
-lent p = p .before .before .before .before .before .before .before .before .before .before
+lent p = p .before .before .before .before .before .before .before .before .before
 
 abbrev in-then : tie.After-plan-ids → tie.Then1
 in-then i = i .before .before .before
@@ -24,45 +27,54 @@ in-then i = i .before .before .before
 abbrev placed : tie.Then1 → tie.After-plan-places
 placed t = t .before .before .before
 
--- each piece has its place, and its id
+-- each piece has its place in the image, which is that of the definition, and its id
+planned : (t : tie.Then1) → let p = placed t in let a = lent p .args in Planned (length (a .image .now)) (pieces (a .chain .size) (a .text .now)) (p .plan-places .last .1 .1 .1 .1 .1 .0)
+planned t =
+    let p = placed t in
+    let a = lent p .args in
+    subst (λ (b : Bool). PlannedAt (length (a .image .now)) (pieces (a .chain .size) (a .text .now)) (plannedOf b (p .plan-places .last .1 .1 .1 .1 .1 .0))) (t .if1 .taken) (p .plan-places .ensures .1)
+
 places-told : (t : tie.Then1) → let p = placed t in let a = lent p .args in
-    placesFor (spaces (a .image .now) (described (a .starts .now) (a .spans .now))) (pieces (a .size) (a .text .now)) ≡ some (p .plan-places .last .1 .1 .1 .1 .1 .0)
-places-told t = placed t .plan-places .ensures ∙ ap (λ (b : Bool). plannedOf b (placed t .plan-places .last .1 .1 .1 .1 .1 .0)) (t .if1 .taken)
+    (ds : List Descriptor) → Holds (a .image .now) ds (a .m) (a .tables .now)
+    → placesFor (spaces (a .image .now) (fileAreas (a .image .now) ds)) (pieces (a .chain .size) (a .text .now)) ≡ some (p .plan-places .last .1 .1 .1 .1 .1 .0)
+places-told t ds h =
+    placed t .plan-places .ensures .0 ds h ∙ ap (λ (b : Bool). plannedOf b (placed t .plan-places .last .1 .1 .1 .1 .1 .0)) (t .if1 .taken)
 
 ids-told : (i : tie.After-plan-ids) → let a = lent (placed (in-then i)) .args in
-    i .plan-ids .last .1 .1 .0 ≡ idsFor (namedAt (a .image .now) (a .records .now)) (length (pieces (a .size) (a .text .now)))
-ids-told i = rw (lent (placed (in-then i)) .pre .1 .ids-count) at (i .plan-ids .ensures)
+    i .plan-ids .last .1 .1 .0 ≡ idsFor (namedAt (a .image .now) (a .records .now)) (length (pieces (a .chain .size) (a .text .now)))
+ids-told i = let r = lent (placed (in-then i)) .pre .1 .1 .1 in rw (r .ids-count ∙ r .cut .count) at (i .plan-ids .ensures)
+
+plan-places-requires : tie.Need-plan-places-requires
+plan-places-requires c κs =
+    let s = c .before .before .before .before .before .before .before .before in
+    let r = s .pre .1 .1 .1 in
+    (s .pre .0, ((r .cut .some-room, r .cut .small), r .places-count ∙ r .cut .count))
 
 returns : tie.Need-returns
 returns c =
     let p = c .before .before .before in
-    let s = lent p in
-    not-written (s .pre .0) _ _ _ _ (rw (c .if1 .left) at (p .plan-places .ensures))
-
-plan-places-requires : tie.Need-plan-places-requires
-plan-places-requires c κs =
-    let s = c .before .before .before .before .before .before .before .before .before in
-    (s .pre .0 .fit, ((s .pre .0 .few-areas, s .pre .1 .some-room, s .pre .1 .small), s .pre .1 .places-count))
+    let a = lent p .args in
+    λ ds h. not-written (a .image .now) _ _ (a .chain) _ (rw (c .if1 .left) at (p .plan-places .ensures .0 ds h))
 
 plan-ids-requires : tie.Need-plan-ids-requires
 plan-ids-requires c κs =
     let s = lent (placed (c .before .before)) in
-    (s .pre .0 .lie, (s .pre .0 .few-records, s .pre .1 .few))
+    let r = s .pre .1 .1 .1 in
+    (s .pre .1 .0, (s .pre .1 .1 .0, rw (r .ids-count) (r .cut .few)))
 
 store-pieces-requires : tie.Need-store-pieces-requires
 store-pieces-requires c κs =
     let i = c .before .before .before .before .before in
     let t = in-then i in
-    let s = lent (placed t) in
-    writing-ready (s .pre .0) _ (s .args .file) (s .args .last) _ _ (places-told t) _ (ids-told i) (s .pre .1 .some-room) (s .pre .1 .small)
+    writing-ready _ _ _ (lent (placed t) .pre .1 .1 .1 .cut) (planned t) (ids-told i)
 
 returns-2 : tie.Need-returns-2
 returns-2 c =
     let w = c .before .before in
     let i = w .before .before .before .before .before .before in
     let t = in-then i in
-    let s = lent (placed t) in
-    written (s .pre .0) _ _ _ _ _ (places-told t) _ (ids-told i) _ (w .store-pieces .ensures)
+    let a = lent (placed t) .args in
+    λ ds h. written (a .image .now) _ _ (a .chain) _ _ (places-told t ds h) _ (ids-told i) _ (w .store-pieces .ensures)
 
 pub write-pieces-spec : {M : Type 1} → statement M
 write-pieces-spec =
