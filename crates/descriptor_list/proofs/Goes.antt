@@ -10,7 +10,7 @@ use mathlib.Core.Bool.{Bool, true, false}
 use lib.ListN.{length, getD, drop, drop-of-length-le}
 use lib.Seq.{drop-cons}
 use lib.Dec.{eqb, ltb}
-use Rattle.descriptor_list.specs.Entries.{pickA, pickS, added, goOn, stepOf}
+use Rattle.descriptor_list.specs.Entries.{pickA, pickS, added, goOn, stepOf, mostEntries}
 use Rattle.calls.specs.declared.Descriptor.{Descriptor}
 use Rattle.descriptor_list.specs.declared.Areas.{Areas}
 use Rattle.descriptor_list.specs.declared.Seen.{Seen}
@@ -33,7 +33,7 @@ module _ (ys : List Descriptor) (i : ℕ) (a : Areas) (d : Descriptor) (less : i
 
 pub goes : (ys : List Descriptor) (i : ℕ) (a : Areas) (d₀ : Descriptor) → i < length ys → Goes ys i a (stepOf a i (length ys) (getD ys i d₀))
 unfolding goOn
-goes ys i a d₀ less = by-tests ys i a (getD ys i d₀) less (eqb (getD ys i d₀ .length) 0) (ltb (a .count) 9)
+goes ys i a d₀ less = by-tests ys i a (getD ys i d₀) less (eqb (getD ys i d₀ .length) 0) (ltb (a .count) mostEntries)
     (ap (λ (zs : List Descriptor). goOn zs a) (drop-cons ys i d₀ less ∙ ap (λ (k : ℕ). getD ys i d₀ ∷ drop k ys) (sym (add-one i))))
 
 -- the list is passed: what is found is what the whole list names

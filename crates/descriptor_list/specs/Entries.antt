@@ -13,6 +13,10 @@ use Rattle.descriptor_list.specs.declared.Seen.{Seen}
 abbrev pub mostEntries : ℕ
 mostEntries = mostAreas + 1
 
+-- two numbers to each
+abbrev pub mostNumbers : ℕ
+mostNumbers = mostEntries * 2
+
 abbrev pub pickA : Bool → Areas → Areas → Areas
 pickA true a b = a
 pickA false a b = b
@@ -23,7 +27,7 @@ pickS false a b = b
 
 -- no area
 abbrev pub noAreas : Areas
-noAreas = record { count = 0; numbers = replicate 18 0 }
+noAreas = record { count = 0; numbers = replicate mostNumbers 0 }
 
 -- one area more
 abbrev pub added : Areas → Descriptor → Areas
@@ -32,7 +36,7 @@ added a d = record { count = a .count + 1; numbers = set (set (a .numbers) (a .c
 -- what the rest of a list adds
 unfoldable pub goOn : List Descriptor → Areas → Areas
 goOn [] a = a
-goOn (d ∷ ds) a = pickA (eqb (d .length) 0) a (pickA (ltb (a .count) 9) (goOn ds (added a d)) a)
+goOn (d ∷ ds) a = pickA (eqb (d .length) 0) a (pickA (ltb (a .count) mostEntries) (goOn ds (added a d)) a)
 
 unfoldable pub areasOf : List Descriptor → Areas
 areasOf list = goOn list noAreas
@@ -41,4 +45,4 @@ areasOf list = goOn list noAreas
 abbrev pub stepOf : Areas → ℕ → ℕ → Descriptor → Seen
 stepOf a i n d =
     pickS (eqb (d .length) 0) (record { next = n; areas = a })
-    (pickS (ltb (a .count) 9) (record { next = i + 1; areas = added a d }) (record { next = n; areas = a }))
+    (pickS (ltb (a .count) mostEntries) (record { next = i + 1; areas = added a d }) (record { next = n; areas = a }))

@@ -11,7 +11,7 @@ use borrow.Author.Tests.{eqb-false, ltb-true, ltb-false, ne-eqb}
 use Rattle.calls.specs.Areas.{listed, paired, areaList}
 use Rattle.calls.specs.declared.Descriptor.{Descriptor}
 use Rattle.descriptor_list.specs.declared.Areas.{Areas}
-use Rattle.descriptor_list.specs.Entries.{mostEntries, pickA, noAreas, added, goOn, areasOf}
+use Rattle.descriptor_list.specs.Entries.{mostEntries, pickA, noAreas, added, goOn, areasOf, mostNumbers}
 
 -- entries as numbers, and so many zeros
 unfoldable flat : List Descriptor → List ℕ
@@ -64,17 +64,17 @@ record Holds (a : Areas) (es : List Descriptor) : Type 0 where
   few : length es ≤ mostEntries
   long : AllLong es
   left : ℕ
-  room : left + length es * 2 ≡ 18
+  room : left + length es * 2 ≡ mostNumbers
   numbers : a .numbers ≡ flat es ++ zeros left
 
 holds-none : Holds noAreas []
 unfolding flat AllLong
-holds-none = record { count = refl; few = omega arith; long = tt; left = 18; room = refl; numbers = refl }
+holds-none = record { count = refl; few = omega arith; long = tt; left = mostNumbers; room = refl; numbers = refl }
 
-holds-added : (a : Areas) (es : List Descriptor) (d : Descriptor) → Holds a es → a .count < 9 → d .length ≢ 0 → Holds (added a d) (es ++ (d ∷ []))
+holds-added : (a : Areas) (es : List Descriptor) (d : Descriptor) → Holds a es → a .count < mostEntries → d .length ≢ 0 → Holds (added a d) (es ++ (d ∷ []))
 holds-added a es d h c l = go (h .left) (h .room) (h .numbers)
   where
-    go : (n : ℕ) → n + length es * 2 ≡ 18 → a .numbers ≡ flat es ++ zeros n → Holds (added a d) (es ++ (d ∷ []))
+    go : (n : ℕ) → n + length es * 2 ≡ mostNumbers → a .numbers ≡ flat es ++ zeros n → Holds (added a d) (es ++ (d ∷ []))
     go zero r e = absurd (let k = h .count in omega arith)
     go (suc zero) r e = absurd (let k = h .count in omega arith)
     go (suc (suc n)) r e =
@@ -118,19 +118,19 @@ holds-listed a es h = ap areaList (h .numbers) ∙ flat-listed es (h .left) (h .
 going : (list : List Descriptor) (a : Areas) (es : List Descriptor) → Holds a es → areaList (goOn list a .numbers) ≡ take mostEntries (es ++ listed list)
 unfolding goOn listed
 going [] a es h = holds-listed a es h ∙ sym (take-all mostEntries es (h .few))
-going (d ∷ ds) a es h = go (eqb (d .length) 0) refl (ltb (a .count) 9) refl (λ k. going ds (added a d) (es ++ (d ∷ [])) k)
+going (d ∷ ds) a es h = go (eqb (d .length) 0) refl (ltb (a .count) mostEntries) refl (λ k. going ds (added a d) (es ++ (d ∷ [])) k)
   where
-    go : (p : Bool) → eqb (d .length) 0 ≡ p → (q : Bool) → ltb (a .count) 9 ≡ q
+    go : (p : Bool) → eqb (d .length) 0 ≡ p → (q : Bool) → ltb (a .count) mostEntries ≡ q
         → (Holds (added a d) (es ++ (d ∷ [])) → areaList (goOn ds (added a d) .numbers) ≡ take mostEntries ((es ++ (d ∷ [])) ++ listed ds))
         → areaList (pickA p a (pickA q (goOn ds (added a d)) a) .numbers) ≡ take mostEntries (es ++ cond p [] (d ∷ listed ds))
     go true e q f ih = holds-listed a es h ∙ sym (take-all mostEntries es (h .few))
     go false e true f ih =
-        ih (holds-added a es d h (ltb-true (a .count) 9 f) (eqb-false (d .length) 0 e))
+        ih (holds-added a es d h (ltb-true (a .count) mostEntries f) (eqb-false (d .length) 0 e))
         ∙ ap (take mostEntries) (append-assoc es (d ∷ []) (listed ds))
     go false e false f ih =
         let k = h .count in
         let g = h .few in
-        holds-listed a es h ∙ sym (take-front mostEntries es (d ∷ listed ds) (omega (arith, ltb-false (a .count) 9 f)))
+        holds-listed a es h ∙ sym (take-front mostEntries es (d ∷ listed ds) (omega (arith, ltb-false (a .count) mostEntries f)))
 
 -- the array form of a list: its entries before its end, and of more than nine the first nine
 pub areas-listed : (list : List Descriptor) → areaList (areasOf list .numbers) ≡ take mostEntries (listed list)

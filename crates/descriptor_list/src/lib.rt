@@ -6,14 +6,18 @@ ghost use lib.ListN.{take};
 ghost use Rattle.calls.specs.Areas.{listed, areaList};
 ghost use Rattle.descriptor_list.specs.Entries.{mostEntries, noAreas, areasOf, stepOf};
 use calls::Descriptor;
+use calls::MOST_AREAS;
 
-// One entry more than a good list has: the ninth tells that there are too many.
-const ENTRIES: usize = 9;
+// One entry more than a good list has: the last tells that there are too many.
+const ENTRIES: usize = MOST_AREAS + 1;
+
+// The numbers of so many entries, two to each.
+pub const NUMBERS: usize = ENTRIES * 2;
 
 // The entries of a list before its end, as numbers; zeros follow, which end it.
 pub struct Areas {
     pub count: usize,
-    pub numbers: [u32; 18],
+    pub numbers: [u32; NUMBERS],
 }
 
 // The entries so far, and the next place of the list to look at.
@@ -22,12 +26,13 @@ pub struct Seen {
     pub areas: Areas,
 }
 
+// No area.
 fn none() -> Areas
     ensures { λ r. ⌜ r ≡ noAreas ⌝ }
 {
     Areas {
         count: 0,
-        numbers: [0; 18],
+        numbers: [0; NUMBERS],
     }
 }
 
@@ -68,7 +73,7 @@ pub fn areas_of(list: &[Descriptor]) -> Areas
 }
 
 // The same of an array by value, which lies in a local that is lent. Who calls this one needs no walk.
-pub fn areas_in(list: [Descriptor; 9]) -> Areas
+pub fn areas_in(list: [Descriptor; ENTRIES]) -> Areas
     ensures { λ r. ⌜ (r ≡ areasOf list) × (areaList (r .numbers) ≡ take mostEntries (listed list)) ⌝ }
 {
     areas_of(&list)

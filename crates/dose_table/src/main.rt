@@ -3,11 +3,11 @@ use calls::Descriptor;
 use calls::Handle;
 use descriptor_list::Areas;
 use descriptor_list::areas_in;
-use nffs::append_of;
-use nffs::create_of;
-use nffs::format_of;
-use nffs::open_of;
-use nffs::read_of;
+use entries::append_of;
+use entries::create_of;
+use entries::format_of;
+use entries::open_of;
+use entries::read_of;
 
 const FILE: u32 = 1;
 

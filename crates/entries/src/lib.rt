@@ -20,7 +20,6 @@ use calls::MOST_RECORDS;
 use calls::Opened;
 use calls::ReadAnswer;
 use calls::Report;
-use collection::collect_mounted;
 use creating::create_mounted;
 use creating::not_created;
 use descriptor_list::Areas;
@@ -198,16 +197,3 @@ pub fn unlink_of<'a>(image: &mut [u8], areas: Areas, base: &'a [u8], path: &'a [
     unlink_mounted(&mut *image, &tables[..], m, base, path)
 }
 
-// Moves what counts of one file area to the scratch area, and makes that file area the scratch area: the number of refusal, or 0.
-pub fn collect_of(image: &mut [u8], areas: Areas) -> u32
-    ensures number { λ r. ⌜ r ≡ collectOf (now (image .entry)) (areaList (areas .numbers)) ⌝ }
-    ensures image { λ _. ⌜ now (image .exit) ≡ imageCollected (now (image .entry)) (areaList (areas .numbers)) ⌝ }
-{
-    let mut tables = [0u32; TABLES];
-    let mut places = [0u16; MOST_RECORDS];
-    let m = mount(&*image, &areas.numbers, &mut tables[..], &mut places[..]);
-    if m.number != 0 {
-        return m.number;
-    }
-    collect_mounted(&mut *image, &tables[..], &places[..], m)
-}

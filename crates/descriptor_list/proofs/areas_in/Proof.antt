@@ -61,7 +61,7 @@ use Rattle.descriptor_list.proofs.areas_in.Statement as stated
 use Rattle.descriptor_list.proofs.areas_in.Code as code
 
 abbrev stayed : Stays (f.ended .signature .params) (f.ended .kept)
-stayed = (stay-dropped (ArrayOf (plain (λ _. D.the-row)) (λ _. tt) 9) yes, tt)
+stayed = (stay-dropped (ArrayOf (plain (λ _. D.the-row)) (λ _. tt) mostEntries) yes, tt)
 
 -- what `areas_of` says of a list
 abbrev Told : List Descriptor → Areas → Type 0
@@ -75,12 +75,12 @@ module _ {M : Type 1} (𝓤 : URA M) (H : Heap 𝓤) (A : Atoms 𝓤) (mem : Mem
   said : (ν : ℕ) (x : RefT (List Descriptor)) (r : Areas) → ent 𝓤 (ensured 𝓤 H A g.ended (g.clauses 𝓤 H A mem run) (ν ∷ [], tt) (x, tt) tt r) (fact 𝓤 (Told (x .now) r))
   said ν x r = exE 𝓤 _ (λ ws. snd∗ 𝓤 (sem 𝓤 H A (lasts g.ended (ν ∷ [], tt) (x, tt) ws)) (fact 𝓤 (Told (x .now) r)))
 
-module _ {M : Type 1} (𝓤 : URA M) (H : Heap 𝓤) (A : Atoms 𝓤) (W : Given 𝓤 H A) (mem : Memory → SProp 𝓤) (run : Routine → Fun 𝓤) (ys : List Descriptor) (ys-is : Is (Array D.the-row 9) ys (val ys ∷ [])) where
-  nine : length ys ≡ 9
-  nine = ys-is .1 .0 .1
+module _ {M : Type 1} (𝓤 : URA M) (H : Heap 𝓤) (A : Atoms 𝓤) (W : Given 𝓤 H A) (mem : Memory → SProp 𝓤) (run : Routine → Fun 𝓤) (ys : List Descriptor) (ys-is : Is (Array D.the-row mostEntries) ys (val ys ∷ [])) where
+  long : length ys ≡ mostEntries
+  long = ys-is .1 .0 .1
 
   room : Room D.the-row (length ys)
-  room = subst (Room D.the-row) (sym nine) (lit< tt, lit< tt)
+  room = subst (Room D.the-row) (sym long) (lit< tt, lit< tt)
 
   abbrev Post : Val → SProp 𝓤
   Post = walkOf 𝓤 H A f.ended stayed (f.clauses 𝓤 H A mem run) .post ((tt, tt, tt, (ys, tt), (val ys ∷ [], tt)), tt)
@@ -111,13 +111,13 @@ module _ {M : Type 1} (𝓤 : URA M) (H : Heap 𝓤) (A : Atoms 𝓤) (W : Given
     walk =
         qed W (raw (onEntry 𝓤 H A f.signature tt tt (ys, tt) (val ys ∷ [], tt)) ∷ []) ∵ keep ! [] $ enter ! C Λ code.function (val ys ∷ []) _ $
         alloc1 ! (λ l₀. alloc1 ! (λ l₁. alloc1 ! (λ l₂. alloc1 ! (λ l₃. alloc1 ! (λ l₄. alloc0 ! $ params1 ! $
-        pass1 ! (init ! 6 refl (array-lawful 𝓤 H A W D.the-row (LL.lawful D.the-type D′.the-laws 𝓤 H A W) 9 .typed ys _ ys-is .0)) $ pass0 ! $
-        assigns ! (of-opd ! (load ! (from ! (stop !)) (look ! 6 refl))) (from ! (stop !)) (init ! 4 refl (array-lawful 𝓤 H A W D.the-row (LL.lawful D.the-type D′.the-laws 𝓤 H A W) 9 .typed ys _ ys-is .0)) $
+        pass1 ! (init ! 6 refl (array-lawful 𝓤 H A W D.the-row (LL.lawful D.the-type D′.the-laws 𝓤 H A W) mostEntries .typed ys _ ys-is .0)) $ pass0 ! $
+        assigns ! (of-opd ! (load ! (from ! (stop !)) (look ! 6 refl))) (from ! (stop !)) (init ! 4 refl (array-lawful 𝓤 H A W D.the-row (LL.lawful D.the-type D′.the-laws 𝓤 H A W) mostEntries .typed ys _ ys-is .0)) $
         assigns ! (addr ! (from ! (stop !))) (from ! (stop !)) (init ! 2 refl (tt, tt)) $
         assigns ! (agg ! (and-then ! (load ! (from ! (stop !)) (look ! 2 refl)) (and-then ! (lit ! tt) (no-more !)))) (from ! (stop !)) (init ! 0 refl (tt, (tt, (record { fits = lit< tt }, tt)))) $
-        rewrite ! 0 (λ (k : ℕ). ‵ (fat fullShare slice l₄ 0 (sliceVal (l₂, 0) k))) (sym nine) refl $
+        rewrite ! 0 (λ (k : ℕ). ‵ (fat fullShare slice l₄ 0 (sliceVal (l₂, 0) k))) (sym long) refl $
         -- the array's local is lent as a slice for a lifetime ν of the call
-        move ! (4 ∷ []) $ use1 W (‵ (arr-parts (shares D.the-row) 9 .part fullShare ys l₂ 0)) (row-in 𝓤 H A W 9 ys l₂ ys-is) $ rewrite ! 0 (λ (k : ℕ). ‵ (arr-parts (shares D.the-row) k .part fullShare ys l₂ 0)) (sym nine) refl $
+        move ! (4 ∷ []) $ use1 W (‵ (arr-parts (shares D.the-row) mostEntries .part fullShare ys l₂ 0)) (row-in 𝓤 H A W mostEntries ys l₂ ys-is) $ rewrite ! 0 (λ (k : ℕ). ‵ (arr-parts (shares D.the-row) k .part fullShare ys l₂ 0)) (sym long) refl $
         lft-new ! tt (λ ν. move ! (1 ∷ []) $
         use1 W (later (some (λ (δ : GName). ‵ (ShrSlice (named 0) (ν ∷ []) D.the-row .own (lent l₂ δ) (sliceVal (l₂, 0) (length ys) ∷ [])) ⊛ ‵ (flent (ν ∷ []) (arr-parts (shares D.the-row) (length ys) .part fullShare ys l₂ 0))))) (lends-shr-slice 𝓤 H A W D.the-row (named 0) (ν ∷ []) fullShare ys l₂ 0 room) $ await ! tt $ pick ! (λ δ. split ! $
         -- [the slice; the lender's part; ν's token; _4; …; _3; …; …; _1; …; room for _0; …]
@@ -129,19 +129,19 @@ module _ {M : Type 1} (𝓤 : URA M) (H : Heap 𝓤) (A : Atoms 𝓤) (W : Given
         peeks ! R.the-row (Is R.the-row) (shows 𝓤 H A R.the-row) r (w ∷ []) (λ is.
         land ! (from ! (stop !)) (init ! 10 refl (LL.lawful R.the-type R′.the-laws 𝓤 H A W .typed r _ is .0)) $
         -- the lifetime is ended, and the array comes back
-        move ! (1 ∷ []) $ split ! $ lft-end ! tt $ move ! (0 ∷ 3 ∷ []) $ lent-back ! tt $ rewrite ! 0 (λ (k : ℕ). ‵ (arr-parts (shares D.the-row) k .part fullShare ys l₂ 0)) nine refl $ use1 W (‵ (fat fullShare (tyArray D′.mir 9) l₂ 0 (val ys))) (row-out 𝓤 H A W 9 ys l₂) $
+        move ! (1 ∷ []) $ split ! $ lft-end ! tt $ move ! (0 ∷ 3 ∷ []) $ lent-back ! tt $ rewrite ! 0 (λ (k : ℕ). ‵ (arr-parts (shares D.the-row) k .part fullShare ys l₂ 0)) long refl $ use1 W (‵ (fat fullShare (tyArray D′.mir mostEntries) l₂ 0 (val ys))) (row-out 𝓤 H A W mostEntries ys l₂) $
         -- [_2; true; the result; _4; …; _3; …; …; _1; …; _0; …]
         returns ! (look ! 10 refl) $ forget ! 0 refl $ forget ! 3 refl $ forget ! 5 refl $ forget ! 8 refl $ forget ! 10 refl $
         move ! (10 ∷ 11 ∷ []) $ free1 ! $ move ! (8 ∷ 9 ∷ []) $ free1 ! $ move ! (0 ∷ 7 ∷ []) $ free1 ! $ move ! (4 ∷ 5 ∷ []) $ free1 ! $ move ! (2 ∷ 3 ∷ []) $ free1 ! $ free0 ! $ keep ! (1 ∷ []) $ by ! (exits r w e))))))))))))
 
 module _ {M : Type 1} (𝓤 : URA M) (H : Heap 𝓤) (A : Atoms 𝓤) (W : Given 𝓤 H A) (mem : Memory → SProp 𝓤) (run : Routine → Fun 𝓤) where
   areas-in-walks : (C : Calls 𝓤 H) (Λ : Loops 𝓤 H) → FmC 𝓤 H (W .laws) C → Triple 𝓤 (C #descriptor-list·areas-of) (AreasOf 𝓤 H A mem run) → Walks 𝓤 H A f.ended stayed (WpFn 𝓤 H C Λ code.function) (f.clauses 𝓤 H A mem run)
-  areas-in-walks C Λ fm known = walked 𝓤 H A f.ended stayed (f.clauses 𝓤 H A mem run) (WpFn 𝓤 H C Λ code.function) (λ κs. (array-vals (LL.vals D.the-type D′.the-laws), tt)) (λ κs. (array-tells D.the-row (LL.vals D.the-type D′.the-laws) (LL.tells D.the-type D′.the-laws) 9, tt))
+  areas-in-walks C Λ fm known = walked 𝓤 H A f.ended stayed (f.clauses 𝓤 H A mem run) (WpFn 𝓤 H C Λ code.function) (λ κs. (array-vals (LL.vals D.the-type D′.the-laws), tt)) (λ κs. (array-tells D.the-row (LL.vals D.the-type D′.the-laws) (LL.tells D.the-type D′.the-laws) mostEntries, tt))
       (λ κs qs bounds a g are. via 𝓤 _ (fst∗ 𝓤 _ (emp 𝓤)) (walk 𝓤 H A W mem run (a .0) (are .0) C Λ fm known))
 
 areas-in-meets : {M : Type 1} (𝓤 : URA M) (H : Heap 𝓤) (A : Atoms 𝓤) (W : Given 𝓤 H A) (mem : Memory → SProp 𝓤) (run : Routine → Fun 𝓤) (𝓣 : Tables 𝓤 H) → Triple 𝓤 (𝓣 .C #descriptor-list·areas-of) (AreasOf 𝓤 H A mem run)
     → Meets 𝓤 H A f.signature (WpFn 𝓤 H (𝓣 .C) (𝓣 .Λ) code.function) (f.spec 𝓤 H A mem run)
-areas-in-meets 𝓤 H A W mem run 𝓣 known = walk-meets 𝓤 H A f.ended stayed W (goes-dropped 𝓤 H A W 0 (ArrayOf (plain (λ _. D.the-row)) (λ _. tt) 9) yes (λ κs x f. refl), tt) (f.clauses 𝓤 H A mem run) (WpFn 𝓤 H (𝓣 .C) (𝓣 .Λ) code.function) (WpFn-mono 𝓤 H (W .laws) 𝓣 code.function)
+areas-in-meets 𝓤 H A W mem run 𝓣 known = walk-meets 𝓤 H A f.ended stayed W (goes-dropped 𝓤 H A W 0 (ArrayOf (plain (λ _. D.the-row)) (λ _. tt) mostEntries) yes (λ κs x f. refl), tt) (f.clauses 𝓤 H A mem run) (WpFn 𝓤 H (𝓣 .C) (𝓣 .Λ) code.function) (WpFn-mono 𝓤 H (W .laws) 𝓣 code.function)
     (areas-in-walks 𝓤 H A W mem run (𝓣 .C) (𝓣 .Λ) (fmOf 𝓤 H (W .laws) 𝓣) known)
 
 pub areas-in-spec : {M : Type 1} → stated.statement M

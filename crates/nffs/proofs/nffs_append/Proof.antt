@@ -15,9 +15,9 @@ use Rattle.calls.specs.declared.Descriptor.{Descriptor}
 use Rattle.descriptor_list.specs.Cut.{append-whole, appended-whole}
 use Rattle.entry_walk.proofs.Frame.{start, holding}
 use Rattle.entry_walk.proofs.Forward.{Kind, lent, list, shared, spells, tell, spelt, in-row, typed, skip, instead, follows, alike, stands, begins, resliced, reslices, at-once, goes-on}
-use Rattle.nffs.proofs.append_of as g
-use Rattle.nffs.proofs.append_of.Symbol as g-def
-use Rattle.nffs.proofs.append_of.Met as g-thm
+use Rattle.entries.proofs.append_of as g
+use Rattle.entries.proofs.append_of.Symbol as g-def
+use Rattle.entries.proofs.append_of.Met as g-thm
 use Rattle.nffs.proofs.nffs_append.Key as f-key
 use Rattle.nffs.proofs.nffs_append as f
 use Rattle.nffs.proofs.nffs_append.Statement as stated

@@ -14,9 +14,9 @@ use Rattle.calls.specs.Collect.{collectOf, imageCollected}
 use Rattle.descriptor_list.specs.Cut.{collect-whole, collected-whole}
 use Rattle.entry_walk.proofs.Frame.{start, holding}
 use Rattle.entry_walk.proofs.Forward.{Kind, lent, list, spells, tell, spelt, in-row, typed, skip, instead, follows, alike, stands, begins, resliced, reslices, at-once, goes-on}
-use Rattle.nffs.proofs.collect_of as g
-use Rattle.nffs.proofs.collect_of.Symbol as g-def
-use Rattle.nffs.proofs.collect_of.Met as g-thm
+use Rattle.entries.proofs.collect_of as g
+use Rattle.entries.proofs.collect_of.Symbol as g-def
+use Rattle.entries.proofs.collect_of.Met as g-thm
 use Rattle.nffs.proofs.nffs_collect.Key as f-key
 use Rattle.nffs.proofs.nffs_collect as f
 use Rattle.nffs.proofs.nffs_collect.Statement as stated

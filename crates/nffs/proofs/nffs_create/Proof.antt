@@ -16,9 +16,9 @@ use Rattle.calls.proofs.Created.Laws as Q′
 use Rattle.descriptor_list.specs.Cut.{create-whole, created-whole}
 use Rattle.entry_walk.proofs.Frame.{start, holding}
 use Rattle.entry_walk.proofs.Forward.{Kind, lent, list, number, shared, spells, tell, spelt, in-row, typed, skip, instead, follows, alike, stands, begins, resliced, reslices, at-once, goes-on}
-use Rattle.nffs.proofs.create_of as g
-use Rattle.nffs.proofs.create_of.Symbol as g-def
-use Rattle.nffs.proofs.create_of.Met as g-thm
+use Rattle.entries.proofs.create_of as g
+use Rattle.entries.proofs.create_of.Symbol as g-def
+use Rattle.entries.proofs.create_of.Met as g-thm
 use Rattle.nffs.proofs.nffs_create.Key as f-key
 use Rattle.nffs.proofs.nffs_create as f
 use Rattle.nffs.proofs.nffs_create.Statement as stated

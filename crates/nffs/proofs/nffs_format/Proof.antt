@@ -14,9 +14,9 @@ use Rattle.calls.specs.Format.{formatNumber, imageFormatted}
 use Rattle.descriptor_list.specs.Cut.{format-whole, formatted-whole}
 use Rattle.entry_walk.proofs.Frame.{start, holding}
 use Rattle.entry_walk.proofs.Forward.{Kind, lent, list, spells, tell, spelt, in-row, typed, skip, instead, follows, alike, stands, begins, resliced, reslices, at-once, goes-on}
-use Rattle.nffs.proofs.format_of as g
-use Rattle.nffs.proofs.format_of.Symbol as g-def
-use Rattle.nffs.proofs.format_of.Met as g-thm
+use Rattle.entries.proofs.format_of as g
+use Rattle.entries.proofs.format_of.Symbol as g-def
+use Rattle.entries.proofs.format_of.Met as g-thm
 use Rattle.nffs.proofs.nffs_format.Key as f-key
 use Rattle.nffs.proofs.nffs_format as f
 use Rattle.nffs.proofs.nffs_format.Statement as stated

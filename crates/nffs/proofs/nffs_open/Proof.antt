@@ -15,9 +15,9 @@ use Rattle.calls.proofs.Opened.Laws as Q′
 use Rattle.descriptor_list.specs.Cut.{open-whole}
 use Rattle.entry_walk.proofs.Frame.{start, holding}
 use Rattle.entry_walk.proofs.Forward.{Kind, list, shared, spells, tell, spelt, in-row, typed, skip, instead, follows, alike, stands, begins, at-once, goes-on}
-use Rattle.nffs.proofs.open_of as g
-use Rattle.nffs.proofs.open_of.Symbol as g-def
-use Rattle.nffs.proofs.open_of.Met as g-thm
+use Rattle.entries.proofs.open_of as g
+use Rattle.entries.proofs.open_of.Symbol as g-def
+use Rattle.entries.proofs.open_of.Met as g-thm
 use Rattle.nffs.proofs.nffs_open.Key as f-key
 use Rattle.nffs.proofs.nffs_open as f
 use Rattle.nffs.proofs.nffs_open.Statement as stated

@@ -49,9 +49,9 @@ use Rattle.nffs.proofs.HandleRead.Laws as N′
 use Rattle.descriptor_list.specs.Cut.{read-whole}
 use Rattle.entry_walk.proofs.Frame.{leaves}
 use Rattle.entry_walk.proofs.Forward.{Kind, shared, lent, referred, list, spells, tell, spelt, typed, Told, no-asks, clauses3, together, says3, stands, begins, lists}
-use Rattle.nffs.proofs.read_of as g
-use Rattle.nffs.proofs.read_of.Symbol as g-def
-use Rattle.nffs.proofs.read_of.Met as g-thm
+use Rattle.entries.proofs.read_of as g
+use Rattle.entries.proofs.read_of.Symbol as g-def
+use Rattle.entries.proofs.read_of.Met as g-thm
 use Rattle.nffs.proofs.nffs_read.Key as f-key
 use Rattle.nffs.proofs.nffs_read as f
 use Rattle.nffs.proofs.nffs_read.Statement as stated

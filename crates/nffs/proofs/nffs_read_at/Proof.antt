@@ -16,9 +16,9 @@ use Rattle.calls.proofs.ReadAnswer.Laws as Q′
 use Rattle.descriptor_list.specs.Cut.{read-whole}
 use Rattle.entry_walk.proofs.Frame.{start, holding}
 use Rattle.entry_walk.proofs.Forward.{Kind, lent, list, number, shared, spells, tell, spelt, in-row, typed, skip, instead, follows, alike, stands, begins, resliced, reslices, goes-on}
-use Rattle.nffs.proofs.read_at_of as g
-use Rattle.nffs.proofs.read_at_of.Symbol as g-def
-use Rattle.nffs.proofs.read_at_of.Met as g-thm
+use Rattle.entries.proofs.read_at_of as g
+use Rattle.entries.proofs.read_at_of.Symbol as g-def
+use Rattle.entries.proofs.read_at_of.Met as g-thm
 use Rattle.nffs.proofs.nffs_read_at.Key as f-key
 use Rattle.nffs.proofs.nffs_read_at as f
 use Rattle.nffs.proofs.nffs_read_at.Statement as stated

@@ -14,9 +14,9 @@ use Rattle.calls.proofs.Report.Laws as Q′
 use Rattle.descriptor_list.specs.Cut.{report-whole}
 use Rattle.entry_walk.proofs.Frame.{start, holding}
 use Rattle.entry_walk.proofs.Forward.{Kind, list, shared, spells, tell, spelt, in-row, typed, skip, instead, follows, alike, stands, begins, at-once, goes-on}
-use Rattle.nffs.proofs.report_of as g
-use Rattle.nffs.proofs.report_of.Symbol as g-def
-use Rattle.nffs.proofs.report_of.Met as g-thm
+use Rattle.entries.proofs.report_of as g
+use Rattle.entries.proofs.report_of.Symbol as g-def
+use Rattle.entries.proofs.report_of.Met as g-thm
 use Rattle.nffs.proofs.nffs_report.Key as f-key
 use Rattle.nffs.proofs.nffs_report as f
 use Rattle.nffs.proofs.nffs_report.Statement as stated
