@@ -1,5 +1,5 @@
 -- The file areas and the scratch areas among good descriptors, and whether file areas share an id.
-use Prim.Native.Nat.{ℕ, zero, suc, _+_, _*_, _≤_, _<_}
+use Prim.Native.Nat.{ℕ, suc, _+_, _*_, _≤_, _<_}
 use mathlib.Core.Path.{_≡_, refl, sym, ap, ap₂, _∙_}
 use mathlib.Core.Bool.{Bool, true, false, not, _&&_}
 use mathlib.Core.Logic.{⊎-elim}
@@ -11,7 +11,6 @@ use lib.Dec.{T, ltb, eqb, eqb→eq, leb·suc-suc}
 use borrow.Author.Tests.{lt-ltb, eq-eqb, ne-eqb}
 use Rattle.format.specs.Bytes.{Bytes}
 use Rattle.format.specs.AreaHeader.{areaHeaderSize}
-use Rattle.format_laws.specs.Record.{and-left, and-right}
 use Rattle.volume.specs.Lists.{keep, all, once}
 use Rattle.volume_laws.specs.Tests.{T→true, true→T, not-is-false}
 use Rattle.volume_laws.specs.Lists.{keep-mem, keep-whole, all-mem, mem-all, not-all, all-map}
@@ -20,7 +19,7 @@ use Rattle.calls.specs.Areas.{paired, mostAreas, goodArea, fileAreas, scratchAr
 use Rattle.calls.specs.Mount.{sharedAreaId}
 use Rattle.calls.specs.declared.Descriptor.{Descriptor}
 use Rattle.descriptors.specs.Described.{areaOf, described, described-more}
-use Rattle.descriptors.specs.Listing.{pair-step, paired-end}
+use Rattle.descriptors.specs.Listing.{pair-step, pair-holds, paired-end}
 use Rattle.descriptors.specs.Good.{Good}
 use Rattle.descriptors.specs.Steps.{pairwise, keep-takes, keep-leaves, keep-ends}
 use Rattle.areas.specs.Kinds.{fileTest, scratchTest, kindOf, idOf, HasId, file-tests, scratch-tests, invalid-tests}
@@ -143,16 +142,6 @@ pub sorting-begins : (image : Bytes) (pairs rows : List ℕ) → Sorting image p
 unfolding described
 sorting-begins image pairs rows = record { within = omega arith; few = omega arith; long = refl; files-are = refl; scratch-is = refl }
 
--- what holds of all pairs holds of the later ones
-paired-later : (f : Descriptor → Bool) (i : ℕ) (l : List ℕ) → all f (paired l) ≡ true → all f (paired (drop (i * 2) l)) ≡ true
-unfolding paired all
-paired-later f zero l e = e
-paired-later f (suc i) [] e = let z : suc i * 2 ≡ suc (suc (i * 2)) = omega arith in rw z
-paired-later f (suc i) (o ∷ []) e = let z : suc i * 2 ≡ suc (suc (i * 2)) = omega arith in rw z
-paired-later f (suc i) (o ∷ n ∷ l) e =
-    let z : suc i * 2 ≡ suc (suc (i * 2)) = omega arith in
-    rw z (paired-later f i l (and-right (f (areaOf o n)) _ e))
-
 -- one more stored
 rows-more : (n o l : ℕ) (rows : List ℕ) → n < mostAreas → spansAt + mostAreas ≤ length rows
     → rowsOf (n + 1) (set (set rows n o) (spansAt + n) l) ≡ rowsOf n rows ++ (areaOf o l ∷ [])
@@ -169,8 +158,7 @@ module _ (image : Bytes) (pairs rows₀ rows : List ℕ) (files count : ℕ) (a 
     area = areaOf (getD pairs (i * 2) 0) (getD pairs (i * 2 + 1) 0)
 
     pub area-good : goodArea (length image) area ≡ true
-    unfolding all
-    area-good = and-left (goodArea (length image) area) _ (rw (pair-step pairs i h) at (paired-later (goodArea (length image)) i pairs (room .good)))
+    area-good = pair-holds (goodArea (length image)) pairs i (room .good) h
 
     pub sorting-file : kindOf image area ≡ File
         → Sorting image pairs rows₀ (set (set rows files (getD pairs (i * 2) 0)) (spansAt + files) (getD pairs (i * 2 + 1) 0)) (files + 1) count a (i + 1)

@@ -1,8 +1,10 @@
 // Document 01, "Measured on the bench": the check's published value, and the area of 4,096 bytes, as it is and with each named flip.
+ghost use mathlib.Core.Path.{_≡_};
+ghost use lib.ListN.{length};
 use areas::HEADER_SIZE;
 use areas::next_record;
-use areas::read_area;
 use crc16::check;
+use listing::list_area;
 
 // The area's header, the root at 24, the file "a" at 44, its block of 10 at 65 and its block of 5 at 99; FF follows.
 const BENCH: [u8; 128] = [
@@ -136,6 +138,9 @@ const BENCH: [u8; 128] = [
     0x41,
 ];
 
+// More places than an area of 4,096 bytes has records: none is shorter than 20 bytes.
+const PLACES: usize = 205;
+
 const DIGITS: [u8; 9] = [0x31, 0x32, 0x33, 0x34, 0x35, 0x36, 0x37, 0x38, 0x39];
 
 fn show(word: &[u8], n: usize) {
@@ -156,8 +161,23 @@ fn show_record(at: usize, size: usize) -> usize {
     65536
 }
 
+// What the reading of an area comes to: stretches of damage, their bytes, and where free space starts.
+fn show_reading(area: &[u8])
+    requires { ⌜ length (now area) ≡ 4096 ⌝ }
+{
+    let mut places = [0u16; PLACES];
+    let pass = list_area(area, 0, &mut places[..], 0);
+    let reading = pass.reading;
+    show(b"stretches ", reading.stretches);
+    show(b" skipped ", reading.skipped);
+    show(b" free ", reading.free);
+    io::write_all(1, b"\n");
+}
+
 // The first records of an area, then what its reading comes to.
-fn show_area(area: &[u8]) {
+fn show_area(area: &[u8])
+    requires { ⌜ length (now area) ≡ 4096 ⌝ }
+{
     let mut at = HEADER_SIZE;
     let mut left: usize = 8;
     while 0 < left {
@@ -167,11 +187,7 @@ fn show_area(area: &[u8]) {
         }
         left -= 1;
     }
-    let reading = read_area(area);
-    show(b"stretches ", reading.stretches);
-    show(b" skipped ", reading.skipped);
-    show(b" free ", reading.free);
-    io::write_all(1, b"\n");
+    show_reading(area);
 }
 
 fn main() {

@@ -1,12 +1,15 @@
 -- The list of areas as it is lent, offset and length in turn: its entries one after the other, and where it ends.
 use Prim.Native.Nat.{ℕ, zero, suc, _+_, _*_, _≤_, _<_}
 use mathlib.Core.Path.{_≡_, refl, sym, ap, _∙_}
+use mathlib.Core.Bool.{Bool, true}
 use mathlib.Core.List.{List, [], _∷_, _++_, append-assoc, append-nil}
 use native.Mathlib.Omega.{arith}
 use native.Mathlib.Numerals.{add-one}
 use lib.ListN.{length, take, drop, getD, length-append, length-drop, length-take}
 use lib.Seq.{drop-cons, length-take-le, take-add}
 use borrow.Author.Tests.{eq-eqb, ne-eqb}
+use Rattle.format_laws.specs.Record.{and-left, and-right}
+use Rattle.volume.specs.Lists.{all}
 use Rattle.calls.specs.Areas.{listed, paired}
 use Rattle.calls.specs.declared.Descriptor.{Descriptor}
 use Rattle.descriptors.specs.Described.{areaOf}
@@ -32,6 +35,21 @@ module _ (areas : List ℕ) (k : ℕ) where
 pub pair-step : (areas : List ℕ) (i : ℕ) → i * 2 + 1 < length areas
     → paired (drop (i * 2) areas) ≡ areaOf (getD areas (i * 2) 0) (getD areas (i * 2 + 1) 0) ∷ paired (drop ((i + 1) * 2) areas)
 pair-step areas i h = let e : (i + 1) * 2 ≡ i * 2 + 2 = omega arith in rw e (paired-step areas (i * 2) h)
+
+-- what holds of all entries holds of the later ones, and of the entry i
+paired-later : (f : Descriptor → Bool) (i : ℕ) (l : List ℕ) → all f (paired l) ≡ true → all f (paired (drop (i * 2) l)) ≡ true
+unfolding paired all
+paired-later f zero l e = e
+paired-later f (suc i) [] e = let z : suc i * 2 ≡ suc (suc (i * 2)) = omega arith in rw z
+paired-later f (suc i) (o ∷ []) e = let z : suc i * 2 ≡ suc (suc (i * 2)) = omega arith in rw z
+paired-later f (suc i) (o ∷ n ∷ l) e =
+    let z : suc i * 2 ≡ suc (suc (i * 2)) = omega arith in
+    rw z (paired-later f i l (and-right (f (areaOf o n)) _ e))
+
+pub pair-holds : (f : Descriptor → Bool) (areas : List ℕ) (i : ℕ) → all f (paired areas) ≡ true → i * 2 + 1 < length areas
+    → f (areaOf (getD areas (i * 2) 0) (getD areas (i * 2 + 1) 0)) ≡ true
+unfolding all
+pair-holds f areas i e h = and-left (f (areaOf (getD areas (i * 2) 0) (getD areas (i * 2 + 1) 0))) _ (rw (pair-step areas i h) at (paired-later f i areas e))
 
 -- as many pairs as half the numbers
 pub paired-length : (k : ℕ) (l : List ℕ) → length l ≡ k * 2 → length (paired l) ≡ k

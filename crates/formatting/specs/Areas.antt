@@ -1,5 +1,5 @@
 -- The areas of a format, written one after the other.
-use Prim.Native.Nat.{ℕ, max, _+_, _-_, _≤_, _<_}
+use Prim.Native.Nat.{ℕ, max, _+_, _*_, _-_, _≤_, _<_}
 use mathlib.Core.Path.{_≡_, refl, sym, ap, _∙_}
 use mathlib.Core.Bool.{Bool, true, false, cond, false≢true}
 use mathlib.Core.List.{List, [], _∷_, _++_}
@@ -7,31 +7,38 @@ use native.Mathlib.Omega.{arith}
 use native.Mathlib.Numerals.{add-one}
 use native.Mathlib.Nat.{le-trans, le-of-lt, le-max-left, max-eq-left, max-eq-right, zero-max, max-zero}
 use borrow.Author.Tests.{leb-true, leb-false}
-use lib.ListN.{length, getD, drop, length-append, length-replicate, drop-of-length-le}
-use lib.Seq.{drop-cons}
+use lib.ListN.{length, getD, drop, length-append, length-replicate}
 use lib.Dec.{eqb, leb}
 use Rattle.format.specs.Bytes.{Bytes}
 use Rattle.format.specs.Reading.{ERASED}
 use Rattle.format.specs.AreaHeader.{areaHeaderSize, scratchId}
 use Rattle.format.specs.Encoding.{areaHeader}
 use Rattle.format_laws.specs.Encoding.{header-size}
+use Rattle.volume.specs.Lists.{all}
+use Rattle.calls.specs.Areas.{paired, mostAreas, largestImage, goodArea}
 use Rattle.calls.specs.Image.{put, erased}
 use Rattle.calls.specs.Format.{emptyArea, longestLength, Labelled, numbered, labelled, blanked, rooted, rootBytes}
 use Rattle.calls.specs.declared.Descriptor.{Descriptor}
 use Rattle.flash.specs.Laws.{length-put}
 use Rattle.flash.specs.Stores.{put-erased}
-use Rattle.descriptors.specs.Described.{areaOf, described, described-step, described-end}
-use Rattle.descriptors.specs.Good.{Good, Fits, fits-at}
+use Rattle.descriptors.specs.Described.{areaOf}
+use Rattle.descriptors.specs.Listing.{pair-step, pair-holds, paired-end}
+use Rattle.descriptors.specs.Good.{Fits, fits}
 
--- the areas of a good list, few enough for one byte of id each, and their image
-pub record Lent (image : Bytes) (os ls : List ℕ) : Type 0 where
-  pub small : length image ≤ 65536
-  pub few : length os ≤ 8
-  pub good : Good (length image) os ls
+-- good areas as pairs, few enough for one byte of id each, and their image
+pub record Lent (image : Bytes) (pairs : List ℕ) : Type 0 where
+  pub small : length image ≤ largestImage
+  pub few : length pairs ≤ mostAreas * 2
+  pub good : all (goodArea (length image)) (paired pairs) ≡ true
 
 -- an image of the same length
-pub lent-kept : {x y : Bytes} {os ls : List ℕ} → length y ≡ length x → Lent x os ls → Lent y os ls
+pub lent-kept : {x y : Bytes} {pairs : List ℕ} → length y ≡ length x → Lent x pairs → Lent y pairs
 lent-kept e l = record { small = rw e (l .small); few = l .few; good = rw e (l .good) }
+
+-- the area i of the list
+pub lent-fits : {x : Bytes} {pairs : List ℕ} → Lent x pairs → (i : ℕ) → i * 2 + 1 < length pairs
+    → Fits (length x) (areaOf (getD pairs (i * 2) 0) (getD pairs (i * 2 + 1) 0))
+lent-fits {x} {pairs} l i h = fits (length x) _ (pair-holds (goodArea (length x)) pairs i (l .good) h)
 
 -- ---- one area
 
@@ -45,17 +52,6 @@ headed x o n count id h g =
 
 -- ---- the longest
 
-unfoldable pub longestOf : List ℕ → ℕ
-longestOf [] = 0
-longestOf (n ∷ l) = max n (longestOf l)
-
-pub longest-described : (os ls : List ℕ) → length os ≡ length ls → longestOf ls ≡ longestLength (described os ls)
-unfolding longestOf longestLength described
-longest-described [] [] e = refl
-longest-described [] (n ∷ ls) e = absurd (omega arith)
-longest-described (o ∷ os) [] e = absurd (omega arith)
-longest-described (o ∷ os) (n ∷ ls) e = ap (max n) (longest-described os ls (omega arith))
-
 -- of three numbers, the first or the second adds nothing
 max-over : (a b c : ℕ) → a ≤ b → max a (max b c) ≡ max b c
 max-over a b c h = max-eq-right (le-trans h (le-max-left b c))
@@ -68,27 +64,27 @@ max-under a b c h = go (leb b c) refl
     go false e = let l = leb-false b c e in ap (max a) (max-eq-left (le-of-lt l)) ∙ max-eq-left h ∙ sym (max-eq-left (omega arith))
 
 -- the longest of the first i areas, and of those that are left
-pub record Growing (ls : List ℕ) (most i : ℕ) : Type 0 where
-  pub whole : max most (longestOf (drop i ls)) ≡ longestOf ls
+pub record Growing (pairs : List ℕ) (most i : ℕ) : Type 0 where
+  pub whole : max most (longestLength (paired (drop (i * 2) pairs))) ≡ longestLength (paired pairs)
 
-module _ (ls : List ℕ) where
-  pub growing-begins : Growing ls 0 0
-  growing-begins = record { whole = zero-max (longestOf ls) }
+module _ (pairs : List ℕ) where
+  pub growing-begins : Growing pairs 0 0
+  growing-begins = record { whole = zero-max (longestLength (paired pairs)) }
 
-  module _ (most i : ℕ) (g : Growing ls most i) where
-    next : i < length ls → max most (max (getD ls i 0) (longestOf (drop (i + 1) ls))) ≡ longestOf ls
-    unfolding longestOf
-    next h = rw add-one (rw (drop-cons ls i 0 h) at (g .whole))
+  module _ (most i : ℕ) (g : Growing pairs most i) where
+    next : i * 2 + 1 < length pairs → max most (max (getD pairs (i * 2 + 1) 0) (longestLength (paired (drop ((i + 1) * 2) pairs)))) ≡ longestLength (paired pairs)
+    unfolding longestLength
+    next h = rw (pair-step pairs i h) at (g .whole)
 
-    pub growing-longer : i < length ls → most < getD ls i 0 → Growing ls (getD ls i 0) (i + 1)
+    pub growing-longer : i * 2 + 1 < length pairs → most < getD pairs (i * 2 + 1) 0 → Growing pairs (getD pairs (i * 2 + 1) 0) (i + 1)
     growing-longer h l = record { whole = sym (max-over most _ _ (omega arith)) ∙ next h }
 
-    pub growing-not : i < length ls → getD ls i 0 ≤ most → Growing ls most (i + 1)
+    pub growing-not : i * 2 + 1 < length pairs → getD pairs (i * 2 + 1) 0 ≤ most → Growing pairs most (i + 1)
     growing-not h l = record { whole = sym (max-under most _ _ l) ∙ next h }
 
-    pub growing-ends : length ls ≤ i → most ≡ longestOf ls
-    unfolding longestOf
-    growing-ends h = rw (drop-of-length-le ls h, max-zero) at (g .whole)
+    pub growing-ends : length pairs ≤ i * 2 + 1 → most ≡ longestLength (paired pairs)
+    unfolding longestLength
+    growing-ends h = rw (paired-end pairs (i * 2) h, max-zero) at (g .whole)
 
 -- ---- all areas
 
@@ -102,28 +98,28 @@ labels true most n ds = numbered n ds
 labels false most n ds = labelled most n ds
 
 -- the image x is what the format makes of x₀ in so many areas
-pub record Writing (x₀ : Bytes) (os ls : List ℕ) (most : ℕ) (x : Bytes) (placed : Bool) (next i : ℕ) : Type 0 where
+pub record Writing (x₀ : Bytes) (pairs : List ℕ) (most : ℕ) (x : Bytes) (placed : Bool) (next i : ℕ) : Type 0 where
   pub few : next ≤ i
   pub long : length x ≡ length x₀
-  pub left : blanked x (labels placed most next (described (drop i os) (drop i ls))) ≡ blanked x₀ (labelled most 0 (described os ls))
+  pub left : blanked x (labels placed most next (paired (drop (i * 2) pairs))) ≡ blanked x₀ (labelled most 0 (paired pairs))
 
-module _ (x₀ : Bytes) (os ls : List ℕ) (most : ℕ) where
-  pub writing-begins : Writing x₀ os ls most x₀ false 0 0
+module _ (x₀ : Bytes) (pairs : List ℕ) (most : ℕ) where
+  pub writing-begins : Writing x₀ pairs most x₀ false 0 0
   unfolding labels
   writing-begins = record { few = omega arith; long = refl; left = refl }
 
-  module _ (x : Bytes) (placed : Bool) (next i : ℕ) (w : Writing x₀ os ls most x placed next i) (l : Lent x₀ os ls) where
+  module _ (x : Bytes) (placed : Bool) (next i : ℕ) (w : Writing x₀ pairs most x placed next i) (l : Lent x₀ pairs) where
     abbrev o : ℕ
-    o = getD os i 0
+    o = getD pairs (i * 2) 0
 
     abbrev n : ℕ
-    n = getD ls i 0
+    n = getD pairs (i * 2 + 1) 0
 
     -- the area of a turn
-    writing-fits : i < length os → Fits (length x) (areaOf o n)
-    writing-fits h = rw (w .long) (fits-at (length x₀) os ls (l .good) i h)
+    writing-fits : i * 2 + 1 < length pairs → Fits (length x) (areaOf o n)
+    writing-fits h = rw (w .long) (lent-fits l i h)
 
-    pub writing-room : i < length os → (o + n ≤ length x) × (areaHeaderSize ≤ n) × (length x ≤ 65536)
+    pub writing-room : i * 2 + 1 < length pairs → (o + n ≤ length x) × (areaHeaderSize ≤ n) × (length x ≤ largestImage)
     writing-room h =
         let f = writing-fits h in
         let a = f .long in
@@ -132,7 +128,7 @@ module _ (x₀ : Bytes) (os ls : List ℕ) (most : ℕ) where
         let d = w .long in
         (b, omega arith, omega arith)
 
-    step : (id : ℕ) → i < length os → length (put x o (emptyArea n 0 id)) ≡ length x₀
+    step : (id : ℕ) → i * 2 + 1 < length pairs → length (put x o (emptyArea n 0 id)) ≡ length x₀
     unfolding emptyArea
     step id h =
         let f = writing-fits h in
@@ -143,16 +139,16 @@ module _ (x₀ : Bytes) (os ls : List ℕ) (most : ℕ) where
         length-put x o (areaHeader n 0 id ++ erased (n - areaHeaderSize)) (omega (arith, header-size n 0 id)) ∙ w .long
 
     abbrev rest : List Descriptor
-    rest = described (drop (i + 1) os) (drop (i + 1) ls)
+    rest = paired (drop ((i + 1) * 2) pairs)
 
     -- one area more
-    ahead : {id : ℕ} {later : List Labelled} → i < length os
+    ahead : {id : ℕ} {later : List Labelled} → i * 2 + 1 < length pairs
         → labels placed most next (areaOf o n ∷ rest) ≡ record { area = areaOf o n; id = id } ∷ later
-        → blanked (put x o (emptyArea n 0 id)) later ≡ blanked x₀ (labelled most 0 (described os ls))
+        → blanked (put x o (emptyArea n 0 id)) later ≡ blanked x₀ (labelled most 0 (paired pairs))
     unfolding blanked
-    ahead h e = rw (described-step os ls i (l .good .pairs) h, e) at (w .left)
+    ahead h e = rw (pair-step pairs i h, e) at (w .left)
 
-    pub writing-scratch : i < length os → scratchHere placed n most ≡ true → Writing x₀ os ls most (put x o (emptyArea n 0 scratchId)) true next (i + 1)
+    pub writing-scratch : i * 2 + 1 < length pairs → scratchHere placed n most ≡ true → Writing x₀ pairs most (put x o (emptyArea n 0 scratchId)) true next (i + 1)
     unfolding labels labelled numbered
     writing-scratch h e = record { few = omega (arith, w .few); long = step scratchId h; left = ahead h (go placed e) }
       where
@@ -161,7 +157,7 @@ module _ (x₀ : Bytes) (os ls : List ℕ) (most : ℕ) where
         go true c = absurd (false≢true c)
         go false c = rw c
 
-    pub writing-file : i < length os → scratchHere placed n most ≡ false → Writing x₀ os ls most (put x o (emptyArea n 0 next)) placed (next + 1) (i + 1)
+    pub writing-file : i * 2 + 1 < length pairs → scratchHere placed n most ≡ false → Writing x₀ pairs most (put x o (emptyArea n 0 next)) placed (next + 1) (i + 1)
     unfolding labels labelled numbered
     writing-file h e = record { few = omega (arith, w .few); long = step next h; left = ahead h (go placed e) }
       where
@@ -170,11 +166,11 @@ module _ (x₀ : Bytes) (os ls : List ℕ) (most : ℕ) where
         go true c = rw (add-one next)
         go false c = rw (c, add-one next)
 
-    pub writing-ends : length os ≤ i → x ≡ blanked x₀ (labelled most 0 (described os ls))
+    pub writing-ends : length pairs ≤ i * 2 + 1 → x ≡ blanked x₀ (labelled most 0 (paired pairs))
     unfolding blanked labelled numbered labels
-    writing-ends h = go placed (rw (described-end os ls i h) at (w .left))
+    writing-ends h = go placed (rw (paired-end pairs (i * 2) h) at (w .left))
       where
-        go : (p : Bool) → blanked x (labels p most next []) ≡ blanked x₀ (labelled most 0 (described os ls)) → x ≡ blanked x₀ (labelled most 0 (described os ls))
+        go : (p : Bool) → blanked x (labels p most next []) ≡ blanked x₀ (labelled most 0 (paired pairs)) → x ≡ blanked x₀ (labelled most 0 (paired pairs))
         go true e = e
         go false e = e
 
@@ -190,18 +186,18 @@ first-small n most = go (eqb n most)
     go true = omega arith
     go false = omega arith
 
-pub root-put : (x : Bytes) (os ls : List ℕ) (most : ℕ) → length os ≡ length ls → 2 ≤ length os
-    → put x (getD os (firstFile (getD ls 0 0) most) 0 + areaHeaderSize) rootBytes ≡ rooted x (labelled most 0 (described os ls))
-unfolding rooted labelled numbered described
-root-put x [] ls most e h = absurd (omega arith)
-root-put x (o ∷ []) ls most e h = absurd (omega arith)
-root-put x (o ∷ p ∷ os) [] most e h = absurd (omega arith)
-root-put x (o ∷ p ∷ os) (n ∷ []) most e h = absurd (omega arith)
-root-put x (o ∷ p ∷ os) (n ∷ m ∷ ls) most e h = go (eqb n most)
+pub root-put : (x : Bytes) (pairs : List ℕ) (most : ℕ) → 4 ≤ length pairs
+    → put x (getD pairs (firstFile (getD pairs 1 0) most * 2) 0 + areaHeaderSize) rootBytes ≡ rooted x (labelled most 0 (paired pairs))
+unfolding rooted labelled numbered paired
+root-put x [] most h = absurd (omega arith)
+root-put x (o ∷ []) most h = absurd (omega arith)
+root-put x (o ∷ n ∷ []) most h = absurd (omega arith)
+root-put x (o ∷ n ∷ p ∷ []) most h = absurd (omega arith)
+root-put x (o ∷ n ∷ p ∷ m ∷ l) most h = go (eqb n most)
   where
-    go : (t : Bool) → put x (getD (o ∷ p ∷ os) (cond t 1 0) 0 + areaHeaderSize) rootBytes
+    go : (t : Bool) → put x (getD (o ∷ n ∷ p ∷ m ∷ l) (cond t 1 0 * 2) 0 + areaHeaderSize) rootBytes
         ≡ rooted x
-        (cond t (record { area = areaOf o n; id = scratchId } ∷ numbered 0 (described (p ∷ os) (m ∷ ls)))
-        (record { area = areaOf o n; id = 0 } ∷ labelled most 1 (described (p ∷ os) (m ∷ ls))))
+        (cond t (record { area = areaOf o n; id = scratchId } ∷ numbered 0 (paired (p ∷ m ∷ l)))
+        (record { area = areaOf o n; id = 0 } ∷ labelled most 1 (paired (p ∷ m ∷ l))))
     go true = refl
     go false = refl

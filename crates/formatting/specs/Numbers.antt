@@ -1,19 +1,20 @@
 -- The number of a format and the image after it, by the areas listed.
-use Prim.Native.Nat.{ℕ, _≤_}
+use Prim.Native.Nat.{ℕ, _*_, _≤_}
 use mathlib.Core.Path.{_≡_, ap, sym, _∙_}
 use mathlib.Core.Bool.{true, false}
 use mathlib.Core.List.{List}
 use native.Mathlib.Omega.{arith}
-use lib.ListN.{length, take, length-take}
+use lib.ListN.{length, take}
+use lib.Seq.{length-take-le}
 use lib.Dec.{ltb}
 use borrow.Author.Tests.{lt-ltb, le-ltb}
 use Rattle.format.specs.Bytes.{Bytes}
-use Rattle.calls.specs.Areas.{mostAreas}
+use Rattle.calls.specs.Areas.{paired, areaList}
 use Rattle.calls.specs.Refusal.{firstRefusal}
 use Rattle.calls.specs.Mount.{badDescription}
 use Rattle.calls.specs.Format.{formatNumber, formatted, imageFormatted}
 use Rattle.calls.specs.declared.Descriptor.{Descriptor}
-use Rattle.descriptors.specs.Described.{described, described-length}
+use Rattle.descriptors.specs.Listing.{paired-length}
 use Rattle.descriptors.specs.Description.{GoodList, description-good, listed-good}
 use Rattle.formatting.specs.Areas.{Lent}
 
@@ -34,33 +35,32 @@ module _ (image : Bytes) (ds : List Descriptor) where
   unfolding formatNumber imageFormatted firstRefusal
   enough e f = (simp (e, f), simp (e, f))
 
-  module _ (n : ℕ) (os ls : List ℕ) (g : GoodList image ds n os ls) (a : length os ≡ mostAreas) (b : length ls ≡ mostAreas) where
-    pub format-bad : n ≡ 0 → Outcome 1 image
-    format-bad e = bad (g .refused e)
+module _ (image : Bytes) (areas : List ℕ) (n : ℕ) (g : GoodList image areas n) where
+  pub format-bad : n ≡ 0 → Outcome image (areaList areas) 1 image
+  format-bad e = bad image (areaList areas) (g .refused e)
 
-    module _ (some : n ≡ 0 → ⊥) where
-      count : length ds ≡ n
-      count =
-          let w = g .within in
-          ap length (sym (g .is some))
-          ∙ described-length (take n os) (take n ls) (omega (arith, length-take n os, length-take n ls))
-          ∙ omega (arith, length-take n os)
+  module _ (some : n ≡ 0 → ⊥) where
+    long : length (take (n * 2) areas) ≡ n * 2
+    long = length-take-le (n * 2) areas (g .within)
 
-      pub format-few : n ≡ 1 → Outcome 3 image
-      format-few e = few (g .passed some) (lt-ltb (length ds) 2 (omega (arith, count)))
+    count : length (areaList areas) ≡ n
+    count = ap length (sym (g .is some)) ∙ paired-length n (take (n * 2) areas) long
 
-      pub format-lent : (n ≡ 1 → ⊥) → Lent image (take n os) (take n ls) × (2 ≤ length (take n os))
-      format-lent h =
-          let w = g .within in (
-            record {
-              small = description-good image ds (g .passed some) .small;
-              few = omega (arith, length-take n os);
-              good = listed-good image ds n os ls g some a b;
-            },
-            omega (arith, length-take n os),
-          )
+    pub format-few : n ≡ 1 → Outcome image (areaList areas) 3 image
+    format-few e = few image (areaList areas) (g .passed some) (lt-ltb (length (areaList areas)) 2 (omega (arith, count)))
 
-      pub format-done : (n ≡ 1 → ⊥) → (x : Bytes) → x ≡ formatted image (described (take n os) (take n ls)) → Outcome 0 x
-      format-done h x e =
-          let o = enough (g .passed some) (le-ltb (length ds) 2 (omega (arith, count))) in
+    module _ (more : n ≡ 1 → ⊥) where
+      pub format-lent : Lent image (take (n * 2) areas) × (4 ≤ length (take (n * 2) areas))
+      format-lent = (
+        record {
+          small = description-good image (areaList areas) (g .passed some) .small;
+          few = omega (arith, g .few, long);
+          good = listed-good image areas n g some;
+        },
+        omega (arith, long),
+      )
+
+      pub format-done : (x : Bytes) → x ≡ formatted image (paired (take (n * 2) areas)) → Outcome image (areaList areas) 0 x
+      format-done x e =
+          let o = enough image (areaList areas) (g .passed some) (le-ltb (length (areaList areas)) 2 (omega (arith, count))) in
           (o .0, e ∙ ap (formatted image) (g .is some) ∙ o .1)

@@ -1,31 +1,26 @@
-// Format: every described area erased and headed, and the root in the first file area.
+// Format: every described area erased and headed, and the root in the first file area. The areas are pairs of numbers, as they are lent.
 ghost use mathlib.Core.Path.{_≡_};
 ghost use Prim.Native.Nat.{_+_, _≤_};
 ghost use lib.ListN.{length};
 ghost use Rattle.format.specs.AreaHeader.{areaHeaderSize};
-ghost use Rattle.calls.specs.Areas.{areaList};
+ghost use Rattle.calls.specs.Areas.{paired, areaList, largestImage};
 ghost use Rattle.calls.specs.Image.{put};
-ghost use Rattle.calls.specs.Format.{emptyArea, labelled, blanked, rooted, formatted, formatNumber, imageFormatted};
-ghost use Rattle.descriptors.specs.Described.{described};
-ghost use Rattle.formatting.specs.Areas.{Lent, longestOf, scratchHere, firstFile};
+ghost use Rattle.calls.specs.Format.{emptyArea, longestLength, labelled, blanked, rooted, formatted, formatNumber, imageFormatted};
+ghost use Rattle.formatting.specs.Areas.{Lent, scratchHere, firstFile};
 use areas::HEADER_SIZE;
 use areas::SCRATCH_ID;
-use descriptors::MOST_AREAS;
-use descriptors::list_good_areas;
+use calls::BAD_AREAS;
+use calls::NO_FILE_OR_SCRATCH;
+use descriptors::count_good_areas;
 use encode::write_area_header;
 use encode::write_inode;
 use flash::erase;
 use records::InodeHeader;
 use records::NONE;
 
-// The numbers of refusal: a bad image or list; fewer than two areas.
-const BAD_DESCRIPTION: u32 = 1;
-
-const FEW_AREAS: u32 = 3;
-
 // Erases an area and writes its header.
 pub fn write_area(image: &mut [u8], offset: u32, span: u32, count: u8, id: u8)
-    requires { ⌜ (offset + span ≤ length (now image)) × (areaHeaderSize ≤ span) × (length (now image) ≤ 65536) ⌝ }
+    requires { ⌜ (offset + span ≤ length (now image)) × (areaHeaderSize ≤ span) × (length (now image) ≤ largestImage) ⌝ }
     ensures { λ _. ⌜ now (image .exit) ≡ put (now (image .entry)) offset (emptyArea span count id) ⌝ }
 {
     let at = offset as usize;
@@ -34,13 +29,13 @@ pub fn write_area(image: &mut [u8], offset: u32, span: u32, count: u8, id: u8)
 }
 
 // The length of the longest area.
-fn longest(lengths: &[u32]) -> u32
-    ensures { λ r. ⌜ r ≡ longestOf (now (lengths .entry)) ⌝ }
+fn longest(pairs: &[u32]) -> u32
+    ensures { λ r. ⌜ r ≡ longestLength (paired (now (pairs .entry))) ⌝ }
 {
     let mut most = 0;
     let mut i = 0;
-    while i < lengths.len() {
-        let length = lengths[i];
+    while i < pairs.len() / 2 {
+        let length = pairs[i * 2 + 1];
         if most < length {
             most = length;
             i += 1;
@@ -62,16 +57,16 @@ fn is_scratch(placed: bool, span: u32, most: u32) -> bool
 }
 
 // Writes all areas: the first of the longest is scratch, the others have ids in order.
-fn write_areas(image: &mut [u8], offsets: &[u32], lengths: &[u32], most: u32)
-    requires { ⌜ Lent (now image) (now offsets) (now lengths) ⌝ }
-    ensures { λ _. ⌜ now (image .exit) ≡ blanked (now (image .entry)) (labelled most 0 (described (now (offsets .entry)) (now (lengths .entry)))) ⌝ }
+fn write_areas(image: &mut [u8], pairs: &[u32], most: u32)
+    requires { ⌜ Lent (now image) (now pairs) ⌝ }
+    ensures { λ _. ⌜ now (image .exit) ≡ blanked (now (image .entry)) (labelled most 0 (paired (now (pairs .entry)))) ⌝ }
 {
     let mut placed = false;
     let mut next: u8 = 0;
     let mut i = 0;
-    while i < offsets.len() {
-        let offset = offsets[i];
-        let span = lengths[i];
+    while i < pairs.len() / 2 {
+        let offset = pairs[i * 2];
+        let span = pairs[i * 2 + 1];
         if is_scratch(placed, span, most) {
             write_area(&mut *image, offset, span, 0, SCRATCH_ID);
             placed = true;
@@ -95,10 +90,10 @@ fn first_file(span: u32, most: u32) -> usize
 }
 
 // Writes the root into the first file area.
-fn write_root(image: &mut [u8], offsets: &[u32], lengths: &[u32], most: u32)
-    requires { ⌜ Lent (now image) (now offsets) (now lengths) ⌝ }
-    requires { ⌜ 2 ≤ length (now offsets) ⌝ }
-    ensures { λ _. ⌜ now (image .exit) ≡ rooted (now (image .entry)) (labelled most 0 (described (now (offsets .entry)) (now (lengths .entry)))) ⌝ }
+fn write_root(image: &mut [u8], pairs: &[u32], most: u32)
+    requires { ⌜ Lent (now image) (now pairs) ⌝ }
+    requires { ⌜ 4 ≤ length (now pairs) ⌝ }
+    ensures { λ _. ⌜ now (image .exit) ≡ rooted (now (image .entry)) (labelled most 0 (paired (now (pairs .entry)))) ⌝ }
 {
     let root = InodeHeader {
         id: 0,
@@ -106,20 +101,20 @@ fn write_root(image: &mut [u8], offsets: &[u32], lengths: &[u32], most: u32)
         parent: NONE,
         length: 0,
     };
-    let first = first_file(lengths[0], most);
-    let at = offsets[first] as usize + HEADER_SIZE;
+    let first = first_file(pairs[1], most);
+    let at = pairs[first * 2] as usize + HEADER_SIZE;
     write_inode(&mut *image, at, root, b"");
 }
 
 // Formats two or more good areas.
-fn format_areas(image: &mut [u8], offsets: &[u32], lengths: &[u32])
-    requires { ⌜ Lent (now image) (now offsets) (now lengths) ⌝ }
-    requires { ⌜ 2 ≤ length (now offsets) ⌝ }
-    ensures { λ _. ⌜ now (image .exit) ≡ formatted (now (image .entry)) (described (now (offsets .entry)) (now (lengths .entry))) ⌝ }
+fn format_areas(image: &mut [u8], pairs: &[u32])
+    requires { ⌜ Lent (now image) (now pairs) ⌝ }
+    requires { ⌜ 4 ≤ length (now pairs) ⌝ }
+    ensures { λ _. ⌜ now (image .exit) ≡ formatted (now (image .entry)) (paired (now (pairs .entry))) ⌝ }
 {
-    let most = longest(lengths);
-    write_areas(&mut *image, offsets, lengths, most);
-    write_root(&mut *image, offsets, lengths, most);
+    let most = longest(pairs);
+    write_areas(&mut *image, pairs, most);
+    write_root(&mut *image, pairs, most);
 }
 
 // Formats the image under a list of areas; answers the number of refusal, or 0.
@@ -127,15 +122,14 @@ pub fn format(image: &mut [u8], areas: &[u32]) -> u32
     ensures number { λ r. ⌜ r ≡ formatNumber (now (image .entry)) (areaList (now (areas .entry))) ⌝ }
     ensures image { λ _. ⌜ now (image .exit) ≡ imageFormatted (now (image .entry)) (areaList (now (areas .entry))) ⌝ }
 {
-    let mut offsets = [0u32; MOST_AREAS];
-    let mut lengths = [0u32; MOST_AREAS];
-    let n = list_good_areas(&*image, areas, &mut offsets[..], &mut lengths[..]);
+    let n = count_good_areas(&*image, areas);
     if n == 0 {
-        return BAD_DESCRIPTION;
+        return BAD_AREAS;
     }
     if n == 1 {
-        return FEW_AREAS;
+        return NO_FILE_OR_SCRATCH;
     }
-    format_areas(&mut *image, &offsets[..n], &lengths[..n]);
+    let end = n * 2;
+    format_areas(&mut *image, &areas[0..end]);
     0
 }

@@ -1,19 +1,21 @@
 -- What the tables of a mounted volume tell of the volume that the calls speak of: places for bytes, and parts for slices.
-use Prim.Native.Nat.{ℕ, _+_, _-_, _≤_}
+use Prim.Native.Nat.{ℕ, _+_, _-_, _≤_, _<_}
 use mathlib.Core.Path.{_≡_, sym, ap, ap₂, _∙_}
 use mathlib.Core.List.{List}
 use native.Mathlib.Omega.{arith}
 use lib.ListN.{length, take, drop, length-take}
+use lib.Seq.{getD-take}
 use Rattle.format.specs.Bytes.{Bytes}
 use Rattle.volume.specs.View.{byBytes}
-use Rattle.volume.specs.Counting.{inodeOf}
+use Rattle.volume.specs.Counting.{inodeOf, volumeOf}
 use Rattle.volume.specs.Counting.{inodeIds as inodesSeen}
 use Rattle.volume.specs.Tree.{children, lookupNames}
-use Rattle.volume_laws.specs.Map.{over, lookupNames-map, children-map, inodeOf-map, inodeIds-map}
-use Rattle.place_view.specs.Place.{byPlace, bytesAt}
+use Rattle.volume_laws.specs.Map.{over, overVolume, lookupNames-map, children-map, inodeOf-map, inodeIds-map}
+use Rattle.place_view.specs.Place.{byPlace, bytesAt, AllLie}
 use Rattle.place_view.specs.Laws.{place-views}
 use Rattle.calls.specs.Areas.{mostAreas, fileAreas}
-use Rattle.calls.specs.Mount.{mostBlocks, volume}
+use Rattle.calls.specs.Mount.{mostBlocks, mostRecords, volume}
+use Rattle.calls.specs.Storing.{namedIds}
 use Rattle.calls.specs.declared.Descriptor.{Descriptor}
 use Rattle.descriptors.specs.Described.{described}
 use Rattle.listing.specs.Listing.{Fit}
@@ -22,7 +24,7 @@ use Rattle.listing.specs.Rows.{spansAt}
 use Rattle.table.specs.Parts.{part-long, lent, lent-front, both}
 use Rattle.table.specs.Laws.{rows-number}
 use Rattle.table.specs.Rows.{InodeTable, BlockTable, RowsOf}
-use Rattle.mounted.specs.State.{inodeIds, inodeSpots, inodeIdsAt, inodeSpotsAt, blockIdsAt, blockSpotsAt, Safe, Holds}
+use Rattle.mounted.specs.State.{inodeIds, inodeSpots, inodeIdsAt, inodeSpotsAt, blockIdsAt, blockSpotsAt, Safe, Holds, SafePlaces, HoldsPlaces}
 use Rattle.mounted.specs.declared.Mounted.{Mounted}
 
 -- the volume of the calls, by the places of its records
@@ -80,3 +82,18 @@ module _ {image : Bytes} {ds : List Descriptor} {m : Mounted} {t : List ℕ} (s 
       sym inode-rows-long
       ∙ rows-number (byPlace image) (placedVolume image ds .inodes) (length (inodeIds m t)) (inodeIds m t) (inodeSpots m t) (h .inodes) (omega arith)
       ∙ ap length (ids-are image ds)
+
+-- ---- the places of all records, as `&places[0..records]` lends them
+
+pub places-lent : {image : Bytes} {m : Mounted} {ps : List ℕ} → SafePlaces image m ps
+    → AllLie image (take (m .records - 0) ps) (length (take (m .records - 0) ps)) × (length (take (m .records - 0) ps) ≤ mostRecords)
+places-lent {image} {m} {ps} s =
+    let e = length-take (m .records - 0) ps in (
+      λ i h. let k : i < m .records - 0 = omega arith in rw (getD-take (m .records - 0) ps i 0 k) (s .lie i (omega arith)),
+      omega (arith, s .records-few),
+    )
+
+-- what they name is what the volume names
+pub names-lent : (image : Bytes) (ds : List Descriptor) (m : Mounted) (ps : List ℕ) → HoldsPlaces image ds m ps
+    → namedIds (overVolume (bytesAt image) (volumeOf (byPlace image) (take (m .records - 0) ps))) ≡ namedIds (volume image ds)
+names-lent image ds m ps h = rw (lent-front (m .records) ps, h) (ap namedIds (sym (volume-places image ds)))

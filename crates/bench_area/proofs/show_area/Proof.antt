@@ -5,10 +5,10 @@ use Rattle.bench_area.proofs.show_area.Statement.{statement}
 use Rattle.bench_area.proofs.show_area.Tie as tie
 
 abbrev Inv-loop : tie.InvT-loop
-Inv-loop area at₀ left₀ t6 t7 t8 t9 at left = left ≤ 8
+Inv-loop area at₀ left₀ at left = left ≤ 8
 
 abbrev μ-loop : tie.MeasureT-loop
-μ-loop area at₀ left₀ t6 t7 t8 t9 at left = left
+μ-loop area at₀ left₀ at left = left
 
 pub show-area-spec : {M : Type 1} → statement M
 show-area-spec =
@@ -21,14 +21,6 @@ show-area-spec =
     (λ c κs. search needs)
     (λ c. search needs)
     (λ c. search needs)
-    (λ c. search needs)
-    (λ c κs. search needs)
-    (λ c. search needs)
-    (λ c κs. search needs)
-    (λ c. search needs)
-    (λ c κs. search needs)
-    (λ c. search needs)
-    (λ c κs. search needs)
     (λ c. search needs)
     (λ c κs. search needs)
     (λ c. search needs))

@@ -1,74 +1,60 @@
+-- `creating::create_in` meets its contract.
+use mathlib.Core.Path.{ap, _∙_}
+use native.Mathlib.Omega.{arith}
+use lib.ListN.{length-take}
 use borrow.Author.Needs.{needs}
+use Rattle.calls.specs.Areas.{fileAreas}
+use Rattle.calls.specs.Mount.{volume}
+use Rattle.calls.specs.Storing.{spaces, unusedId}
+use Rattle.mounted.specs.Bridge.{places-lent, names-lent}
+use Rattle.creating.specs.Creating.{made, not-made}
 use Rattle.creating.proofs.create_in.Statement.{statement}
 use Rattle.creating.proofs.create_in.Tie as tie
-use Rattle.creating.proofs.create_in.Reads as reads
-use Rattle.creating.proofs.create_in.Lts as lts
-use Rattle.creating.proofs.first_id.Reads as first-id-reads
-use Rattle.creating.proofs.not_created.Reads as not-created-reads
-use Rattle.inode_store.proofs.store_inode.Reads as store-inode-reads
-use Rattle.unused_ids.proofs.unused_id.Reads as unused-id-reads
 
--- src/lib.rt:66:33
-sub-unused-id : tie.Need-sub-unused-id
-sub-unused-id c = search needs
+-- the arguments, from where the id was chosen
+abbrev start : tie.After-unused-id → tie.Start
+start u = u .before .before .before .before .before .before .before .before
 
--- src/lib.rt:66:33
-part-unused-id-start : tie.Need-part-unused-id-start
-part-unused-id-start c = search needs
-
--- src/lib.rt:66:33
-part-unused-id-end : tie.Need-part-unused-id-end
-part-unused-id-end c = search needs
-
--- src/lib.rt:66:54
-first-id-requires : tie.Need-first-id-requires
-first-id-requires c κs = search needs
-
--- src/lib.rt:66:9
 unused-id-requires : tie.Need-unused-id-requires
-unused-id-requires c κs = ?
+unused-id-requires c κs =
+    let s = c .before .before .before .before .before .before .before in
+    let p = places-lent (s .pre .1 .0) in
+    (p .0, (p .1, c .first-id .ensures .1))
 
--- src/lib.rt:71:17
-cast-t18 : tie.Need-cast-t18
-cast-t18 c = search needs
-
--- src/lib.rt:73:9
-store-inode-requires : tie.Need-store-inode-requires
-store-inode-requires c κs = search needs
-
--- src/lib.rt:75:9
-not-created-requires : tie.Need-not-created-requires
-not-created-requires c κs = search needs
-
--- src/lib.rt:75:9
-same-length : tie.Need-same-length
-same-length c = search needs
-
--- src/lib.rt:75:9
 returns : tie.Need-returns
-returns c = ?
+returns c =
+    let t = c .before in
+    let k = t .before .before .before in
+    let u = k .before .before in
+    let s = start u in
+    λ ds h l. not-made (s .args .image .now) (volume (s .args .image .now) ds) (s .args .kind) (s .args .directory) (s .args .name .now)
+    (spaces (s .args .image .now) (fileAreas (s .args .image .now) ds)) (u .before .first-id .result) (u .unused-id .result)
+    (u .before .first-id .ensures .0) (u .unused-id .ensures ∙ ap (unusedId (u .before .first-id .result)) (names-lent (s .args .image .now) ds (s .args .m) (s .args .places .now) l)) (k .store-inode .result)
+    (k .store-inode .ensures ds h .0) _ (k .store-inode .ensures ds h .1) (t .if1 .taken) (c .not-created .result) (c .not-created .ensures)
 
--- src/lib.rt:51:1
-same-length-2 : tie.Need-same-length-2
-same-length-2 c = search needs
-
--- src/lib.rt:51:1
 returns-2 : tie.Need-returns-2
-returns-2 c = ?
+returns-2 c =
+    let k = c .before .before .before in
+    let u = k .before .before in
+    let s = start u in
+    λ ds h l. made (s .args .image .now) (volume (s .args .image .now) ds) (s .args .kind) (s .args .directory) (s .args .name .now)
+    (spaces (s .args .image .now) (fileAreas (s .args .image .now) ds)) (u .before .first-id .result) (u .unused-id .result)
+    (u .before .first-id .ensures .0) (u .unused-id .ensures ∙ ap (unusedId (u .before .first-id .result)) (names-lent (s .args .image .now) ds (s .args .m) (s .args .places .now) l)) (k .store-inode .result)
+    (k .store-inode .ensures ds h .0) _ (k .store-inode .ensures ds h .1) (c .if1 .left)
 
 pub create-in-spec : {M : Type 1} → statement M
 create-in-spec =
     tie.close
     (tie.spec
-    sub-unused-id
-    part-unused-id-start
-    part-unused-id-end
-    first-id-requires
+    (λ c. search needs)
+    (λ c. search needs)
+    (λ c. search needs)
+    (λ c κs. search needs)
     unused-id-requires
-    cast-t18
-    store-inode-requires
-    not-created-requires
-    same-length
+    (λ c. search needs)
+    (λ c κs. search needs)
+    (λ c κs. search needs)
+    (λ c. search needs)
     returns
-    same-length-2
+    (λ c. search needs)
     returns-2)

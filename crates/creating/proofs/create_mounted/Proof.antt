@@ -1,106 +1,99 @@
+-- `creating::create_mounted` meets its contract.
+use mathlib.Core.Path.{ap}
 use borrow.Author.Needs.{needs}
+use Rattle.lookup.specs.Found.{meaning}
+use Rattle.tree.specs.Parent.{below-found}
+use Rattle.creating.specs.Creating.{create-absent, create-fails, create-full, create-stored}
 use Rattle.creating.proofs.create_mounted.Statement.{statement}
 use Rattle.creating.proofs.create_mounted.Tie as tie
-use Rattle.creating.proofs.create_mounted.Reads as reads
-use Rattle.creating.proofs.create_mounted.Lts as lts
-use Rattle.creating.proofs.create_in.Reads as create-in-reads
-use Rattle.creating.proofs.not_created.Reads as not-created-reads
-use Rattle.lookup.proofs.Found.refusal.Reads as refusal-reads
-use Rattle.tree.proofs.find_parent.Reads as find-parent-reads
-use Rattle.tree.proofs.last_name.Reads as last-name-reads
-use Rattle.tree.proofs.name_refusal.Reads as name-refusal-reads
 
--- src/lib.rt:94:9
-find-parent-requires : tie.Need-find-parent-requires
-find-parent-requires c κs = search needs
+-- the arguments, from where the parent was looked for; and the ways there
+abbrev start : tie.After-find-parent → tie.Start
+start f = f .before .before .before .before .before .before .before
 
--- src/lib.rt:95:22
-enum-known-found : tie.Need-enum-known-found
-enum-known-found c = search needs
+abbrev at-name : tie.After-name-refusal → tie.After-last-name
+at-name q = q .before .before
 
--- src/lib.rt:96:28
-enum-told : tie.Need-enum-told
-enum-told c = search needs
+abbrev at-found : tie.After-last-name → tie.After-found
+at-found n = n .before .before
 
--- src/lib.rt:96:28
-refusal-requires : tie.Need-refusal-requires
-refusal-requires c κs = search needs
+abbrev at-parent : tie.After-found → tie.After-find-parent
+at-parent k = k .before .before
 
--- src/lib.rt:96:9
-not-created-requires : tie.Need-not-created-requires
-not-created-requires c κs = search needs
-
--- src/lib.rt:96:9
-same-length : tie.Need-same-length
-same-length c = search needs
-
--- src/lib.rt:96:9
 returns : tie.Need-returns
-returns c = ?
+returns c =
+    let q = c .before in
+    let t = q .before in
+    let f = t .before .before in
+    let s = start f in
+    λ ds h l. create-absent (s .pre .0) h (s .args .base .now) (s .args .path .now) (s .args .kind) (meaning (f .find-parent .result)) (f .find-parent .ensures .0 ds h)
+    (t .enum-told .given .0 .0) (ap meaning (t .enum-told .given .1)) (q .refusal .result) (q .refusal .ensures) (c .not-created .result) (c .not-created .ensures)
 
--- src/lib.rt:98:9
 last-name-requires : tie.Need-last-name-requires
-last-name-requires c κs = ?
+last-name-requires c κs =
+    let k = c .before in
+    let f = at-parent k in
+    let s = start f in
+    below-found (s .args .base .now) (s .args .path .now) (f .find-parent .result) (f .find-parent .ensures .1) (k .found .given .0 .0) _ (k .found .given .1)
 
--- src/lib.rt:99:9
-name-refusal-requires : tie.Need-name-refusal-requires
-name-refusal-requires c κs = search needs
-
--- src/lib.rt:101:9
-not-created-requires-2 : tie.Need-not-created-requires-2
-not-created-requires-2 c κs = search needs
-
--- src/lib.rt:101:9
-same-length-2 : tie.Need-same-length-2
-same-length-2 c = search needs
-
--- src/lib.rt:101:9
 returns-2 : tie.Need-returns-2
-returns-2 c = ?
+returns-2 c =
+    let t = c .before in
+    let q = t .before in
+    let n = at-name q in
+    let k = at-found n in
+    let f = at-parent k in
+    let s = start f in
+    λ ds h l. create-fails (s .pre .0) h (s .args .base .now) (s .args .path .now) (s .args .kind) (meaning (f .find-parent .result)) (f .find-parent .ensures .0 ds h)
+    (k .found .given .0 .0) (ap meaning (k .found .given .1)) _ (n .last-name .ensures .0) (q .name-refusal .result) (q .name-refusal .ensures ds h) (t .if1 .taken)
+    (c .not-created2 .result) (c .not-created2 .ensures)
 
--- src/lib.rt:104:9
-not-created-requires-3 : tie.Need-not-created-requires-3
-not-created-requires-3 c κs = search needs
-
--- src/lib.rt:104:9
-same-length-3 : tie.Need-same-length-3
-same-length-3 c = search needs
-
--- src/lib.rt:104:9
 returns-3 : tie.Need-returns-3
-returns-3 c = ?
+returns-3 c =
+    let t = c .before in
+    let e = t .before .before in
+    let q = e .before in
+    let n = at-name q in
+    let k = at-found n in
+    let f = at-parent k in
+    let s = start f in
+    λ ds h l. create-full (s .pre .0) h (s .args .base .now) (s .args .path .now) (s .args .kind) (meaning (f .find-parent .result)) (f .find-parent .ensures .0 ds h)
+    (k .found .given .0 .0) (ap meaning (k .found .given .1)) _ (n .last-name .ensures .0) (q .name-refusal .result) (q .name-refusal .ensures ds h) (e .if1 .left)
+    (t .if2 .taken) (c .not-created3 .result) (c .not-created3 .ensures)
 
--- src/lib.rt:106:5
-create-in-requires : tie.Need-create-in-requires
-create-in-requires c κs = search needs
-
--- src/lib.rt:81:1
-same-length-4 : tie.Need-same-length-4
-same-length-4 c = search needs
-
--- src/lib.rt:81:1
 returns-4 : tie.Need-returns-4
-returns-4 c = ?
+returns-4 c =
+    let d = c .before .before in
+    let t = d .before .before in
+    let e = t .before .before in
+    let q = e .before in
+    let n = at-name q in
+    let k = at-found n in
+    let f = at-parent k in
+    let s = start f in
+    λ ds h l. create-stored (s .pre .0) h (s .args .base .now) (s .args .path .now) (s .args .kind) (meaning (f .find-parent .result)) (f .find-parent .ensures .0 ds h)
+    (k .found .given .0 .0) (ap meaning (k .found .given .1)) _ (n .last-name .ensures .0) (q .name-refusal .result) (q .name-refusal .ensures ds h) (e .if1 .left)
+    (t .if2 .left) (d .create-in .result) _ (d .create-in .ensures ds h l .0) (d .create-in .ensures ds h l .1)
 
 pub create-mounted-spec : {M : Type 1} → statement M
 create-mounted-spec =
     tie.close
     (tie.spec
-    find-parent-requires
-    enum-known-found
-    enum-told
-    refusal-requires
-    not-created-requires
-    same-length
+    (λ c κs. search needs)
+    (λ c. search needs)
+    (λ c. search needs)
+    (λ c κs. search needs)
+    (λ c κs. search needs)
+    (λ c. search needs)
     returns
     last-name-requires
-    name-refusal-requires
-    not-created-requires-2
-    same-length-2
+    (λ c κs. search needs)
+    (λ c κs. search needs)
+    (λ c. search needs)
     returns-2
-    not-created-requires-3
-    same-length-3
+    (λ c κs. search needs)
+    (λ c. search needs)
     returns-3
-    create-in-requires
-    same-length-4
+    (λ c κs. search needs)
+    (λ c. search needs)
     returns-4)

@@ -1,7 +1,7 @@
 -- `formatting::format_areas` meets its contract.
 use mathlib.Core.Path.{_∙_}
 use Rattle.calls.specs.Format.{formatted}
-use Rattle.formatting.specs.Areas.{lent-kept, longest-described}
+use Rattle.formatting.specs.Areas.{lent-kept}
 use borrow.Author.Needs.{needs}
 use Rattle.formatting.proofs.format_areas.Statement.{statement}
 use Rattle.formatting.proofs.format_areas.Tie as tie
@@ -9,7 +9,7 @@ use Rattle.formatting.proofs.format_areas.Tie as tie
 write-root-requires : tie.Need-write-root-requires
 write-root-requires c κs =
     let w = c .before .before .before in
-    let s = w .before .before .before .before .before .before in
+    let s = w .before .before .before .before .before in
     (lent-kept (w .write-areas .kept .0) (s .pre .0), s .pre .1)
 
 returns : tie.Need-returns
@@ -18,9 +18,7 @@ returns c =
     let r = c .before .before in
     let w = r .before .before .before .before in
     let m = w .before .before in
-    let s = m .before .before .before .before in
-    let e = m .longest .ensures ∙ longest-described (s .args .offsets .now) (s .args .lengths .now) (s .pre .0 .good .pairs) in
-    r .write-root .ensures ∙ rw (w .write-areas .ensures, e)
+    r .write-root .ensures ∙ rw (w .write-areas .ensures, m .longest .ensures)
 
 pub format-areas-spec : {M : Type 1} → statement M
 format-areas-spec =

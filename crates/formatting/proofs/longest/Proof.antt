@@ -8,16 +8,16 @@ use Rattle.formatting.proofs.longest.Statement.{statement}
 use Rattle.formatting.proofs.longest.Tie as tie
 
 abbrev Inv-loop : tie.InvT-loop
-Inv-loop lengths most₀ i₀ most i = Growing lengths most i
+Inv-loop pairs most₀ i₀ most i = Growing pairs most i
 
 abbrev μ-loop : tie.MeasureT-loop
-μ-loop lengths most₀ i₀ most i = length lengths - i
+μ-loop pairs most₀ i₀ most i = length pairs - i
 
 loop-again : tie.Need-loop-again Inv-loop μ-loop
-loop-again c = let l = c .before .before in growing-longer _ _ _ (l .before .loop .inv) (l .loop-test .taken) (c .if1 .taken)
+loop-again c = let l = c .before .before in growing-longer _ _ _ (l .before .loop .inv) (omega arith) (c .if1 .taken)
 
 loop-again-2 : tie.Need-loop-again-2 Inv-loop μ-loop
-loop-again-2 c = let l = c .before .before in growing-not _ _ _ (l .before .loop .inv) (l .loop-test .taken) (omega (arith, c .if1 .left))
+loop-again-2 c = let l = c .before .before in growing-not _ _ _ (l .before .loop .inv) (omega arith) (omega (arith, c .if1 .left))
 
 returns : tie.Need-returns Inv-loop μ-loop
 returns c = growing-ends _ _ _ (c .before .loop .inv) (omega (arith, c .loop-test .left))
@@ -29,7 +29,9 @@ longest-spec =
     Inv-loop
     μ-loop
     (λ c. growing-begins _)
-    (λ c. search needs)
+    (λ c. omega arith)
+    (λ c. omega arith)
+    (λ c. omega arith)
     (λ c. omega arith)
     (λ c. omega arith)
     (λ c. omega arith)

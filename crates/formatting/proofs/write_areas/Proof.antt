@@ -1,34 +1,35 @@
 -- `formatting::write_areas` meets its contract.
-use Prim.Native.Nat.{_+_, _-_, _≤_, _<_}
+use Prim.Native.Nat.{_+_, _*_, _-_, _≤_, _<_}
 use mathlib.Core.Path.{sym, _∙_}
 use native.Mathlib.Omega.{arith}
 use lib.ListN.{length, getD}
 use Rattle.format.specs.AreaHeader.{areaHeaderSize}
+use Rattle.calls.specs.Areas.{largestImage}
 use Rattle.formatting.specs.Areas.{Writing, writing-begins, writing-room, writing-scratch, writing-file, writing-ends}
 use borrow.Author.Needs.{needs}
 use Rattle.formatting.proofs.write_areas.Statement.{statement}
 use Rattle.formatting.proofs.write_areas.Tie as tie
 
 abbrev Inv-loop : tie.InvT-loop
-Inv-loop image₀ offsets lengths most placed₀ next₀ i₀ image placed next i = Writing image₀ offsets lengths most image placed next i
+Inv-loop image₀ pairs most placed₀ next₀ i₀ image placed next i = Writing image₀ pairs most image placed next i
 
 abbrev μ-loop : tie.MeasureT-loop
-μ-loop image₀ offsets lengths most placed₀ next₀ i₀ image placed next i = length offsets - i
+μ-loop image₀ pairs most placed₀ next₀ i₀ image placed next i = length pairs - i
 
 abbrev start : tie.At-loop Inv-loop μ-loop → tie.Start Inv-loop μ-loop
-start l = l .before .before .before .before
+start l = l .before .before .before
 
 loop-holds : tie.Need-loop-holds Inv-loop μ-loop
-loop-holds c = writing-begins _ _ _ _
+loop-holds c = writing-begins _ _ _
 
-pairs : (c : tie.In-loop Inv-loop μ-loop) → c .before .loop .i < length (start (c .before) .args .lengths .now)
-pairs c = omega (arith, c .loop-test .taken, start (c .before) .pre .good .pairs)
-
--- the area of a turn has room for its header and lies in the image
+-- the area of a turn is in the list, has room for its header and lies in the image
 module _ (c : tie.In-loop Inv-loop μ-loop) where
-  room : (getD (start (c .before) .args .offsets .now) (c .before .loop .i) 0 + getD (start (c .before) .args .lengths .now) (c .before .loop .i) 0 ≤ length (c .before .loop .image))
-      × (areaHeaderSize ≤ getD (start (c .before) .args .lengths .now) (c .before .loop .i) 0) × (length (c .before .loop .image) ≤ 65536)
-  room = writing-room _ _ _ _ _ _ _ _ (c .before .loop .inv) (start (c .before) .pre) (c .loop-test .taken)
+  here : c .before .loop .i * 2 + 1 < length (start (c .before) .args .pairs .now)
+  here = omega (arith, c .loop-test .taken)
+
+  room : (getD (start (c .before) .args .pairs .now) (c .before .loop .i * 2) 0 + getD (start (c .before) .args .pairs .now) (c .before .loop .i * 2 + 1) 0 ≤ length (c .before .loop .image))
+      × (areaHeaderSize ≤ getD (start (c .before) .args .pairs .now) (c .before .loop .i * 2 + 1) 0) × (length (c .before .loop .image) ≤ largestImage)
+  room = writing-room _ _ _ _ _ _ _ (c .before .loop .inv) (start (c .before) .pre) here
 
 write-area-requires : tie.Need-write-area-requires Inv-loop μ-loop
 write-area-requires c κs = room (c .before .before .before .before .before)
@@ -41,7 +42,7 @@ loop-again c =
     let n = s .before .before .before in
     let l = n .before in
     rw (w .write-area .ensures)
-    (writing-scratch _ _ _ _ _ _ _ _ (l .loop .inv) (start l .pre) (n .loop-test .taken) (sym (s .is-scratch .ensures) ∙ t .if1 .taken))
+    (writing-scratch _ _ _ _ _ _ _ (l .loop .inv) (start l .pre) (here n) (sym (s .is-scratch .ensures) ∙ t .if1 .taken))
 
 write-area-requires-2 : tie.Need-write-area-requires-2 Inv-loop μ-loop
 write-area-requires-2 c κs = room (c .before .before .before .before .before)
@@ -61,10 +62,10 @@ loop-again-2 c =
     let n = s .before .before .before in
     let l = n .before in
     rw (w .write-area2 .ensures)
-    (writing-file _ _ _ _ _ _ _ _ (l .loop .inv) (start l .pre) (n .loop-test .taken) (sym (s .is-scratch .ensures) ∙ t .if1 .left))
+    (writing-file _ _ _ _ _ _ _ (l .loop .inv) (start l .pre) (here n) (sym (s .is-scratch .ensures) ∙ t .if1 .left))
 
 returns : tie.Need-returns Inv-loop μ-loop
-returns c = writing-ends _ _ _ _ _ _ _ _ (c .before .loop .inv) (start (c .before) .pre) (omega (arith, c .loop-test .left))
+returns c = writing-ends _ _ _ _ _ _ _ (c .before .loop .inv) (start (c .before) .pre) (omega (arith, c .loop-test .left))
 
 pub write-areas-spec : {M : Type 1} → statement M
 write-areas-spec =
@@ -73,10 +74,13 @@ write-areas-spec =
     Inv-loop
     μ-loop
     loop-holds
-    (λ c. search needs)
-    (λ c. omega (arith, c .before .loop-test .taken))
-    (λ c. search needs)
-    (λ c. omega (arith, pairs (c .before .before)))
+    (λ c. omega arith)
+    (λ c. omega arith)
+    (λ c. omega arith)
+    (λ c. omega arith)
+    (λ c. omega arith)
+    (λ c. omega arith)
+    (λ c. omega arith)
     (λ c κs. search needs)
     write-area-requires
     (λ c. omega arith)

@@ -1,36 +1,39 @@
 -- `formatting::write_root` meets its contract.
-use Prim.Native.Nat.{_+_, _≤_, _<_}
+use Prim.Native.Nat.{_+_, _*_, _≤_, _<_}
 use mathlib.Core.Path.{refl, _∙_}
 use native.Mathlib.Omega.{arith}
 use lib.ListN.{length, getD}
-use Rattle.descriptors.specs.Good.{fits-at}
-use Rattle.formatting.specs.Areas.{first-small, root-put}
+use Rattle.calls.specs.Areas.{shortestArea, largestImage}
+use Rattle.formatting.specs.Areas.{lent-fits, first-small, root-put}
 use borrow.Author.Needs.{needs}
 use Rattle.formatting.proofs.write_root.Statement.{statement}
 use Rattle.formatting.proofs.write_root.Tie as tie
 
 abbrev start : tie.After-first-file → tie.Start
-start f = f .before .before .before .before .before
+start f = f .before .before .before .before
 
 -- the first file area is in the list, and has room for the root
 record Place (f : tie.After-first-file) : Type 0 where
-  within : f .first-file .result < length (start f .args .offsets .now)
-  room : getD (start f .args .offsets .now) (f .first-file .result) 0 + 128 ≤ length (start f .args .image .now)
-  small : length (start f .args .image .now) ≤ 65536
+  within : f .first-file .result * 2 < length (start f .args .pairs .now)
+  few : f .first-file .result ≤ 1
+  room : getD (start f .args .pairs .now) (f .first-file .result * 2) 0 + shortestArea ≤ length (start f .args .image .now)
+  small : length (start f .args .image .now) ≤ largestImage
 
 place : (f : tie.After-first-file) → Place f
 place f =
     let s = start f in
     let e = f .first-file .ensures in
-    let m = first-small (getD (s .args .lengths .now) 0 0) (s .args .most) in
-    let h : f .first-file .result < length (s .args .offsets .now) = omega (arith, s .pre .1) in
-    let k = fits-at _ _ _ (s .pre .0 .good) (f .first-file .result) h in
+    let m = first-small (getD (s .args .pairs .now) 1 0) (s .args .most) in
+    let k = lent-fits (s .pre .0) (f .first-file .result) (omega (arith, s .pre .1)) in
     let a = k .long in
     let b = k .inside in
-    record { within = h; room = omega arith; small = s .pre .0 .small }
+    record { within = omega (arith, s .pre .1); few = omega arith; room = omega arith; small = s .pre .0 .small }
 
 mul-at : tie.Need-mul-at
-mul-at c = let p = place c in let a = p .within in search needs
+mul-at c = let p = place c in omega (arith, p .few)
+
+mul-at-2 : tie.Need-mul-at-2
+mul-at-2 c = let p = place c in omega (arith, p .few)
 
 shared-slice-read-at : tie.Need-shared-slice-read-at
 shared-slice-read-at c = place (c .before) .within
@@ -51,7 +54,7 @@ returns c =
     let s = start f in
     w .write-inode .ensures
     ∙ rw (f .first-file .ensures)
-    (root-put (s .args .image .now) (s .args .offsets .now) (s .args .lengths .now) (s .args .most) (s .pre .0 .good .pairs) (s .pre .1))
+    (root-put (s .args .image .now) (s .args .pairs .now) (s .args .most) (s .pre .1))
 
 pub write-root-spec : {M : Type 1} → statement M
 write-root-spec =
@@ -60,6 +63,7 @@ write-root-spec =
     (λ c. search needs)
     (λ c κs. search needs)
     mul-at
+    mul-at-2
     shared-slice-read-at
     cast-at
     add-at

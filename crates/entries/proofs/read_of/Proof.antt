@@ -1,4 +1,4 @@
--- `nffs::read_of` meets its contract: the position that a read ends at is a 32-bit number, and the handle is moved behind what was given.
+-- `entries::read_of` meets its contract: the position that a read ends at is a 32-bit number, and the handle is moved behind what was given.
 use Prim.Native.Nat.{ℕ, _+_, _<_, _^_}
 use mathlib.Core.Path.{_≡_}
 use native.Mathlib.Omega.{arith}
@@ -9,8 +9,8 @@ use Rattle.calls.specs.Read.{Given, given, refused, readGiven, readAnswer, hand
 use Rattle.calls.specs.declared.Handle.{Handle}
 use Rattle.calls.specs.declared.ReadAnswer.{ReadAnswer}
 use Rattle.calls_laws.specs.Reads.{EndsSoon, read-ends}
-use Rattle.nffs.proofs.read_of.Statement.{statement}
-use Rattle.nffs.proofs.read_of.Tie as tie
+use Rattle.entries.proofs.read_of.Statement.{statement}
+use Rattle.entries.proofs.read_of.Tie as tie
 
 ends-fit : (g : Given) (position : ℕ) (r : ReadAnswer) → position < 2 ^ 32 → EndsSoon position g → r ≡ readAnswer g → position + r .given < 2 ^ 32
 ends-fit (given bytes headers) position r h s e = rw e (omega arith)
