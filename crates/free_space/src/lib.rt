@@ -22,8 +22,7 @@ pub enum Place {
     Nowhere,
 }
 
-// Puts the free space of the clean areas, in the order of their rows, into the first places of `froms` and `ends`; answers how many there are.
-// A damaged area is left out: it waits for collection.
+// Puts the free space of the clean areas, in the order of their rows, into `froms` and `ends`; answers how many there are. A damaged area waits for collection.
 pub fn find_spaces(tables: &[u32], files: usize, froms: &mut [u32], ends: &mut [u32]) -> usize
     requires { ⌜ AreaRows files (now tables) ⌝ }
     requires { ⌜ (files ≤ length (now froms)) × (files ≤ length (now ends)) ⌝ }
