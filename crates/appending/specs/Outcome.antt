@@ -43,10 +43,8 @@ use Rattle.calls.specs.Append.{
   imageAppended,
 }
 use Rattle.calls.specs.declared.Descriptor.{Descriptor}
-use Rattle.listing.specs.Listing.{placesIn}
 use Rattle.listing.specs.Bridge.{placedVolume, volume-places}
 use Rattle.lookup.specs.Found.{refusalOf}
-use Rattle.unused_ids.specs.Window.{namedAt}
 use Rattle.pieces.specs.Cut.{pieces, shortest-described}
 use Rattle.pieces.specs.Plan.{records-count}
 use Rattle.mounted.specs.State.{starts, spans, blockIdsAt, Safe, Holds}
@@ -101,13 +99,10 @@ module _ (image : Bytes) (ds : List Descriptor) (text : Bytes) where
 
 -- ---- what the code found of it
 
-module _ {image : Bytes} {ds : List Descriptor} {m : Mounted} {t : List ℕ} (s : Safe image m t) (h : Holds image ds m t) (records : List ℕ)
-    (l : records ≡ placesIn image (fileAreas image ds)) (f : ℕ) (text : Bytes) (file : isDirectoryId f ≡ false) where
+module _ {image : Bytes} {ds : List Descriptor} {m : Mounted} {t : List ℕ} (s : Safe image m t) (h : Holds image ds m t) (f : ℕ) (text : Bytes)
+    (file : isDirectoryId f ≡ false) where
   by-bytes : volume image ds ≡ overVolume (bytesAt image) (placedVolume image ds)
   by-bytes = volume-places image ds
-
-  names-are : namedIds (volume image ds) ≡ namedAt image records
-  names-are = rw (by-bytes, l)
 
   pieces-are : piecesOf (fileAreas image ds) text ≡ pieces (sizeFor m t) text
   unfolding piecesOf
@@ -135,12 +130,12 @@ module _ {image : Bytes} {ds : List Descriptor} {m : Mounted} {t : List ℕ} (s 
         let k = lastBlock-map (byPlace image) byBytes (bytesAt image) (place-views image) (placedVolume image ds) f in
         ap orNone (ap (λ v. lastBlock byBytes v f) by-bytes ∙ k ∙ some-whole image (placedVolume image ds) f last e .1)
 
-    new-are : newBlocks image ds f text ≡ blockRecords (namedAt image records) f last (pieces (sizeFor m t) text)
+    new-are : newBlocks image ds f text ≡ blockRecords (namedIds (volume image ds)) f last (pieces (sizeFor m t) text)
     unfolding newBlocks
-    new-are = rw (names-are, last-is, pieces-are)
+    new-are = rw (last-is, pieces-are)
 
     new-count : length (newBlocks image ds f text) ≡ length (pieces (sizeFor m t) text)
-    new-count = ap length new-are ∙ records-count (namedAt image records) f last (pieces (sizeFor m t) text)
+    new-count = ap length new-are ∙ records-count (namedIds (volume image ds)) f last (pieces (sizeFor m t) text)
 
     module _ (count : ℕ) (c : count ≡ length (pieces (sizeFor m t) text)) where
       -- there are too many blocks
@@ -148,12 +143,12 @@ module _ {image : Bytes} {ds : List Descriptor} {m : Mounted} {t : List ℕ} (s 
       out-full g = to-full image ds text f file whole (lt-ltb mostBlocks (length (blockIds byBytes (volume image ds)) + length (newBlocks image ds f text)) (omega (arith, blocks-are, new-count)))
 
       -- or the pieces were written
-      pub out-written : m .blocks + count ≤ mostBlocks → (r : ℕ) (x : Bytes)
-          → Written image (spaces image (fileAreas image ds)) (namedAt image records) (record { file = f; last = last; size = sizeFor m t; count = count }) text r x
+      pub out-written : m .blocks + count ≤ mostBlocks → (r : ℕ) (x : Bytes) (names : List ℕ) → names ≡ namedIds (volume image ds)
+          → Written image (spaces image (fileAreas image ds)) names (record { file = f; last = last; size = sizeFor m t; count = count }) text r x
           → Outcome image ds text (appendWhere image ds text (found f)) r x
-      out-written g r x w =
+      out-written g r x names q w =
           to-written image ds text f file whole (le-ltb mostBlocks (length (blockIds byBytes (volume image ds)) + length (newBlocks image ds f text)) (omega (arith, blocks-are, new-count))) r x
-          (rw new-are (w .number)) (rw new-are (w .stored))
+          (rw (new-are, ← q) (w .number)) (rw (new-are, ← q) (w .stored))
 
 -- ---- the whole append
 

@@ -1,24 +1,21 @@
 -- What became of the pieces of an append: all are stored, or none.
-use Prim.Native.Nat.{ℕ, _-_, _≤_, _<_}
+use Prim.Native.Nat.{ℕ, _≤_, _<_}
 use mathlib.Core.Path.{_≡_, ap, _∙_}
 use mathlib.Core.Bool.{cond}
 use mathlib.Core.List.{List}
 use mathlib.Core.Option.{none, some}
 use native.Mathlib.Omega.{arith}
-use lib.ListN.{length, take, length-take}
-use lib.Seq.{getD-take}
+use lib.ListN.{length}
 use Rattle.format.specs.Bytes.{Bytes}
 use Rattle.format.specs.Record.{longestData}
 use Rattle.format.specs.BlockSize.{greatestBlock}
 use Rattle.format_laws.specs.BlockSize.{block-bounds}
-use Rattle.place_view.specs.Place.{AllLie}
 use Rattle.calls.specs.Areas.{shortestArea}
-use Rattle.calls.specs.Mount.{mostRecords}
 use Rattle.calls.specs.Storing.{Space, placeAll, storeAll, noPlace, storedOr}
 use Rattle.calls.specs.Append.{blockRecords}
 use Rattle.table.specs.Parts.{part-long}
 use Rattle.listing.specs.Rows.{spansAt}
-use Rattle.mounted.specs.State.{spans, Safe, SafePlaces}
+use Rattle.mounted.specs.State.{spans, Safe}
 use Rattle.mounted.specs.declared.Mounted.{Mounted}
 use Rattle.pieces.specs.Cut.{pieces, mostPieces, shortestOf, shortest-long}
 use Rattle.pieces.specs.Plan.{idsFor, placesFor, storesOf, storesAt, blocks-placed, ids-count, Planned}
@@ -42,18 +39,6 @@ module _ {image : Bytes} {m : Mounted} {t : List ℕ} (s : Safe image m t) where
 
   pub size-bounds : (1 ≤ sizeFor m t) × (sizeFor m t ≤ longestData)
   size-bounds = block-bounds (shortestOf (spans m t)) shortest-bound
-
--- ---- the places of the records, as `&places[0..n]` lends them
-
-module _ {image : Bytes} {m : Mounted} {places : List ℕ} (s : SafePlaces image m places) where
-  front-long : length (take (m .records - 0) places) ≡ m .records
-  front-long = length-take (m .records - 0) places ∙ omega (arith, s .few)
-
-  pub records-lie : AllLie image (take (m .records - 0) places) (length (take (m .records - 0) places))
-  records-lie i h = rw (getD-take (m .records - 0) places i 0 (omega (arith, front-long))) (s .lie i (omega (arith, front-long)))
-
-  pub records-few : length (take (m .records - 0) places) ≤ mostRecords
-  records-few = omega (arith, front-long, s .records-few)
 
 -- ---- what is planned and written
 

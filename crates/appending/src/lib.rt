@@ -77,8 +77,7 @@ fn piece_size(image: &[u8], tables: &[u32], m: Mounted) -> usize
     greatest_block(shortest(&tables[SPANS..end]))
 }
 
-// Writes the pieces of the text as blocks of the file, all or none: their places and ids are all found before the first store.
-// Lent are an id and a place for each piece, to plan in.
+// Writes the pieces of the text as blocks of the file, all or none: an id and a place for each is found, in what is lent to plan in, before the first store.
 fn write_pieces(
     image: &mut [u8],
     tables: &[u32],

@@ -1,11 +1,11 @@
 -- The free space that the rows of areas tell, and what it is in a mounted volume.
-use Prim.Native.Nat.{ℕ, zero, suc, min, _+_, _-_, _≤_, _<_}
+use Prim.Native.Nat.{ℕ, zero, suc, _+_, _-_, _≤_, _<_}
 use mathlib.Core.Path.{_≡_, refl, sym, ap, _∙_}
 use mathlib.Core.Logic.{_≢_}
 use mathlib.Core.Bool.{Bool, true, false, cond}
 use mathlib.Core.List.{List, [], _∷_, _++_, append-nil, append-assoc}
 use native.Mathlib.Omega.{arith}
-use lib.ListN.{length, take, drop, getD, set, length-take, length-drop, length-set}
+use lib.ListN.{length, take, drop, getD, set, length-set}
 use lib.Seq.{getD-take, getD-drop, drop-cons}
 use lib.Dec.{eqb}
 use borrow.Author.Tests.{eq-eqb, ne-eqb}
@@ -25,12 +25,12 @@ use Rattle.mounted.specs.declared.Mounted.{Mounted}
 use Rattle.free_space.specs.declared.Place.{Place}
 use Rattle.free_space.specs.Spaces.{spacesOf, fitOf, placeOf, placeIn, place-of-fit, fit-place, EndsAt, spaces-more, Within}
 
--- where the area of a row ends, and its free space; it starts no later than that, whatever the row says
+-- where the area of a row ends, and where its free space starts
 abbrev pub endAt : List ℕ → ℕ → ℕ
 endAt t i = getD t i 0 + getD t (spansAt + i) 0
 
 abbrev pub fromAt : List ℕ → ℕ → ℕ
-fromAt t i = min (getD t i 0 + getD t (freeAt + i) 0) (endAt t i)
+fromAt t i = getD t i 0 + getD t (freeAt + i) 0
 
 -- the free space of the n rows from i on whose areas have no stretch of damage
 unfoldable pub rowSpaces : List ℕ → ℕ → ℕ → List Space
@@ -38,11 +38,12 @@ rowSpaces t i zero = []
 rowSpaces t i (suc n) =
     cond (eqb (getD t (stretchesAt + i) 0) 0) (record { from = fromAt t i; end = endAt t i } ∷ rowSpaces t (suc i) n) (rowSpaces t (suc i) n)
 
--- the rows stand in the tables, and their areas in an image
+-- the rows stand in the tables, and what they tell in an image
 pub record AreaRows (files : ℕ) (t : List ℕ) : Type 0 where
   pub long : areaRows ≤ length t
   pub few : files ≤ mostAreas
-  pub small : (i : ℕ) → i < files → endAt t i ≤ largestImage
+  pub ends : (i : ℕ) → i < files → endAt t i ≤ largestImage
+  pub frees : (i : ℕ) → i < files → getD t (freeAt + i) 0 ≤ largestImage
 
 -- ---- the loop that finds it
 
@@ -124,32 +125,28 @@ ends-within m t i (suc n) h = go (eqb (getD t (stretchesAt + i) 0) 0) (ends-with
 part-next : (t : List ℕ) (a n : ℕ) → a < length t → part a (suc n) t ≡ getD t a 0 ∷ part (suc a) n t
 part-next t a n h = rw (drop-cons t a 0 h)
 
-module _ (image : Bytes) (t : List ℕ) (i : ℕ) (inside : endAt t i ≤ length image) (reading : readingAt t i ≡ readingOf (areaAt image t i)) where
+module _ (image : Bytes) (t : List ℕ) (i : ℕ) (reading : readingAt t i ≡ readingOf (areaAt image t i)) where
   clean-is : eqb (getD t (stretchesAt + i) 0) 0 ≡ areaClean recordSize (areaAt image t i)
   unfolding readingOf areaClean
   clean-is = ap (λ (x : Reading). eqb (x .stretches) 0) reading
 
   from-is : fromAt t i ≡ getD t i 0 + areaFree recordSize (areaAt image t i)
-  unfolding readingOf areaFree
-  from-is =
-      let l : length (areaAt image t i) ≡ getD t (spansAt + i) 0
-      = omega (arith, length-take (getD t (spansAt + i) 0) (drop (getD t i 0) image), length-drop (getD t i 0) image) in
-      let f : getD t (freeAt + i) 0 ≡ length (areaAt image t i) - _ = ap (λ (x : Reading). x .free) reading in
-      omega (arith, l, f)
+  unfolding readingOf
+  from-is = ap (λ (x : Reading). getD t i 0 + x .free) reading
 
-rows-described : (image : Bytes) (t : List ℕ) (i n : ℕ) → areaRows ≤ length t → i + n ≤ mostAreas → ((j : ℕ) → j < i + n → endAt t j ≤ length image)
+rows-described : (image : Bytes) (t : List ℕ) (i n : ℕ) → areaRows ≤ length t → i + n ≤ mostAreas
     → ((j : ℕ) → j < i + n → readingAt t j ≡ readingOf (areaAt image t j))
     → rowSpaces t i n ≡ spaces image (described (part i n t) (part (spansAt + i) n t))
 unfolding rowSpaces spaces described
-rows-described image t i zero l f h e = refl
-rows-described image t i (suc n) l f h e =
+rows-described image t i zero l f e = refl
+rows-described image t i (suc n) l f e =
     let q : spansAt + suc i ≡ suc (spansAt + i) = omega arith in
-    let ih = rw q at (rows-described image t (suc i) n l (omega arith) (λ j g. h j (omega arith)) (λ j g. e j (omega arith))) in
+    let ih = rw q at (rows-described image t (suc i) n l (omega arith) (λ j g. e j (omega arith))) in
     rw (
       part-next t i n (omega arith),
       part-next t (spansAt + i) n (omega arith),
-      clean-is image t i (h i (omega arith)) (e i (omega arith)),
-      from-is image t i (h i (omega arith)) (e i (omega arith)),
+      clean-is image t i (e i (omega arith)),
+      from-is image t i (e i (omega arith)),
       ih,
     )
 
@@ -164,7 +161,7 @@ module _ {image : Bytes} {m : Mounted} {t : List ℕ} (s : Safe image m t) where
       omega (arith, s .fit .inside i (omega (arith, starts-long)), a, b)
 
   pub safe-rows : AreaRows (m .files) t
-  safe-rows = record { long = omega (arith, s .long); few = s .files-few; small = λ i h. omega (arith, row-inside i h, s .fit .small) }
+  safe-rows = record { long = omega (arith, s .long); few = s .files-few; ends = λ i h. omega (arith, row-inside i h, s .fit .small); frees = λ i h. s .readings i h .free }
 
   -- all spaces lie in the image
   pub rows-within : Within (length image) (rowSpaces t 0 (m .files))
@@ -173,7 +170,7 @@ module _ {image : Bytes} {m : Mounted} {t : List ℕ} (s : Safe image m t) where
   -- they are those of the file areas
   pub rows-are : {ds : List Descriptor} → Holds image ds m t → rowSpaces t 0 (m .files) ≡ spaces image (fileAreas image ds)
   rows-are h =
-      rows-described image t 0 (m .files) (omega (arith, s .long)) (omega (arith, s .files-few)) (λ i l. row-inside i (omega (arith, l))) (λ i l. h .readings i (omega (arith, l))) ∙ ap (spaces image) (h .files)
+      rows-described image t 0 (m .files) (omega (arith, s .long)) (omega (arith, s .files-few)) (λ i l. h .readings i (omega (arith, l))) ∙ ap (spaces image) (h .files)
 
   -- the place taken from spaces that are those of the rows
   pub place-found : (n : ℕ) (fs es : List ℕ) (r : Place) (left : List Space) → spacesOf fs es ≡ rowSpaces t 0 (m .files)

@@ -1,7 +1,7 @@
 // Where new records go: the free space of the clean file areas, looked up in their rows, and the first of it that has room.
 ghost use mathlib.Core.Path.{_≡_};
 ghost use mathlib.Core.List.{List};
-ghost use Prim.Native.Nat.{min, _≤_};
+ghost use Prim.Native.Nat.{_≤_};
 ghost use lib.ListN.{length, take};
 ghost use Rattle.calls.specs.Areas.{largestImage, fileAreas};
 ghost use Rattle.calls.specs.Storing.{spaces, firstFit};
@@ -22,18 +22,7 @@ pub enum Place {
     Nowhere,
 }
 
-// The smaller of two numbers.
-pub fn smaller(a: usize, b: usize) -> usize
-    ensures { λ r. ⌜ r ≡ min a b ⌝ }
-{
-    if a < b {
-        return a;
-    }
-    b
-}
-
-// Puts the free space of the clean areas, in the order of their rows, into the first places of `froms` and `ends`; answers how many there are.
-// A damaged area is left out: it waits for collection.
+// Puts the free space of the clean areas, in the order of their rows, into `froms` and `ends`; answers how many there are. A damaged area waits for collection.
 pub fn find_spaces(tables: &[u32], files: usize, froms: &mut [u32], ends: &mut [u32]) -> usize
     requires { ⌜ AreaRows files (now tables) ⌝ }
     requires { ⌜ (files ≤ length (now froms)) × (files ≤ length (now ends)) ⌝ }
@@ -45,7 +34,7 @@ pub fn find_spaces(tables: &[u32], files: usize, froms: &mut [u32], ends: &mut [
     while i < files {
         let start = tables[i] as usize;
         let end = start + tables[SPANS + i] as usize;
-        let from = smaller(start + tables[FREE + i] as usize, end);
+        let from = start + tables[FREE + i] as usize;
         if tables[STRETCHES + i] == 0 {
             froms[k] = from as u32;
             ends[k] = end as u32;

@@ -25,8 +25,8 @@ use entries::create_of;
 use entries::format_of;
 use entries::lookup_of;
 use entries::open_of;
-use entries::read_of;
 use entries::read_at_of;
+use entries::read_of;
 use entries::report_of;
 use entries::unlink_of;
 

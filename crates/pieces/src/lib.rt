@@ -2,7 +2,7 @@
 // Ids and places are all found before the first store, so that all pieces are written or none.
 ghost use mathlib.Core.Path.{_≡_};
 ghost use mathlib.Core.List.{List};
-ghost use Prim.Native.Nat.{_+_, _-_, _/_, _≤_, _<_};
+ghost use Prim.Native.Nat.{min, _+_, _-_, _/_, _≤_, _<_};
 ghost use lib.ListN.{length};
 ghost use Rattle.format.specs.Record.{block, longestData};
 ghost use Rattle.format.specs.BlockSize.{greatestBlock};
@@ -26,7 +26,6 @@ use calls::SHORTEST_AREA;
 use encode::write_block;
 use free_space::Place;
 use free_space::find_spaces;
-use free_space::smaller;
 use free_space::take_place;
 use mounted::Mounted;
 use records::BlockHeader;
@@ -53,6 +52,16 @@ pub fn shortest(lengths: &[u32]) -> u32
         }
     }
     least
+}
+
+// The smaller of two numbers.
+fn smaller(a: usize, b: usize) -> usize
+    ensures { λ r. ⌜ r ≡ min a b ⌝ }
+{
+    if a < b {
+        return a;
+    }
+    b
 }
 
 // The greatest block size of writers, by the shortest file area's length: the one function that knows this rule.

@@ -6,14 +6,13 @@ use native.Mathlib.Omega.{arith}
 use lib.ListN.{length}
 use borrow.Author.Needs.{needs}
 use Rattle.calls.specs.declared.Descriptor.{Descriptor}
-use Rattle.table.specs.Parts.{lent-front}
 use Rattle.listing.specs.Bridge.{placedVolume}
 use Rattle.mounted.specs.State.{spans, Holds}
-use Rattle.mounted.specs.Bridge.{blocks-lent, blocks-few, block-rows-lent}
+use Rattle.mounted.specs.Bridge.{blocks-lent, blocks-few, block-rows-lent, places-lent, names-lent}
 use Rattle.contents.specs.Blocks.{lastOf}
 use Rattle.pieces.specs.Cut.{pieces, mostPieces, shortestOf, pieces-count, few-pieces, pieces-fit}
 use Rattle.appending.specs.Last.{lastUnlessBroken}
-use Rattle.appending.specs.Written.{sizeFor, shortest-bound, records-lie, records-few}
+use Rattle.appending.specs.Written.{sizeFor, shortest-bound}
 use Rattle.appending.specs.Outcome.{out-broken, out-full, out-written}
 use Rattle.appending.proofs.append_to.Statement.{statement}
 use Rattle.appending.proofs.append_to.Tie as tie
@@ -58,7 +57,7 @@ returns : tie.Need-returns
 returns c =
     let l = c .before .before in
     let s = lent l in
-    λ ds h p d. out-broken (s .pre .0) h _ p (s .args .file) (s .args .text .now) d (sym (ap lastOf (c .enum-told .given .1)) ∙ last-is l ds h)
+    λ ds h p d. out-broken (s .pre .0) h (s .args .file) (s .args .text .now) d (sym (ap lastOf (c .enum-told .given .1)) ∙ last-is l ds h)
 
 add-if1 : tie.Need-add-if1
 add-if1 c = let s = start (c .before .before) in omega (arith, count-few (c .before), pieces-fit, s .pre .0 .blocks-few)
@@ -70,7 +69,7 @@ returns-2 c =
     let l = found-last k in
     let s = lent l in
     λ ds h q d.
-    out-full (s .pre .0) h _ q (s .args .file) (s .args .text .now) d (k .before .last .given .0 .0) (sym (ap lastOf (k .before .last .given .1)) ∙ last-is l ds h)
+    out-full (s .pre .0) h (s .args .file) (s .args .text .now) d (k .before .last .given .0 .0) (sym (ap lastOf (k .before .last .given .1)) ∙ last-is l ds h)
     (p .piece-count .result) (count-is p) (omega (arith, c .if1 .taken))
 
 part-write-count-end : tie.Need-part-write-count-end
@@ -81,13 +80,9 @@ write-count-requires c κs =
     let e = c .before .before in
     let p = e .before .before in
     let s = start (p .before) in
-    let z = p .before .piece-size .ensures in (
-      s .pre .0,
-      (
-        records-lie (s .pre .1 .0),
-        (records-few (s .pre .1 .0), record { some-room = z .1 .0; small = z .1 .1; count = rw (z .0) (count-is p); few = count-few p }),
-      ),
-    )
+    let z = p .before .piece-size .ensures in
+    let r = places-lent (s .pre .1 .0) in
+    (s .pre .0, (r .0, (r .1, record { some-room = z .1 .0; small = z .1 .1; count = rw (z .0) (count-is p); few = count-few p })))
 
 returns-3 : tie.Need-returns-3
 returns-3 c =
@@ -98,8 +93,9 @@ returns-3 c =
     let l = found-last k in
     let s = lent l in
     λ ds h q d.
-    out-written (s .pre .0) h _ (lent-front (s .args .m .records) (s .args .places .now) ∙ q) (s .args .file) (s .args .text .now) d (k .before .last .given .0 .0)
-    (sym (ap lastOf (k .before .last .given .1)) ∙ last-is l ds h) (p .piece-count .result) (count-is p) (omega (arith, e .if1 .left)) _ _
+    out-written (s .pre .0) h (s .args .file) (s .args .text .now) d (k .before .last .given .0 .0)
+    (sym (ap lastOf (k .before .last .given .1)) ∙ last-is l ds h) (p .piece-count .result) (count-is p) (omega (arith, e .if1 .left)) _ _ _
+    (names-lent (s .args .image .now) ds (s .args .m) (s .args .places .now) q)
     (rw (← p .before .piece-size .ensures .0) (w .write-count .ensures ds h))
 
 pub append-to-spec : {M : Type 1} → statement M

@@ -2,7 +2,6 @@
 use Prim.Native.Nat.{ℕ, _+_, _-_, _≤_, _<_}
 use mathlib.Core.List.{List}
 use native.Mathlib.Omega.{arith}
-use borrow.Author.Needs.{needs}
 use lib.ListN.{length, getD}
 use Rattle.calls.specs.Areas.{mostAreas, largestImage}
 use Rattle.listing.specs.Rows.{freeAt, areaRows}
@@ -18,39 +17,40 @@ abbrev μ-loop : tie.MeasureT-loop
 
 -- the arguments, from the head of the loop; and the way there
 abbrev lent : tie.At-loop Inv-loop μ-loop → tie.Start Inv-loop μ-loop
-lent l = l .before .before .before .before
+lent l = l .before
 
-abbrev in-turn : tie.After-smaller Inv-loop μ-loop → tie.In-loop Inv-loop μ-loop
-in-turn s = s .before .before .before .before
+abbrev in-turn : tie.After-shared-slice-known3 Inv-loop μ-loop → tie.In-loop Inv-loop μ-loop
+in-turn k = k .before .before .before
 
--- the row of a turn stands in the tables, and its area ends in an image
+-- the row of a turn stands in the tables, and what it tells in an image
 record Turn (t : List ℕ) (i : ℕ) : Type 0 where
   few : i < mostAreas
   long : areaRows ≤ length t
   ends : endAt t i ≤ largestImage
+  frees : getD t (freeAt + i) 0 ≤ largestImage
 
 turn : (c : tie.In-loop Inv-loop μ-loop) → Turn (lent (c .before) .args .tables .now) (c .before .loop .i)
 turn c =
     let s = lent (c .before) in
-    record { few = omega (arith, c .loop-test .taken, s .pre .0 .few); long = s .pre .0 .long; ends = s .pre .0 .small (c .before .loop .i) (c .loop-test .taken) }
-
--- where free space starts is a 32-bit number
-free : (c : tie.After-shared-slice-known4 Inv-loop μ-loop) → let l = c .before .before .before .before in getD (lent l .args .tables .now) (freeAt + l .loop .i) 0 < 4294967296
-free c = omega (arith, c .shared-slice-known4 .given (freeAt + c .before .before .before .before .loop .i))
+    record {
+      few = omega (arith, c .loop-test .taken, s .pre .0 .few);
+      long = s .pre .0 .long;
+      ends = s .pre .0 .ends (c .before .loop .i) (c .loop-test .taken);
+      frees = s .pre .0 .frees (c .before .loop .i) (c .loop-test .taken);
+    }
 
 -- there is a place for one space more
 room : (c : tie.In-loop Inv-loop μ-loop) → (c .before .loop .k < length (c .before .loop .froms)) × (c .before .loop .k < length (c .before .loop .ends))
 room c = let s = lent (c .before) in has-room (c .before .loop .inv) (s .pre .1 .0) (s .pre .1 .1) (c .loop-test .taken)
 
 loop-holds : tie.Need-loop-holds Inv-loop μ-loop
-loop-holds c = let s = c .before .before .before in finding-begins (s .args .tables .now) (s .args .files) (s .args .froms .now) (s .args .ends .now)
+loop-holds c = finding-begins (c .args .tables .now) (c .args .files) (c .args .froms .now) (c .args .ends .now)
 
 loop-again : tie.Need-loop-again Inv-loop μ-loop
 loop-again c =
-    let r = c .before .before in
-    let n = in-turn r in
+    let n = in-turn (c .before .before) in
     let s = lent (n .before) in
-    rw (r .smaller .ensures) (finding-clean (n .before .loop .inv) (s .pre .1 .0) (s .pre .1 .1) (n .loop-test .taken) (c .if1 .taken))
+    finding-clean (n .before .loop .inv) (s .pre .1 .0) (s .pre .1 .1) (n .loop-test .taken) (c .if1 .taken)
 
 loop-again-2 : tie.Need-loop-again-2 Inv-loop μ-loop
 loop-again-2 c =
@@ -82,13 +82,12 @@ find-spaces-spec =
     (λ c. let t = turn (c .before .before) in omega arith)
     (λ c. let t = turn (c .before .before) in omega arith)
     (λ c. let t = turn (c .before .before .before) in omega arith)
-    (λ c. omega (arith, free c))
-    (λ c. let t = turn (c .before .before .before) in omega (arith, free c))
-    (λ c κs. search needs)
+    (λ c. let t = turn (in-turn c) in omega arith)
+    (λ c. let t = turn (in-turn c) in omega arith)
     (λ c. let t = turn (in-turn c) in omega arith)
     (λ c. let t = turn (in-turn c) in omega arith)
     (λ c. let t = turn (in-turn (c .before)) in omega arith)
-    (λ c. let t = turn (in-turn (c .before .before)) in omega (arith, c .before .before .smaller .ensures))
+    (λ c. let t = turn (in-turn (c .before .before)) in omega arith)
     (λ c. let t = turn (in-turn (c .before .before)) in omega (arith, room (in-turn (c .before .before)), in-turn (c .before .before) .before .loop .inv .few))
     (λ c. omega (arith, room (in-turn (c .before .before))))
     (λ c. let t = turn (in-turn (c .before .before)) in omega arith)
