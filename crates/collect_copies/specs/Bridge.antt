@@ -22,11 +22,10 @@ use Rattle.calls.specs.Mount.{recordsOf, bytesOf, recordsIn, volume}
 use Rattle.calls.specs.Collect.{isOther, recordsElsewhere, copies}
 use Rattle.calls.specs.declared.Descriptor.{Descriptor}
 use Rattle.place_view.specs.Place.{bytesAt, byPlace}
-use Rattle.gather.specs.Gather.{Tables, AllGood, AllRows}
 use Rattle.descriptors.specs.Places.{Clear, clear-sym, split-first}
 use Rattle.listing.specs.Listing.{starts, placesIn}
 use Rattle.listing.specs.Bridge.{starts-each, places-bytes, placedVolume, volume-places}
-use Rattle.collect_copies.specs.Copied.{inside, copiedPlaces}
+use Rattle.collect_copies.specs.Copied.{Tables, AllRows, inside, copiedPlaces}
 use Rattle.collect_copies.specs.Tests.{copies-are}
 
 -- ---- one area
@@ -147,11 +146,11 @@ module _ (image : Bytes) (s : Descriptor) where
 -- what `list_copies` finds for a source among the file areas of a mount is what a collection copies
 pub volume-copies : (image : Bytes) (ds : List Descriptor) (s : Descriptor) (t : Tables) → T (allDisjoint (fileAreas image ds))
     → ((d : Descriptor) → List·Memᴰ d (fileAreas image ds) → 0 < d .length) → List·Memᴰ s (fileAreas image ds)
-    → AllGood image t → AllRows (byPlace image) (placedVolume image ds) t
+    → AllRows (byPlace image) (placedVolume image ds) t
     → map (bytesAt image) (copiedPlaces image (s .offset) (s .length) (placesIn image (fileAreas image ds)) t)
     ≡ copies (volume image ds) (bytesOf (recordsOf image s)) (recordsElsewhere image (fileAreas image ds) s)
-volume-copies image ds s t a long m good rows =
-    copies-are image (placedVolume image ds) t good rows (s .offset) (s .length) (placesIn image (fileAreas image ds))
+volume-copies image ds s t a long m rows =
+    copies-are image (placedVolume image ds) t rows (s .offset) (s .length) (placesIn image (fileAreas image ds))
     ∙ rw (
       volume-places image ds,
       near-records image s (fileAreas image ds) a long m,

@@ -2,7 +2,6 @@
 use Prim.Native.Nat.{_-_}
 use native.Mathlib.Omega.{arith}
 use lib.ListN.{length}
-use borrow.Author.Needs.{needs}
 use Rattle.formatting.specs.Areas.{Growing, growing-begins, growing-longer, growing-not, growing-ends}
 use Rattle.formatting.proofs.longest.Statement.{statement}
 use Rattle.formatting.proofs.longest.Tie as tie
