@@ -1,8 +1,11 @@
 -- `report_input::describe` meets its contract.
-use Prim.Native.Nat.{_-_, _≤_}
+use Prim.Native.Nat.{_*_, _+_, _-_, _≤_}
 use mathlib.Core.Path.{_≡_, refl, ap, _∙_}
+use mathlib.Core.List.{List}
 use native.Mathlib.Omega.{arith}
+use lib.ListN.{set}
 use borrow.Author.Needs.{needs}
+use Rattle.calls.specs.Areas.{areaList}
 use Rattle.report_input.specs.Cut.{flat, described, describe-more, describe-done}
 use Rattle.report_input.proofs.describe.Statement.{statement}
 use Rattle.report_input.proofs.describe.Tie as tie
@@ -18,10 +21,38 @@ unfolding flat
 loop-holds c = (omega arith, refl)
 
 loop-again : tie.Need-loop-again Inv-loop μ-loop
-loop-again c = ?
+loop-again c =
+    let l = c .before in
+    let i = l .loop .i in
+    (
+      omega arith,
+      ap (λ (x : List _). set (set x (i * 2) (i * 4096)) (i * 2 + 1) 4096) (l .loop .inv .1) ∙ describe-more i (i * 4096) 4096 (omega (arith, c .loop-test .taken, l .before .pre)) refl refl,
+    )
 
 returns : tie.Need-returns Inv-loop μ-loop
-returns c = ?
+returns c =
+    let l = c .before in
+    let e : l .before .args .count ≡ l .loop .i = omega arith in
+    ap areaList (l .loop .inv .1) ∙ rw e (describe-done (l .loop .i) (omega (arith, l .before .pre)))
 
 pub describe-spec : {M : Type 1} → statement M
-describe-spec = ?
+describe-spec =
+    tie.close
+    (tie.spec
+    Inv-loop
+    μ-loop
+    loop-holds
+    (λ c. search needs)
+    (λ c. search needs)
+    (λ c. search needs)
+    (λ c. search needs)
+    (λ c. search needs)
+    (λ c. search needs)
+    (λ c. search needs)
+    (λ c. search needs)
+    (λ c. search needs)
+    (λ c. search needs)
+    (λ c. search needs)
+    (λ c. search needs)
+    loop-again
+    returns)
