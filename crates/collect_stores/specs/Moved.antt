@@ -10,7 +10,7 @@ use Rattle.format.specs.AreaHeader.{areaHeaderSize, areaId, scratchId}
 use Rattle.format.specs.Encoding.{areaHeader}
 use Rattle.format_laws.specs.Encoding.{header-size}
 use Rattle.calls.specs.Image.{put}
-use Rattle.calls.specs.Areas.{areaEnd, areaBytes}
+use Rattle.calls.specs.Areas.{largestImage, areaEnd, areaBytes}
 use Rattle.calls.specs.Storing.{Store, storeAll}
 use Rattle.calls.specs.Format.{emptyArea}
 use Rattle.calls.specs.Collect.{countOf, readyStores, idStore, recordStores, nextCount, scratchStores, collectStores}
@@ -28,7 +28,7 @@ movedInto x t s ps = storeAll x (collectStores x t s (map (bytesAt x) ps))
 
 -- records that can be moved from s to t
 pub record Removable (x : Bytes) (t s : Descriptor) (ps : List ℕ) : Type 0 where
-  pub small : length x ≤ 65536
+  pub small : length x ≤ largestImage
   pub inside : areaEnd s ≤ length x
   pub header : areaHeaderSize ≤ s .length
   pub fill : Fillable x (t .offset) (t .length) ps

@@ -16,7 +16,9 @@ ghost use Rattle.collect_stores.specs.Moving.{Movable};
 ghost use Rattle.collect_stores.specs.Filled.{Fillable};
 ghost use Rattle.collect_stores.specs.Moved.{movedInto, Removable};
 use areas::HEADER_SIZE;
+use areas::ID_AT;
 use areas::SCRATCH_ID;
+use areas::area_id;
 use calls::Descriptor;
 use collect_source::count_at;
 use flash::ERASED;
@@ -24,10 +26,7 @@ use flash::copy;
 use flash::erase;
 use flash::put;
 use formatting::write_area;
-use gather::size_at;
-
-// Where an area's header holds its id.
-const ID_AT: usize = 23;
+use place_view::size_at;
 
 // The last collection count, which 0 follows.
 const LAST_COUNT: u8 = 255;
@@ -43,16 +42,16 @@ fn next_count(count: u8) -> u8
 }
 
 // Copies the records at some places to `to`, one behind the other.
-fn copy_records(image: &mut [u8], places: &[u32], to: usize)
+fn copy_records(image: &mut [u8], places: &[u16], to: usize)
     requires { ⌜ Movable (now image) (now places) to ⌝ }
     ensures { λ _. ⌜ now (image .exit) ≡ put (now (image .entry)) to (moved (now (image .entry)) (now (places .entry))) ⌝ }
 {
     let mut at = to;
     let mut i = 0;
     while i < places.len() {
-        let p = places[i] as usize;
+        let p = places[i] as u32;
         let size = size_at(&*image, p);
-        copy(&mut *image, p, at, size);
+        copy(&mut *image, p as usize, at, size);
         at += size;
         i += 1;
     }
@@ -98,7 +97,7 @@ fn ready_scratch(image: &mut [u8], offset: u32, span: u32)
 }
 
 // Makes a file area of the scratch area: with the id of the source and the records at some places of the source.
-fn fill_scratch(image: &mut [u8], offset: u32, span: u32, id: u8, places: &[u32])
+fn fill_scratch(image: &mut [u8], offset: u32, span: u32, id: u8, places: &[u16])
     requires { ⌜ Fillable (now image) offset span (now places) ⌝ }
     ensures { λ _. ⌜ now (image .exit) ≡ storeAll (now (image .entry)) (readyStores (now (image .entry)) (areaOf offset span) ++ (idStore (areaOf offset span) id ∷ recordStores (offset + areaHeaderSize) (map (bytesAt (now (image .entry))) (now (places .entry))))) ⌝ }
 {
@@ -110,11 +109,11 @@ fn fill_scratch(image: &mut [u8], offset: u32, span: u32, id: u8, places: &[u32]
 }
 
 // Moves the records at some places from a source area to scratch: scratch becomes a file area of the source's id, and the source scratch.
-pub fn move_records(image: &mut [u8], offset: u32, span: u32, scratch: Descriptor, places: &[u32])
+pub fn move_records(image: &mut [u8], offset: u32, span: u32, scratch: Descriptor, places: &[u16])
     requires { ⌜ Removable (now image) scratch (areaOf offset span) (now places) ⌝ }
     ensures { λ _. ⌜ now (image .exit) ≡ movedInto (now (image .entry)) scratch (areaOf offset span) (now (places .entry)) ⌝ }
 {
-    let id = image[offset as usize + ID_AT];
+    let id = area_id(&*image, offset);
     let count = next_count(count_at(&*image, offset));
     fill_scratch(&mut *image, scratch.offset, scratch.length, id, places);
     write_area(&mut *image, offset, span, count, SCRATCH_ID);

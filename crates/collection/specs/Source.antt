@@ -1,4 +1,4 @@
--- What a mount gives for a collection: every file area can be collected into scratch.
+-- Every file area of a list that passes checks 1 to 4 can be collected into its scratch area.
 use Prim.Native.Nat.{ℕ, _+_, _≤_, _<_}
 use mathlib.Core.Path.{_≡_, ap, subst, _∙_}
 use mathlib.Core.Logic.{inl, inr}
@@ -24,19 +24,18 @@ use Rattle.calls.specs.declared.Descriptor.{Descriptor}
 use Rattle.collect_laws.specs.Mounted.{copied-survive}
 use Rattle.place_view.specs.Place.{blockAt, sizeAt, bytesAt, byPlace}
 use Rattle.table.specs.Laws.{getD-mem}
-use Rattle.gather.specs.Gather.{Tables, tableOf, AllGood, AllRows}
 use Rattle.flash.specs.Apart.{Apart, apart-before, apart-after}
 use Rattle.flash.specs.Stores.{joinedBytes}
 use Rattle.descriptors.specs.Places.{Clear}
 use Rattle.area_kinds.specs.Places.{AreasPass, member-fits, file-member, scratch-member, file-scratch-apart, files-disjoint, scratch-longest}
 use Rattle.listing.specs.Listing.{starts, placesIn}
-use Rattle.listing.specs.Bridge.{starts-each, record-bytes, record-lies, places-lie, placedVolume}
-use Rattle.collect_copies.specs.Copied.{inside, dropped, countsIn, copied, copiedPlaces}
+use Rattle.listing.specs.Bridge.{starts-each, record-bytes, record-lies, placedVolume}
+use Rattle.collect_copies.specs.Copied.{Tables, tableOf, AllRows, inside, dropped, countsIn, copied, copiedPlaces}
 use Rattle.collect_copies.specs.First.{first-mem}
 use Rattle.collect_copies.specs.Bridge.{parted, in-area, volume-copies}
 use Rattle.collect_stores.specs.Records.{moved, bytes-long}
 use Rattle.collect_stores.specs.Filled.{Fillable}
-use Rattle.collection.specs.Collection.{Collectable}
+use Rattle.collect_stores.specs.Moved.{Removable}
 
 -- a record that an area is read as ends in it
 record-ends : (image : Bytes) (d : Descriptor) (p : ℕ) → List·Memᴰ p (starts (d .offset) (recordsOf image d)) → p + sizeAt image p ≤ areaEnd d
@@ -88,13 +87,13 @@ module _ (image : Bytes) (ds : List Descriptor) (pass : AreasPass image ds) (t :
   at-cs i h = copied-in (getD cs i 0) (getD-mem cs i h)
 
   -- scratch has room for them, and none of them is in it
-  module _ (good : AllGood image tables) (rows : AllRows (byPlace image) (placedVolume image ds) tables) where
+  module _ (rows : AllRows (byPlace image) (placedVolume image ds) tables) where
     fill : Fillable image (t .offset) (t .length) cs
     unfolding moved
     fill =
         let f = member-fits image ds pass t (scratch-member image ds pass t scratch) in
         let g = member-fits image ds pass s (file-member image ds pass s file) in
-        let v = volume-copies image ds s tables apart-all long file good rows in
+        let v = volume-copies image ds s tables apart-all long file rows in
         let e = ap (λ l. length (joinedBytes l)) v in
         let k = copied-survive image ds s .fit in
         let d = length-drop areaHeaderSize (areaBytes image s) in
@@ -112,23 +111,11 @@ module _ (image : Bytes) (ds : List Descriptor) (pass : AreasPass image ds) (t :
         clear p a b (inl c) = apart-before p (sizeAt image p) (t .offset) (t .length) (omega arith)
         clear p a b (inr c) = apart-after p (sizeAt image p) (t .offset) (t .length) (omega arith)
 
-    pub collectable : length (tables .inodes .ids) + length (tables .blocks .ids) ≤ 320 → Collectable image t s (placesIn image (fileAreas image ds)) tables
-    collectable room =
+    pub removable : Removable image t s cs
+    removable =
         let g = member-fits image ds pass s (file-member image ds pass s file) in
-        record {
-          lent = record {
-            lie = λ i h. places-lie image (fileAreas image ds) (getD (placesIn image (fileAreas image ds)) i 0) (getD-mem (placesIn image (fileAreas image ds)) i h);
-            good = good;
-            room = room;
-          };
-          moves = record {
-            small = pass .description .small;
-            inside = g .inside;
-            header = omega (arith, g .long);
-            fill = fill;
-          };
-        }
+        record { small = pass .description .small; inside = g .inside; header = omega (arith, g .long); fill = fill }
 
     -- what is moved are the copies
     pub moved-copies : map (bytesAt image) cs ≡ copiedRecords image ds s
-    moved-copies = volume-copies image ds s tables apart-all long file good rows
+    moved-copies = volume-copies image ds s tables apart-all long file rows
