@@ -20,6 +20,7 @@ use calls::MOST_RECORDS;
 use calls::Opened;
 use calls::ReadAnswer;
 use calls::Report;
+use collection::collect_mounted;
 use creating::create_mounted;
 use creating::not_created;
 use descriptor_list::Areas;
@@ -144,7 +145,15 @@ pub fn create_of<'a>(
     if m.number != 0 {
         return not_created(m.number);
     }
-    create_mounted(&mut *image, &tables[..], &places[..], m, base, path, kind)
+    create_mounted(
+        &mut *image,
+        &tables[..],
+        &places[..],
+        m,
+        base,
+        path,
+        kind,
+    )
 }
 
 // Appends bytes to a file, all or none: the number of refusal, or 0. A refused append changes no byte.
@@ -164,7 +173,15 @@ pub fn append_of<'a>(
     if m.number != 0 {
         return m.number;
     }
-    append_mounted(&mut *image, &tables[..], &places[..], m, base, path, text)
+    append_mounted(
+        &mut *image,
+        &tables[..],
+        &places[..],
+        m,
+        base,
+        path,
+        text,
+    )
 }
 
 // Deletes what a path leads to, and with a directory all below it: the number of refusal, or 0. A refused unlink changes no byte.
@@ -181,3 +198,16 @@ pub fn unlink_of<'a>(image: &mut [u8], areas: Areas, base: &'a [u8], path: &'a [
     unlink_mounted(&mut *image, &tables[..], m, base, path)
 }
 
+// Moves what counts of one file area to the scratch area, and makes that file area the scratch area: the number of refusal, or 0.
+pub fn collect_of(image: &mut [u8], areas: Areas) -> u32
+    ensures number { λ r. ⌜ r ≡ collectOf (now (image .entry)) (areaList (areas .numbers)) ⌝ }
+    ensures image { λ _. ⌜ now (image .exit) ≡ imageCollected (now (image .entry)) (areaList (areas .numbers)) ⌝ }
+{
+    let mut tables = [0u32; TABLES];
+    let mut places = [0u16; MOST_RECORDS];
+    let m = mount(&*image, &areas.numbers, &mut tables[..], &mut places[..]);
+    if m.number != 0 {
+        return m.number;
+    }
+    collect_mounted(&mut *image, &tables[..], &places[..], m)
+}

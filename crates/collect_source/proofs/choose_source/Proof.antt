@@ -30,9 +30,9 @@ leads-requires : tie.Need-leads-requires Inv-loop μ-loop
 leads-requires c κs =
     let t = c .before .before in
     let s = start (t .before) in
-    let h = s .pre .header (t .before .loop .i) (t .loop-test .taken) in
+    let h = s .pre .long (t .before .loop .i) (t .loop-test .taken) in
     let f = s .pre .inside (t .before .loop .i) (t .loop-test .taken) in
-    (s .pre, (omega arith, h))
+    (s .pre, (omega arith, omega arith))
 
 returns : tie.Need-returns Inv-loop μ-loop
 returns c =

@@ -30,9 +30,9 @@ is-ahead-requires : tie.Need-is-ahead-requires Inv-loop μ-loop
 is-ahead-requires c κs =
     let t = c .before .before in
     let s = start (t .before) in
-    let h = s .pre .header (t .before .loop .i) (t .loop-test .taken) in
+    let h = s .pre .long (t .before .loop .i) (t .loop-test .taken) in
     let f = s .pre .inside (t .before .loop .i) (t .loop-test .taken) in
-    (omega arith, h)
+    (omega arith, omega arith)
 
 returns : tie.Need-returns Inv-loop μ-loop
 returns c =

@@ -31,7 +31,7 @@ nffs-format-spec 𝓤 H 𝓜 𝓖 𝓡 =
     let c = f.clauses 𝓤 H (𝓖 .A) (𝓜 .mem) (𝓡 .run) in
     let d = g.clauses 𝓤 H (𝓖 .A) (𝓜 .mem) (𝓡 .run) in
     stands 𝓤 H 𝓜 𝓖 𝓡 code.env code.calls-descriptor-list·areas-of f.ended c f-key.name code.function (code.unfolded 𝓤 H 𝓜 𝓡)
-    g.ended d g-def.name g-def.routine code.calls-nffs·format-of (g-thm.met 𝓤 H 𝓜 𝓖 𝓡) (λ κs. spells (kinds κs)) (λ κs. tell (kinds κs)) (λ W fm listing known y are.
+    g.ended d g-def.name g-def.routine code.calls-entries·format-of (g-thm.met 𝓤 H 𝓜 𝓖 𝓡) (λ κs. spells (kinds κs)) (λ κs. tell (kinds κs)) (λ W fm listing known y are.
     begins W _ _ code.function 0 (y .0 .0) (y .0 .1) (kinds (y .0 .0)) (y .0 .3) _ (typed 𝓤 H (𝓖 .A) W (kinds (y .0 .0)) (y .0 .3) are) (λ bs.
     reslices ! (code.function .locals) bs (start (code.function .locals) (in-row (kinds (y .0 .0)) (y .0 .3))) 1 3 4 _ _ (y .0 .3 .0 .ptr) (length (y .0 .3 .0 .now)) refl refl tt refl (tt, tt) tt refl (typed 𝓤 H (𝓖 .A) W (kinds (y .0 .0)) (y .0 .3) are .0) refl refl $
     goes-on ! fm (𝓜 .mem) (𝓡 .run) listing (y .0 .3 .1 .0) g.ended d known (λ n v. ((skip (y .0 .0), skip (y .0 .1), tt, instead n (y .0 .3), instead (v ∷ []) (spelt (kinds (y .0 .0)) (y .0 .3))), tt)) 0 (y .0 .0) (y .0 .1)

@@ -43,9 +43,9 @@ use Rattle.calls.proofs.ReadAnswer.Laws as Q′
 use Rattle.descriptor_list.specs.declared.Areas.{Areas}
 use Rattle.descriptor_list.proofs.Areas as R
 use Rattle.descriptor_list.proofs.Areas.Laws as R′
-use Rattle.nffs.specs.declared.HandleRead.{HandleRead}
-use Rattle.nffs.proofs.HandleRead as N
-use Rattle.nffs.proofs.HandleRead.Laws as N′
+use Rattle.entries.specs.declared.HandleRead.{HandleRead}
+use Rattle.entries.proofs.HandleRead as N
+use Rattle.entries.proofs.HandleRead.Laws as N′
 use Rattle.descriptor_list.specs.Cut.{read-whole}
 use Rattle.entry_walk.proofs.Frame.{leaves}
 use Rattle.entry_walk.proofs.Forward.{Kind, shared, lent, referred, list, spells, tell, spelt, typed, Told, no-asks, clauses3, together, says3, stands, begins, lists}
@@ -136,7 +136,7 @@ nffs-read-spec 𝓤 H 𝓜 𝓖 𝓡 =
     let mem = 𝓜 .mem in
     let run = 𝓡 .run in
     stands 𝓤 H 𝓜 𝓖 𝓡 code.env code.calls-descriptor-list·areas-of f.ended (f.clauses 𝓤 H A mem run) f-key.name code.function (code.unfolded 𝓤 H 𝓜 𝓡)
-    g.ended (g.clauses 𝓤 H A mem run) g-def.name g-def.routine code.calls-nffs·read-of (g-thm.met 𝓤 H 𝓜 𝓖 𝓡) (λ κs. spells (kinds κs)) (λ κs. tell (kinds κs)) (λ W fm listing known y are.
+    g.ended (g.clauses 𝓤 H A mem run) g-def.name g-def.routine code.calls-entries·read-of (g-thm.met 𝓤 H 𝓜 𝓖 𝓡) (λ κs. spells (kinds κs)) (λ κs. tell (kinds κs)) (λ W fm listing known y are.
     let fits = typed 𝓤 H A W (kinds (y .0 .0)) (y .0 .3) are in
     begins W _ _ code.function 2 (y .0 .0) (y .0 .1) (kinds (y .0 .0)) (y .0 .3) _ fits (λ bs.
     lists ! fm mem run listing (y .0 .3 .1 .0) (and-then ! (load ! (from ! (stop !)) (look ! 4 refl)) (no-more !)) (λ n v e is.
