@@ -145,15 +145,7 @@ pub fn create_of<'a>(
     if m.number != 0 {
         return not_created(m.number);
     }
-    create_mounted(
-        &mut *image,
-        &tables[..],
-        &places[..],
-        m,
-        base,
-        path,
-        kind,
-    )
+    create_mounted(&mut *image, &tables[..], &places[..], m, base, path, kind)
 }
 
 // Appends bytes to a file, all or none: the number of refusal, or 0. A refused append changes no byte.
@@ -173,15 +165,7 @@ pub fn append_of<'a>(
     if m.number != 0 {
         return m.number;
     }
-    append_mounted(
-        &mut *image,
-        &tables[..],
-        &places[..],
-        m,
-        base,
-        path,
-        text,
-    )
+    append_mounted(&mut *image, &tables[..], &places[..], m, base, path, text)
 }
 
 // Deletes what a path leads to, and with a directory all below it: the number of refusal, or 0. A refused unlink changes no byte.

@@ -16,7 +16,7 @@ returns : tie.Need-returns
 returns c =
     let m = at-mount (c .before) in
     let s = start m in
-    collect-refused (m .mount .ensures)  (c .if1 .taken)
+    collect-refused (m .mount .ensures) (c .if1 .taken)
 
 collect-mounted-requires : tie.Need-collect-mounted-requires
 collect-mounted-requires c κs =

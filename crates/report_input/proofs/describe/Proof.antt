@@ -23,8 +23,7 @@ loop-holds c = (omega arith, refl)
 loop-again : tie.Need-loop-again Inv-loop μ-loop
 loop-again c =
     let l = c .before in
-    let i = l .loop .i in
-    (
+    let i = l .loop .i in (
       omega arith,
       ap (λ (x : List _). set (set x (i * 2) (i * 4096)) (i * 2 + 1) 4096) (l .loop .inv .1) ∙ describe-more i (i * 4096) 4096 (omega (arith, c .loop-test .taken, l .before .pre)) refl refl,
     )
