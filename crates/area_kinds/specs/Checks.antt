@@ -20,7 +20,7 @@ use Rattle.calls.specs.declared.Descriptor.{Descriptor}
 use Rattle.area_kinds.specs.declared.LastScratch.{LastScratch}
 use Rattle.area_kinds.specs.declared.Kinds.{Kinds}
 use Rattle.area_kinds.specs.declared.Areas.{Areas}
-use Rattle.descriptors.specs.Described.{areaOf, described, described-length}
+use Rattle.area_list.specs.Described.{areaOf, described, described-length}
 use Rattle.area_kinds.specs.Kinds.{scratchOf, scratch-count, scratch-is, all-lengths, rowsOf, Sorted}
 
 -- checks 2 to 4, of the file areas and the scratch areas

@@ -18,14 +18,14 @@ use Rattle.volume_laws.specs.Once.{once-nodup, once-mem, mem-once, pigeons}
 use Rattle.calls.specs.Areas.{paired, mostAreas, goodArea, fileAreas, scratchAreas}
 use Rattle.calls.specs.Mount.{sharedAreaId}
 use Rattle.calls.specs.declared.Descriptor.{Descriptor}
-use Rattle.descriptors.specs.Described.{areaOf, described, described-more}
-use Rattle.descriptors.specs.Listing.{pair-step, pair-holds, paired-end}
-use Rattle.descriptors.specs.Good.{Good}
-use Rattle.descriptors.specs.Steps.{pairwise, keep-takes, keep-leaves, keep-ends}
-use Rattle.areas.specs.Kinds.{fileTest, scratchTest, kindOf, idOf, HasId, file-tests, scratch-tests, invalid-tests}
-use Rattle.areas.specs.declared.AreaKind.the-variants.{File, Scratch, Invalid}
-use Rattle.table.specs.Parts.{part, part-long, part-set-behind}
-use Rattle.listing.specs.Rows.{spansAt}
+use Rattle.area_list.specs.Described.{areaOf, described, described-more}
+use Rattle.area_list.specs.Listing.{pair-step, pair-holds, paired-end}
+use Rattle.area_list.specs.Good.{Good}
+use Rattle.area_list.specs.Steps.{pairwise, keep-takes, keep-leaves, keep-ends}
+use Rattle.area_read.specs.Kinds.{fileTest, scratchTest, kindOf, idOf, HasId, file-tests, scratch-tests, invalid-tests}
+use Rattle.area_read.specs.declared.AreaKind.the-variants.{File, Scratch, Invalid}
+use Rattle.table_rows.specs.Parts.{part, part-long, part-set-behind}
+use Rattle.area_pass.specs.Rows.{spansAt}
 use Rattle.area_kinds.specs.declared.LastScratch.{LastScratch}
 use Rattle.area_kinds.specs.declared.Kinds.{Kinds}
 

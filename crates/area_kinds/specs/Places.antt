@@ -16,14 +16,14 @@ use Rattle.calls.specs.Areas.{mostAreas, goodArea, allDisjoint, areaBytes, file
 use Rattle.calls.specs.Refusal.{firstRefusal}
 use Rattle.calls.specs.Mount.{badDescription, shortScratch}
 use Rattle.calls.specs.declared.Descriptor.{Descriptor}
-use Rattle.table.specs.Parts.{part, part-long}
-use Rattle.listing.specs.Listing.{Fit}
-use Rattle.listing.specs.Rows.{spansAt}
+use Rattle.table_rows.specs.Parts.{part, part-long}
+use Rattle.area_pass.specs.Listing.{Fit}
+use Rattle.area_pass.specs.Rows.{spansAt}
 use Rattle.area_kinds.specs.declared.Areas.{Areas}
-use Rattle.descriptors.specs.Described.{areaOf, described, described-at}
-use Rattle.descriptors.specs.Good.{Fits, fits}
-use Rattle.descriptors.specs.Description.{GoodDescription, description-good}
-use Rattle.descriptors.specs.Places.{Clear, apart-members, keep-disjoint, totalLength, total-within}
+use Rattle.area_list.specs.Described.{areaOf, described, described-at}
+use Rattle.area_list.specs.Good.{Fits, fits}
+use Rattle.area_list.specs.Description.{GoodDescription, description-good}
+use Rattle.area_list.specs.Places.{Clear, apart-members, keep-disjoint, totalLength, total-within}
 use Rattle.area_kinds.specs.Checks.{areaChecks, KindsPass, kinds-passed, Split, Checked, passed-first}
 
 -- ---- what checks 1 to 4 give where they pass

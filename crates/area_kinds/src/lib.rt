@@ -6,21 +6,21 @@ ghost use lib.Dec.{leb};
 ghost use Rattle.volume.specs.Lists.{all};
 ghost use Rattle.calls.specs.Areas.{paired, areaList, mostAreas};
 ghost use Rattle.calls.specs.Mount.{sharedAreaId};
-ghost use Rattle.descriptors.specs.Described.{described};
-ghost use Rattle.descriptors.specs.Good.{Good};
-ghost use Rattle.listing.specs.Rows.{spansAt};
+ghost use Rattle.area_list.specs.Described.{described};
+ghost use Rattle.area_list.specs.Good.{Good};
+ghost use Rattle.area_pass.specs.Rows.{spansAt};
 ghost use Rattle.area_kinds.specs.Checks.{KindsAnswer, Checked, refusedAreas};
 ghost use Rattle.area_kinds.specs.Kinds.{Room, Sorted, otherId};
-use areas::AreaKind;
-use areas::area_id;
-use areas::area_kind;
+use area_read::AreaKind;
+use area_read::area_id;
+use area_read::area_kind;
 use calls::BAD_AREAS;
 use calls::Descriptor;
 use calls::NO_FILE_OR_SCRATCH;
 use calls::SAME_AREA_ID;
 use calls::SHORT_SCRATCH;
-use descriptors::count_good_areas;
-use listing::SPANS;
+use area_list::count_good_areas;
+use area_pass::SPANS;
 
 // The scratch areas found: how many, and the last of them.
 pub struct LastScratch {

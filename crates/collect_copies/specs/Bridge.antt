@@ -21,10 +21,10 @@ use Rattle.calls.specs.Areas.{areaEnd, areaBytes, allDisjoint, fileAreas}
 use Rattle.calls.specs.Mount.{recordsOf, bytesOf, recordsIn, volume}
 use Rattle.calls.specs.Collect.{isOther, recordsElsewhere, copies}
 use Rattle.calls.specs.declared.Descriptor.{Descriptor}
-use Rattle.place_view.specs.Place.{bytesAt, byPlace}
-use Rattle.descriptors.specs.Places.{Clear, clear-sym, split-first}
-use Rattle.listing.specs.Listing.{starts, placesIn}
-use Rattle.listing.specs.Bridge.{starts-each, places-bytes, placedVolume, volume-places}
+use Rattle.record_places.specs.Place.{bytesAt, byPlace}
+use Rattle.area_list.specs.Places.{Clear, clear-sym, split-first}
+use Rattle.area_pass.specs.Listing.{starts, placesIn}
+use Rattle.area_pass.specs.Bridge.{starts-each, places-bytes, placedVolume, volume-places}
 use Rattle.collect_copies.specs.Copied.{Tables, AllRows, inside, copiedPlaces}
 use Rattle.collect_copies.specs.Tests.{copies-are}
 

@@ -11,12 +11,12 @@ use Rattle.volume.specs.View.{View}
 use Rattle.volume.specs.Counting.{Volume}
 use Rattle.volume.specs.Fate.{isDead}
 use Rattle.calls.specs.Mount.{mostInodes, mostBlocks}
-use Rattle.place_view.specs.Place.{blockAt, byPlace, AllLie}
-use Rattle.table.specs.Parts.{part}
-use Rattle.table.specs.Table.{found}
-use Rattle.table.specs.Rows.{Usable, RowsOf}
-use Rattle.fate.specs.Fates.{fateBy}
-use Rattle.mounted.specs.State.{inodeIdsAt, inodeSpotsAt, blockIdsAt, blockSpotsAt, tablesSize}
+use Rattle.record_places.specs.Place.{blockAt, byPlace, AllLie}
+use Rattle.table_rows.specs.Parts.{part}
+use Rattle.table_rows.specs.Table.{found}
+use Rattle.table_rows.specs.Rows.{Usable, RowsOf}
+use Rattle.inode_fate.specs.Fates.{fateBy}
+use Rattle.mount_state.specs.State.{inodeIdsAt, inodeSpotsAt, blockIdsAt, blockSpotsAt, tablesSize}
 
 -- the rows of the ids of one kind, and those of both
 pub record Table : Type 0 where

@@ -13,11 +13,11 @@ use Rattle.volume_laws.specs.Tests.{T→true, true→T, not-T→false, and-T, h
 use Rattle.volume_laws.specs.Lists.{same-refl, same-eq, keep-append, keep-comm, keep-mem, keep-map}
 use Rattle.volume_laws.specs.Once.{Nodup, pigeons}
 use Rattle.calls.specs.Collect.{firstPlaces}
-use Rattle.place_view.specs.Place.{bytesAt, blockAt, byPlace}
-use Rattle.place_view.specs.Laws.{place-views}
-use Rattle.occupancy.specs.Laws.{position-found}
-use Rattle.table.specs.Table.{found, rowOf}
-use Rattle.table.specs.Laws.{held-some, getD-mem}
+use Rattle.record_places.specs.Place.{bytesAt, blockAt, byPlace}
+use Rattle.record_places.specs.Laws.{place-views}
+use Rattle.table_words.specs.Laws.{position-found}
+use Rattle.table_rows.specs.Table.{found, rowOf}
+use Rattle.table_rows.specs.Laws.{held-some, getD-mem}
 use Rattle.collect_copies.specs.Copied.{Table, Tables, tableOf, inside, dropped, countsIn, copied, firstAt, noneSame}
 use Rattle.collect_copies.specs.Lists.{all-kept, keep-kept, keep-parts, nodup-part}
 

@@ -10,8 +10,8 @@ use lib.Seq.{drop-cons, take-all, take-suc, take-suc-set, length-take-le}
 use Rattle.format.specs.Bytes.{Bytes}
 use Rattle.volume.specs.Lists.{keep, all}
 use Rattle.volume_laws.specs.Lists.{keep-append, keep-mem}
-use Rattle.place_view.specs.Place.{byPlace, Lies, AllLie}
-use Rattle.table.specs.Laws.{getD-mem}
+use Rattle.record_places.specs.Place.{byPlace, Lies, AllLie}
+use Rattle.table_rows.specs.Laws.{getD-mem}
 use Rattle.collect_copies.specs.Copied.{Tables, inside, holds, unheld, copied, firstAt, copiedPlaces, noneSame}
 use Rattle.collect_copies.specs.First.{first-snoc, first-mem, few-copied}
 

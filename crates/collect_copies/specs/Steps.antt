@@ -11,9 +11,9 @@ use lib.Dec.{eqb, ltb}
 use borrow.Author.Tests.{eq-eqb, ne-eqb, le-leb, lt-leb, lt-ltb, le-ltb, ltb-true, ltb-false}
 use Rattle.format.specs.Bytes.{Bytes, le32}
 use Rattle.volume.specs.Fate.{isDead}
-use Rattle.place_view.specs.Place.{blockAt, byPlace}
-use Rattle.table.specs.Table.{found}
-use Rattle.fate.specs.Fates.{fateBy}
+use Rattle.record_places.specs.Place.{blockAt, byPlace}
+use Rattle.table_rows.specs.Table.{found}
+use Rattle.inode_fate.specs.Fates.{fateBy}
 use Rattle.collect_copies.specs.Copied.{Table, Tables, tableOf, inside, holds, unheld, bearer, dropped, countsIn, copied}
 
 module _ (o n p : ℕ) where

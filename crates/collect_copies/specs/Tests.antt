@@ -16,11 +16,11 @@ use Rattle.volume.specs.Fate.{isDead, fateOf, blockDead}
 use Rattle.volume_laws.specs.Lists.{keep-cong, keep-keep, keep-map, all-map, all-cong}
 use Rattle.volume_laws.specs.Map.{over, overVolume, inodeOf-map, blockOf-map, fateOf-map}
 use Rattle.calls.specs.Collect.{counts, dropsBlock, namesInode, dropsInode, drops, copies}
-use Rattle.place_view.specs.Place.{bytesAt, blockAt, byPlace}
-use Rattle.place_view.specs.Laws.{place-views}
-use Rattle.table.specs.Table.{found}
-use Rattle.fate.specs.Fates.{fateBy}
-use Rattle.fate.specs.Laws.{fate-rows}
+use Rattle.record_places.specs.Place.{bytesAt, blockAt, byPlace}
+use Rattle.record_places.specs.Laws.{place-views}
+use Rattle.table_rows.specs.Table.{found}
+use Rattle.inode_fate.specs.Fates.{fateBy}
+use Rattle.inode_fate.specs.Laws.{fate-rows}
 use Rattle.collect_copies.specs.Copied.{Tables, tableOf, AllRows, inside, holds, unheld, dropped, countsIn, copied, firstAt, copiedPlaces}
 use Rattle.collect_copies.specs.Lists.{all-keep, all-append, all-both}
 use Rattle.collect_copies.specs.First.{first-keep, first-bytes, alike-bytes}

@@ -2,23 +2,23 @@
 ghost use mathlib.Core.Path.{_≡_};
 ghost use Prim.Native.Nat.{_≤_};
 ghost use lib.ListN.{length, take};
-ghost use Rattle.place_view.specs.Place.{blockAt, Lies, AllLie};
-ghost use Rattle.table.specs.Rows.{Usable};
+ghost use Rattle.record_places.specs.Place.{blockAt, Lies, AllLie};
+ghost use Rattle.table_rows.specs.Rows.{Usable};
 ghost use Rattle.collect_copies.specs.Copied.{tableOf, tablesOf, Rowed, mostCopies, inside, holds, unheld, bearer, dropped, countsIn, copied, copiedPlaces, noneSame, Lent};
 use calls::MOST_BLOCKS;
 use calls::MOST_INODES;
-use fate::fate_of;
-use fate::is_dead;
-use mounted::BLOCK_IDS;
-use mounted::BLOCK_SPOTS;
-use mounted::INODE_IDS;
-use mounted::INODE_SPOTS;
-use place_view::id_at;
-use place_view::is_block_at;
-use place_view::link_at;
-use place_view::same_bytes;
-use table::Spot;
-use table::find;
+use inode_fate::fate_of;
+use inode_fate::is_dead;
+use mount_state::BLOCK_IDS;
+use mount_state::BLOCK_SPOTS;
+use mount_state::INODE_IDS;
+use mount_state::INODE_SPOTS;
+use record_places::id_at;
+use record_places::is_block_at;
+use record_places::link_at;
+use record_places::same_bytes;
+use table_rows::Spot;
+use table_rows::find;
 
 // The most copies that there can be: each is of an id of its own.
 pub const MOST_COPIES: usize = MOST_INODES + MOST_BLOCKS;

@@ -17,8 +17,8 @@ use Rattle.calls.specs.Format.{emptyArea}
 use Rattle.calls.specs.Collect.{countOf, sourceOf, recordsElsewhere, copiedRecords, nextCount, collected}
 use Rattle.calls.specs.declared.Descriptor.{Descriptor}
 use Rattle.calls_laws.specs.Checks.{Passes, area-fits}
-use Rattle.flash.specs.Laws.{part-length}
-use Rattle.flash.specs.Stores.{joinedBytes}
+use Rattle.image_laws.specs.Laws.{part-length}
+use Rattle.image_laws.specs.Stores.{joinedBytes}
 use Rattle.collect_laws.specs.Source.{source-found}
 use Rattle.collect_laws.specs.Stores.{filledScratch, stores-are}
 use Rattle.collect_laws.specs.Survivors.{Survivors, copies-survive}

@@ -20,8 +20,8 @@ use Rattle.calls.specs.Storing.{storeAll}
 use Rattle.calls.specs.Format.{emptyArea}
 use Rattle.calls.specs.Collect.{countOf, isBlank, resetStores, readyStores, idStore, recordStores, nextCount, scratchStores, collectStores}
 use Rattle.calls.specs.declared.Descriptor.{Descriptor}
-use Rattle.flash.specs.Laws.{length-put, part-length, put-none, put-put, put-within}
-use Rattle.flash.specs.Stores.{joinedBytes, put-itself, put-erased, drop-erased, stores-append}
+use Rattle.image_laws.specs.Laws.{length-put, part-length, put-none, put-put, put-within}
+use Rattle.image_laws.specs.Stores.{joinedBytes, put-itself, put-erased, drop-erased, stores-append}
 use Rattle.collect_laws.specs.Header.{headerWithId, renamed-size}
 
 -- the scratch area after a collection: its header with the source's id, the copies, and FF

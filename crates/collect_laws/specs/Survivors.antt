@@ -25,7 +25,7 @@ use Rattle.volume_laws.specs.Tests.{true→T, and-T, T-and, T-other, eqb-self}
 use Rattle.volume_laws.specs.Lists.{keep-mem, mem-keep, all-mem, same-refl, same-eq}
 use Rattle.calls.specs.Mount.{bytesOf}
 use Rattle.calls.specs.Collect.{counts, firstPlaces, dropsBlock, namesInode, dropsInode, drops, copies}
-use Rattle.flash.specs.Stores.{joinedBytes}
+use Rattle.image_laws.specs.Stores.{joinedBytes}
 use Rattle.collect_laws.specs.Room.{copies-fit}
 
 -- an inode that is left out: dead, and no record but its own in the source names it

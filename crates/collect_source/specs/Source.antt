@@ -14,7 +14,7 @@ use Rattle.format.specs.AreaHeader.{areaHeaderSize}
 use Rattle.volume.specs.Lists.{keep, all}
 use Rattle.calls.specs.Collect.{eligible, countOf, precedes, firstLowest, sourceOf}
 use Rattle.calls.specs.declared.Descriptor.{Descriptor}
-use Rattle.descriptors.specs.Described.{areaOf, described, described-step, described-end}
+use Rattle.area_list.specs.Described.{areaOf, described, described-step, described-end}
 
 -- r is the collection count of the area at o, whatever its length
 pub record HasCount (image : Bytes) (o r : ℕ) : Type 0 where

@@ -4,10 +4,10 @@ ghost use Prim.Native.Nat.{_+_, _≤_};
 ghost use lib.ListN.{length};
 ghost use Rattle.format.specs.AreaHeader.{areaHeaderSize};
 ghost use Rattle.calls.specs.Collect.{precedes, sourceOf};
-ghost use Rattle.descriptors.specs.Described.{areaOf, described};
-ghost use Rattle.listing.specs.Listing.{Fit};
+ghost use Rattle.area_list.specs.Described.{areaOf, described};
+ghost use Rattle.area_pass.specs.Listing.{Fit};
 ghost use Rattle.collect_source.specs.Source.{HasCount, ahead, noneAhead, leads, areaAt};
-use areas::COUNT_AT;
+use area_read::COUNT_AT;
 use calls::Descriptor;
 
 // Whether an area of count `a` is collected before one of count `b`.

@@ -9,11 +9,11 @@ use Rattle.format.specs.AreaHeader.{areaHeaderSize}
 use Rattle.calls.specs.Image.{put, part}
 use Rattle.calls.specs.Storing.{storeAll}
 use Rattle.calls.specs.Collect.{readyStores, idStore, recordStores}
-use Rattle.place_view.specs.Place.{sizeAt, bytesAt, AllLie}
-use Rattle.descriptors.specs.Described.{areaOf}
-use Rattle.flash.specs.Apart.{Apart}
-use Rattle.flash.specs.Laws.{length-put, part-outside}
-use Rattle.flash.specs.Stores.{stores-append}
+use Rattle.record_places.specs.Place.{sizeAt, bytesAt, AllLie}
+use Rattle.area_list.specs.Described.{areaOf}
+use Rattle.image_laws.specs.Apart.{Apart}
+use Rattle.image_laws.specs.Laws.{length-put, part-outside}
+use Rattle.image_laws.specs.Stores.{stores-append}
 use Rattle.collect_laws.specs.Stores.{ready-is, ready-long, records-are}
 use Rattle.collect_stores.specs.Records.{moved, moved-same, size-stays, bytes-stay}
 use Rattle.collect_stores.specs.Moving.{Movable, apart-part}

@@ -15,9 +15,9 @@ use Rattle.calls.specs.Storing.{Store, storeAll}
 use Rattle.calls.specs.Format.{emptyArea}
 use Rattle.calls.specs.Collect.{countOf, readyStores, idStore, recordStores, nextCount, scratchStores, collectStores}
 use Rattle.calls.specs.declared.Descriptor.{Descriptor}
-use Rattle.place_view.specs.Place.{bytesAt}
-use Rattle.flash.specs.Laws.{length-put}
-use Rattle.flash.specs.Stores.{stores-append}
+use Rattle.record_places.specs.Place.{bytesAt}
+use Rattle.image_laws.specs.Laws.{length-put}
+use Rattle.image_laws.specs.Stores.{stores-append}
 use Rattle.collect_laws.specs.Stores.{filled-is, filled-long, reset-is}
 use Rattle.collect_stores.specs.Records.{moved}
 use Rattle.collect_stores.specs.Filled.{Fillable}

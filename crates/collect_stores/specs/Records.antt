@@ -13,9 +13,9 @@ use Rattle.format.specs.Record.{block}
 use Rattle.format_laws.specs.Bytes.{same-byte, same-le16, same-le32, drop-byte, drop-le16, drop-le32}
 use Rattle.volume_laws.specs.Lists.{map-append}
 use Rattle.calls.specs.Image.{part}
-use Rattle.flash.specs.Stores.{joinedBytes}
-use Rattle.place_view.specs.Place.{blockAt, sizeAt, bytesAt, Lies}
-use Rattle.place_view.specs.Laws.{size-block, size-inode, size-least}
+use Rattle.image_laws.specs.Stores.{joinedBytes}
+use Rattle.record_places.specs.Place.{blockAt, sizeAt, bytesAt, Lies}
+use Rattle.record_places.specs.Laws.{size-block, size-inode, size-least}
 
 -- the records at some places, one behind the other
 unfoldable pub moved : Bytes → List ℕ → Bytes

@@ -11,9 +11,9 @@ use Rattle.calls.specs.Image.{put, part, erased}
 use Rattle.calls.specs.Areas.{areaBytes}
 use Rattle.calls.specs.Storing.{storeAll}
 use Rattle.calls.specs.Collect.{isBlank, resetStores, readyStores}
-use Rattle.descriptors.specs.Described.{areaOf}
-use Rattle.flash.specs.Laws.{part-length}
-use Rattle.flash.specs.Stores.{put-whole}
+use Rattle.area_list.specs.Described.{areaOf}
+use Rattle.image_laws.specs.Laws.{part-length}
+use Rattle.image_laws.specs.Stores.{put-whole}
 
 module _ (x : Bytes) (o n : ℕ) (inside : o + n ≤ length x) (header : areaHeaderSize ≤ n) where
   abbrev own : Bytes

@@ -15,8 +15,8 @@ use Rattle.format_laws.specs.Reading.{Lawful, passed, parts-none, parts-take, p
 use Rattle.format_laws.specs.Taken.{recordsFrom, records-from, from-take}
 use Rattle.format_laws.specs.Clean.{Clean, free, next, erased-all, erased-records, area-clean, clean-area}
 use Rattle.calls.specs.Image.{put}
-use Rattle.flash.specs.Laws.{length-put, drop-put, before-put, after-put}
-use Rattle.flash.specs.Stores.{drop-erased}
+use Rattle.image_laws.specs.Laws.{length-put, drop-put, before-put, after-put}
+use Rattle.image_laws.specs.Stores.{drop-erased}
 
 -- the bytes of one whole record
 pub record Whole (size : Acceptor) (b : Bytes) : Type 0 where

@@ -36,8 +36,8 @@ use Rattle.calls.specs.Mount.{noRoot, mountNumber}
 use Rattle.calls.specs.Format.{emptyArea, formatNumber, longestLength, Labelled, labelled, blanked, rootBytes, rooted, formatted, imageFormatted}
 use Rattle.calls.specs.declared.Descriptor.{Descriptor}
 use Rattle.calls_laws.specs.Checks.{Passes, mounts, InArea, area-fits, areas-apart}
-use Rattle.flash.specs.Apart.{Apart}
-use Rattle.flash.specs.Laws.{length-put, part-put, part-outside, byte-outside}
+use Rattle.image_laws.specs.Apart.{Apart}
+use Rattle.image_laws.specs.Laws.{length-put, part-put, part-outside, byte-outside}
 use Rattle.demand2.specs.Area.{Whole, erased-clean, erased-starts, erased-empty}
 use Rattle.demand2.specs.Store.{freePlace, Fits, OneStored, one-stored, same-file-areas, same-scratch-areas, same-area-ids, same-described}
 use Rattle.demand2.specs.Store.{file-listed, same-area}

@@ -22,7 +22,7 @@ use Rattle.calls.specs.Image.{put}
 use Rattle.calls.specs.Mount.{acceptedRecords, mostBlocks, volume}
 use Rattle.calls.specs.Storing.{unusedId}
 use Rattle.calls.specs.Append.{blockRecords}
-use Rattle.flash.specs.Stores.{joinedBytes}
+use Rattle.image_laws.specs.Stores.{joinedBytes}
 use Rattle.calls.specs.declared.Descriptor.{Descriptor}
 use Rattle.calls_laws.specs.Checks.{Passes}
 use Rattle.calls_laws.specs.Records.{volume-sound}

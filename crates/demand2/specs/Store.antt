@@ -21,7 +21,7 @@ use Rattle.calls.specs.Mount.{recordsOf, acceptedRecords, badDescription}
 use Rattle.calls.specs.declared.Descriptor.{Descriptor}
 use Rattle.calls_laws.specs.Checks.{area-fits, areas-apart, header-file, header-scratch, header-id}
 use Rattle.calls_laws.specs.Records.{Stored, stored, stored-mem}
-use Rattle.flash.specs.Laws.{length-put, part-outside, part-around}
+use Rattle.image_laws.specs.Laws.{length-put, part-outside, part-around}
 use Rattle.demand2.specs.Area.{Whole, AreaStored, free-behind, area-stored}
 
 pub same-area : (a b : Descriptor) → Dec (a ≡ b)

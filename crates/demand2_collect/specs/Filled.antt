@@ -12,7 +12,7 @@ use Rattle.format_laws.specs.Reading.{Lawful}
 use Rattle.format_laws.specs.Taken.{recordsFrom, records-from, from-take}
 use Rattle.format_laws.specs.Clean.{Clean, free, next, erased-records, clean-area}
 use Rattle.calls.specs.Mount.{bytesOf}
-use Rattle.flash.specs.Stores.{joinedBytes}
+use Rattle.image_laws.specs.Stores.{joinedBytes}
 use Rattle.demand2.specs.Area.{Whole, followed}
 
 module _ (size : Acceptor) (ok : Lawful size) where

@@ -27,9 +27,9 @@ use Rattle.calls.specs.Collect.{collects, refuses, collectFrom, collectWith, co
 use Rattle.calls.specs.declared.Descriptor.{Descriptor}
 use Rattle.calls_laws.specs.Checks.{Passes, passes, InArea, area-fits, areas-apart}
 use Rattle.calls_laws.specs.Records.{Stored, stored, stored-mem}
-use Rattle.flash.specs.Apart.{Apart}
-use Rattle.flash.specs.Laws.{length-put, part-put, part-outside, byte-outside}
-use Rattle.flash.specs.Stores.{joinedBytes}
+use Rattle.image_laws.specs.Apart.{Apart}
+use Rattle.image_laws.specs.Laws.{length-put, part-put, part-outside, byte-outside}
+use Rattle.image_laws.specs.Stores.{joinedBytes}
 use Rattle.collect_laws.specs.Source.{source-found}
 use Rattle.collect_laws.specs.Header.{headerWithId, renamed-size, renamed-id, renamed-file}
 use Rattle.collect_laws.specs.Stores.{filledScratch, filled-long}

@@ -13,26 +13,26 @@ use Rattle.volume.specs.Lists.{has}
 use Rattle.volume.specs.View.{byBytes}
 use Rattle.volume.specs.Counting.{Volume, volumeOf, allAgree, inodeOf}
 use Rattle.volume_laws.specs.Map.{over, overVolume, volumeOf-map, allAgree-map, inodeOf-map, inodeIds-map, blockIds-map}
-use Rattle.place_view.specs.Place.{bytesAt, byPlace, AllLie}
-use Rattle.place_view.specs.Laws.{place-views}
-use Rattle.occupancy.specs.Occupancy.{capacity}
-use Rattle.occupancy.specs.Laws.{total-within, fresh-total}
-use Rattle.table.specs.Table.{taken, found, Rows, Good, spotOf}
-use Rattle.table.specs.Laws.{fresh-good, ids-room, spots-room}
-use Rattle.table.specs.declared.Spot.{Spot}
-use Rattle.table.specs.Parts.{part, part-long, part-part, part-first, lent, lent-front}
-use Rattle.table.specs.Rows.{Usable, RowsOf, InodeTable, BlockTable, rows-exact, usable-exact, inode-table, block-table}
-use Rattle.gather.specs.Gather.{Tables, SameKind, AllGood, AllRows, overfull, Gathered}
-use Rattle.gather.specs.Gather.{Ready as GatherReady}
-use Rattle.gather.specs.Laws.{getD-in}
-use Rattle.gather.specs.Agreement.{sound-places}
-use Rattle.gather.specs.Parts.{tablesIn, Room, allRows, inodeRows, blockRows, inodePart, blockPart}
+use Rattle.record_places.specs.Place.{bytesAt, byPlace, AllLie}
+use Rattle.record_places.specs.Laws.{place-views}
+use Rattle.table_words.specs.Occupancy.{capacity}
+use Rattle.table_words.specs.Laws.{total-within, fresh-total}
+use Rattle.table_rows.specs.Table.{taken, found, Rows, Good, spotOf}
+use Rattle.table_rows.specs.Laws.{fresh-good, ids-room, spots-room}
+use Rattle.table_rows.specs.declared.Spot.{Spot}
+use Rattle.table_rows.specs.Parts.{part, part-long, part-part, part-first, lent, lent-front}
+use Rattle.table_rows.specs.Rows.{Usable, RowsOf, InodeTable, BlockTable, rows-exact, usable-exact, inode-table, block-table}
+use Rattle.table_fill.specs.Gather.{Tables, SameKind, AllGood, AllRows, overfull, Gathered}
+use Rattle.table_fill.specs.Gather.{Ready as GatherReady}
+use Rattle.table_fill.specs.Laws.{getD-in}
+use Rattle.table_fill.specs.Agreement.{sound-places}
+use Rattle.table_fill.specs.Parts.{tablesIn, Room, allRows, inodeRows, blockRows, inodePart, blockPart}
 use Rattle.calls.specs.Refusal.{Check, _refused-by_, firstRefusal}
 use Rattle.calls.specs.Mount.{mostInodes, mostBlocks, recordsIn, tooManyIds, noRoot}
 use Rattle.calls.specs.declared.Descriptor.{Descriptor}
 use Rattle.calls_laws.specs.Records.{records-sound}
-use Rattle.listing.specs.Listing.{placesIn}
-use Rattle.listing.specs.Bridge.{places-bytes, places-lie}
+use Rattle.area_pass.specs.Listing.{placesIn}
+use Rattle.area_pass.specs.Bridge.{places-bytes, places-lie}
 use Rattle.mount.specs.declared.Filled.{Filled}
 
 -- checks 5 to 7, of the file areas fs

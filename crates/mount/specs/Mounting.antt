@@ -7,28 +7,28 @@ use lib.ListN.{length, take, drop, getD, length-take}
 use lib.Seq.{getD-take}
 use Rattle.format.specs.Bytes.{Bytes}
 use Rattle.volume.specs.Counting.{Volume, volumeOf}
-use Rattle.place_view.specs.Place.{byPlace, AllLie}
-use Rattle.gather.specs.Laws.{getD-in}
-use Rattle.gather.specs.Agreement.{sound-places}
-use Rattle.gather.specs.Parts.{allRows, inodeRows}
-use Rattle.table.specs.Parts.{part, putBack, part-long, part-part, part-same, part-before, part-front, put-long, both}
-use Rattle.table.specs.Rows.{InodeTable, BlockTable, RowsOf}
+use Rattle.record_places.specs.Place.{byPlace, AllLie}
+use Rattle.table_fill.specs.Laws.{getD-in}
+use Rattle.table_fill.specs.Agreement.{sound-places}
+use Rattle.table_fill.specs.Parts.{allRows, inodeRows}
+use Rattle.table_rows.specs.Parts.{part, putBack, part-long, part-part, part-same, part-before, part-front, put-long, both}
+use Rattle.table_rows.specs.Rows.{InodeTable, BlockTable, RowsOf}
 use Rattle.calls.specs.Areas.{mostAreas, fileAreas}
 use Rattle.calls.specs.Refusal.{firstRefusal}
 use Rattle.calls.specs.Mount.{acceptedRecords, volume, mountNumber, mostInodes, mostBlocks, mostRecords}
 use Rattle.calls.specs.declared.Descriptor.{Descriptor}
 use Rattle.calls_laws.specs.Records.{records-sound}
-use Rattle.descriptors.specs.Described.{described, described-length}
+use Rattle.area_list.specs.Described.{described, described-length}
 use Rattle.area_kinds.specs.Checks.{recordChecks, mount-refused, mount-goes-on, Checked, Split}
 use Rattle.area_kinds.specs.Places.{AreasPass, checked-pass, files-lie}
 use Rattle.area_kinds.specs.declared.Areas.{Areas}
-use Rattle.listing.specs.Listing.{placesIn, Fit}
-use Rattle.listing.specs.Reading.{readingOf}
-use Rattle.listing.specs.Rows.{spansAt, stretchesAt, skippedAt, freeAt, areaRows, areaAt, readingAt, Readings, Small}
-use Rattle.listing.specs.Rows.{Lent as PassLent}
-use Rattle.listing.specs.Bridge.{placedVolume, places-bytes, places-lie}
-use Rattle.mounted.specs.State.{tablesSize, inodeIdsAt, inodeSpotsAt, blockIdsAt, blockSpotsAt, Mounts, refusedMount}
-use Rattle.mounted.specs.declared.Mounted.{Mounted}
+use Rattle.area_pass.specs.Listing.{placesIn, Fit}
+use Rattle.area_pass.specs.Reading.{readingOf}
+use Rattle.area_pass.specs.Rows.{spansAt, stretchesAt, skippedAt, freeAt, areaRows, areaAt, readingAt, Readings, Small}
+use Rattle.area_pass.specs.Rows.{Lent as PassLent}
+use Rattle.area_pass.specs.Bridge.{placedVolume, places-bytes, places-lie}
+use Rattle.mount_state.specs.State.{tablesSize, inodeIdsAt, inodeSpotsAt, blockIdsAt, blockSpotsAt, Mounts, refusedMount}
+use Rattle.mount_state.specs.declared.Mounted.{Mounted}
 use Rattle.mount.specs.Filling.{checksIn, Ready, Rowed, Fills}
 use Rattle.mount.specs.declared.Filled.{Filled}
 

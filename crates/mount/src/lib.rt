@@ -1,22 +1,22 @@
 // Mounting: checks 1 to 7, the places of all records, and the tables of the inodes and of the blocks that count.
 ghost use mathlib.Core.Path.{_≡_};
 ghost use Rattle.calls.specs.Areas.{areaList};
-ghost use Rattle.mounted.specs.State.{Lent, Mounts, refusedMount};
+ghost use Rattle.mount_state.specs.State.{Lent, Mounts, refusedMount};
 ghost use Rattle.mount.specs.Filling.{Ready, Fills};
 use area_kinds::check_areas;
 use calls::Descriptor;
 use calls::MOST_BLOCKS;
 use calls::MOST_INODES;
 use calls::NO_ROOT;
-use gather::gather;
-use listing::list_areas;
-use mounted::INODE_IDS;
-use mounted::Mounted;
-use mounted::TABLES;
-use occupancy::taken;
-use records::ROOT;
-use table::Spot;
-use table::find;
+use table_fill::gather;
+use area_pass::list_areas;
+use mount_state::INODE_IDS;
+use mount_state::Mounted;
+use mount_state::TABLES;
+use table_words::taken;
+use record_read::ROOT;
+use table_rows::Spot;
+use table_rows::find;
 
 // The words that say which rows are taken, 64 in each.
 const INODE_WORDS: usize = MOST_INODES / 64;

@@ -18,17 +18,17 @@ use calls::Lookup;
 use calls::Opened;
 use calls::ReadAnswer;
 use calls::Report;
-use descriptor_list::areas_of;
-use entries::append_of;
-use entries::collect_of;
-use entries::create_of;
-use entries::format_of;
-use entries::lookup_of;
-use entries::open_of;
-use entries::read_at_of;
-use entries::read_of;
-use entries::report_of;
-use entries::unlink_of;
+use area_structs::areas_of;
+use call_entries::append_of;
+use call_entries::collect_of;
+use call_entries::create_of;
+use call_entries::format_of;
+use call_entries::lookup_of;
+use call_entries::open_of;
+use call_entries::read_at_of;
+use call_entries::read_of;
+use call_entries::report_of;
+use call_entries::unlink_of;
 
 // Makes an empty volume of the areas: the number of refusal, or 0. A refused format changes no byte.
 #[no_mangle]

@@ -5,11 +5,11 @@ use mathlib.Core.Bool.{false}
 use lib.ListN.{length, take, length-take}
 use Rattle.calls.specs.Areas.{areaList, mostAreas}
 use Rattle.calls.specs.Mount.{badDescription}
-use Rattle.descriptors.specs.Described.{described}
-use Rattle.descriptors.specs.Description.{listed-good, description-good}
-use Rattle.descriptors.specs.Good.{Good}
-use Rattle.table.specs.Parts.{lent, lent-front, both}
-use Rattle.listing.specs.Rows.{spansAt}
+use Rattle.area_list.specs.Described.{described}
+use Rattle.area_list.specs.Description.{listed-good, description-good}
+use Rattle.area_list.specs.Good.{Good}
+use Rattle.table_rows.specs.Parts.{lent, lent-front, both}
+use Rattle.area_pass.specs.Rows.{spansAt}
 use Rattle.area_kinds.specs.Kinds.{rowsOf, Sorted, files-good}
 use Rattle.area_kinds.specs.Checks.{KindsAnswer, bad-checked, checked-refused, checked-passes}
 use native.Mathlib.Omega.{arith}

@@ -3,9 +3,9 @@ use Prim.Native.Nat.{_-_}
 use mathlib.Core.Path.{_≡_, refl, sym, _∙_}
 use lib.ListN.{length, drop}
 use Rattle.volume.specs.Lists.{all}
-use Rattle.descriptors.specs.Described.{described, described-step, described-end}
-use Rattle.descriptors.specs.Steps.{all-passes, all-fails, all-ends}
-use Rattle.descriptors.specs.Good.{fits-at, header-at}
+use Rattle.area_list.specs.Described.{described, described-step, described-end}
+use Rattle.area_list.specs.Steps.{all-passes, all-fails, all-ends}
+use Rattle.area_list.specs.Good.{fits-at, header-at}
 use Rattle.area_kinds.specs.Kinds.{otherId, id-same, id-differs}
 use borrow.Author.Needs.{needs}
 use native.Mathlib.Omega.{arith}

@@ -5,7 +5,7 @@ use lib.ListN.{length, drop, drop-of-length-le}
 use lib.Dec.{leb}
 use borrow.Author.Tests.{le-leb, lt-leb}
 use Rattle.volume.specs.Lists.{all}
-use Rattle.descriptors.specs.Steps.{drop-step, all-passes, all-fails, all-ends}
+use Rattle.area_list.specs.Steps.{drop-step, all-passes, all-fails, all-ends}
 use borrow.Author.Needs.{needs}
 use Rattle.area_kinds.proofs.none_longer.Statement.{statement}
 use Rattle.area_kinds.proofs.none_longer.Tie as tie

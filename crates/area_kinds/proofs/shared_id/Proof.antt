@@ -7,9 +7,9 @@ use Rattle.volume.specs.Lists.{all}
 use Rattle.calls.specs.Mount.{sharedAreaId}
 use Rattle.format_laws.specs.Bytes.{rest-part}
 use Rattle.format_laws.specs.Tests.{via}
-use Rattle.descriptors.specs.Described.{areaOf, described, described-step, described-end}
-use Rattle.descriptors.specs.Steps.{pairwise, pairs-pass, pairs-fail, pairs-end}
-use Rattle.descriptors.specs.Good.{fits-at, header-at, good-later}
+use Rattle.area_list.specs.Described.{areaOf, described, described-step, described-end}
+use Rattle.area_list.specs.Steps.{pairwise, pairs-pass, pairs-fail, pairs-end}
+use Rattle.area_list.specs.Good.{fits-at, header-at, good-later}
 use Rattle.area_kinds.specs.Kinds.{ownId, shared-pairs}
 use borrow.Author.Needs.{needs}
 use native.Mathlib.Omega.{arith}

@@ -3,8 +3,8 @@ use Prim.Native.Nat.{ℕ, _+_, _*_, _-_, _≤_, _<_}
 use mathlib.Core.Path.{_≡_, sym, _∙_}
 use lib.ListN.{length, getD, length-set}
 use Rattle.calls.specs.Areas.{mostAreas}
-use Rattle.descriptors.specs.Described.{areaOf}
-use Rattle.listing.specs.Rows.{spansAt}
+use Rattle.area_list.specs.Described.{areaOf}
+use Rattle.area_pass.specs.Rows.{spansAt}
 use Rattle.area_kinds.specs.Kinds.{Sorting, sorting-begins, sorting-file, sorting-scratch, sorting-passes, sorting-ends, area-good}
 use native.Mathlib.Omega.{arith}
 use borrow.Author.Needs.{needs}

@@ -3,9 +3,9 @@ use Prim.Native.Nat.{ℕ}
 use mathlib.Core.Path.{sym, ap₂, _∙_}
 use mathlib.Core.List.{List}
 use borrow.Author.Needs.{needs}
-use Rattle.table.specs.Parts.{lent, both}
-use Rattle.table.specs.Rows.{Usable}
-use Rattle.mounted.specs.State.{inodeIdsAt, inodeSpotsAt, blockIdsAt, blockSpotsAt}
+use Rattle.table_rows.specs.Parts.{lent, both}
+use Rattle.table_rows.specs.Rows.{Usable}
+use Rattle.mount_state.specs.State.{inodeIdsAt, inodeSpotsAt, blockIdsAt, blockSpotsAt}
 use Rattle.collect_copies.specs.Copied.{tablesOf, countsIn}
 use Rattle.collect_copies.specs.Steps.{kind-block, kind-inode}
 use Rattle.collect_copies.proofs.counts.Statement.{statement}

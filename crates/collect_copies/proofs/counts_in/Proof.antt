@@ -5,8 +5,8 @@ use mathlib.Core.Option.{some}
 use lib.ListN.{length}
 use borrow.Author.Needs.{needs}
 use Rattle.format.specs.Bytes.{le32}
-use Rattle.table.specs.Table.{found, spotOf}
-use Rattle.table.specs.Rows.{found-in}
+use Rattle.table_rows.specs.Table.{found, spotOf}
+use Rattle.table_rows.specs.Rows.{found-in}
 use Rattle.collect_copies.specs.Steps.{counts-none, counts-one}
 use Rattle.collect_copies.proofs.counts_in.Statement.{statement}
 use Rattle.collect_copies.proofs.counts_in.Tie as tie

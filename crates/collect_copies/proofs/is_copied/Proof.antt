@@ -4,9 +4,9 @@ use mathlib.Core.Path.{sym, ap, ap₂, _∙_}
 use mathlib.Core.Bool.{not}
 use mathlib.Core.List.{List}
 use borrow.Author.Needs.{needs}
-use Rattle.table.specs.Parts.{lent, both}
-use Rattle.table.specs.Rows.{Usable}
-use Rattle.mounted.specs.State.{inodeIdsAt, inodeSpotsAt}
+use Rattle.table_rows.specs.Parts.{lent, both}
+use Rattle.table_rows.specs.Rows.{Usable}
+use Rattle.mount_state.specs.State.{inodeIdsAt, inodeSpotsAt}
 use Rattle.collect_copies.specs.Copied.{Tables, tablesOf, dropped}
 use Rattle.collect_copies.specs.Steps.{copied-elsewhere, copied-older, copied-counts}
 use Rattle.collect_copies.proofs.is_copied.Statement.{statement}

@@ -5,8 +5,8 @@ use mathlib.Core.Bool.{Bool}
 use lib.ListN.{length}
 use borrow.Author.Needs.{needs}
 use Rattle.volume.specs.Fate.{isDead}
-use Rattle.place_view.specs.Place.{byPlace}
-use Rattle.fate.specs.Fates.{fateBy}
+use Rattle.record_places.specs.Place.{byPlace}
+use Rattle.inode_fate.specs.Fates.{fateBy}
 use Rattle.collect_copies.specs.Copied.{unheld, bearer}
 use Rattle.collect_copies.specs.Steps.{dropped-not, dropped-if}
 use Rattle.collect_copies.proofs.is_dropped.Statement.{statement}

@@ -5,9 +5,9 @@ use mathlib.Core.Bool.{true}
 use mathlib.Core.List.{List}
 use native.Mathlib.Omega.{arith}
 use lib.ListN.{length, take, drop, getD, length-take}
-use Rattle.place_view.specs.Place.{Lies, AllLie}
-use Rattle.table.specs.Parts.{lent-front}
-use Rattle.mounted.specs.State.{inodeIdsAt, blockIdsAt}
+use Rattle.record_places.specs.Place.{Lies, AllLie}
+use Rattle.table_rows.specs.Parts.{lent-front}
+use Rattle.mount_state.specs.State.{inodeIdsAt, blockIdsAt}
 use Rattle.collect_copies.specs.Copied.{Tables, tablesOf, copied, noneSame}
 use Rattle.collect_copies.specs.Loops.{
   Choosing,

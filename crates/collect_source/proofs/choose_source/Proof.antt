@@ -4,7 +4,7 @@ use mathlib.Core.Path.{_≡_, refl, sym, _∙_}
 use native.Mathlib.Omega.{arith}
 use lib.ListN.{length, drop}
 use borrow.Author.Needs.{needs}
-use Rattle.descriptors.specs.Described.{described}
+use Rattle.area_list.specs.Described.{described}
 use Rattle.collect_source.specs.Source.{firstLeading, source-leads, first-here, first-later, first-nowhere}
 use Rattle.collect_source.proofs.choose_source.Statement.{statement}
 use Rattle.collect_source.proofs.choose_source.Tie as tie

@@ -4,7 +4,7 @@ use mathlib.Core.Path.{_≡_, refl, sym, _∙_}
 use native.Mathlib.Omega.{arith}
 use lib.ListN.{length, drop}
 use borrow.Author.Needs.{needs}
-use Rattle.descriptors.specs.Described.{described}
+use Rattle.area_list.specs.Described.{described}
 use Rattle.collect_source.specs.Source.{noneAhead, none-fails, none-passes, none-ends}
 use Rattle.collect_source.proofs.none_ahead.Statement.{statement}
 use Rattle.collect_source.proofs.none_ahead.Tie as tie

@@ -4,7 +4,7 @@ use native.Mathlib.Nat.{add-sub-cancel-left}
 use borrow.Author.Needs.{needs}
 use Rattle.calls.specs.Areas.{areaBytes}
 use Rattle.calls.specs.Collect.{isBlank}
-use Rattle.descriptors.specs.Described.{areaOf}
+use Rattle.area_list.specs.Described.{areaOf}
 use Rattle.collect_stores.specs.Reset.{ready-blank, ready-reset}
 use Rattle.collect_stores.proofs.ready_scratch.Statement.{statement}
 use Rattle.collect_stores.proofs.ready_scratch.Tie as tie

@@ -1,8 +1,8 @@
 -- `mount::fill_tables` meets its contract.
 use mathlib.Core.Path.{_≡_, ap, _∙_}
 use native.Mathlib.Omega.{arith}
-use Rattle.table.specs.Table.{spotOf}
-use Rattle.gather.specs.Parts.{Room}
+use Rattle.table_rows.specs.Table.{spotOf}
+use Rattle.table_fill.specs.Parts.{Room}
 use Rattle.mount.specs.Filling.{fresh-ready, fresh-room, fill-refused, fill-rootless, fill-passes}
 use borrow.Author.Needs.{needs}
 use Rattle.mount.proofs.fill_tables.Statement.{statement}

@@ -1,7 +1,7 @@
 -- `mount::mount` meets its contract.
 use mathlib.Core.Path.{_≡_, _∙_}
 use lib.ListN.{length}
-use Rattle.mounted.specs.State.{tablesSize}
+use Rattle.mount_state.specs.State.{tablesSize}
 use Rattle.mount.specs.Mounting.{areas-refused, pass-lent, ready, records-refused, mount-passes}
 use borrow.Author.Needs.{needs}
 use Rattle.mount.proofs.mount.Statement.{statement}

@@ -11,12 +11,12 @@ use denote.Plain.{uint-lawful}
 use denote.Triple.Clauses.{ensured}
 use Rattle.calls.specs.Areas.{listed, areaList}
 use Rattle.calls.specs.Format.{formatNumber, imageFormatted}
-use Rattle.descriptor_list.specs.Cut.{format-whole, formatted-whole}
-use Rattle.entry_walk.proofs.Frame.{start, holding}
-use Rattle.entry_walk.proofs.Forward.{Kind, lent, list, spells, tell, spelt, in-row, typed, skip, instead, follows, alike, stands, begins, resliced, reslices, at-once, goes-on}
-use Rattle.entries.proofs.format_of as g
-use Rattle.entries.proofs.format_of.Symbol as g-def
-use Rattle.entries.proofs.format_of.Met as g-thm
+use Rattle.area_structs.specs.Cut.{format-whole, formatted-whole}
+use Rattle.nffs_walk.proofs.Frame.{start, holding}
+use Rattle.nffs_walk.proofs.Forward.{Kind, lent, list, spells, tell, spelt, in-row, typed, skip, instead, follows, alike, stands, begins, resliced, reslices, at-once, goes-on}
+use Rattle.call_entries.proofs.format_of as g
+use Rattle.call_entries.proofs.format_of.Symbol as g-def
+use Rattle.call_entries.proofs.format_of.Met as g-thm
 use Rattle.nffs.proofs.nffs_format.Key as f-key
 use Rattle.nffs.proofs.nffs_format as f
 use Rattle.nffs.proofs.nffs_format.Statement as stated
@@ -30,8 +30,8 @@ unfolding code.routine
 nffs-format-spec 𝓤 H 𝓜 𝓖 𝓡 =
     let c = f.clauses 𝓤 H (𝓖 .A) (𝓜 .mem) (𝓡 .run) in
     let d = g.clauses 𝓤 H (𝓖 .A) (𝓜 .mem) (𝓡 .run) in
-    stands 𝓤 H 𝓜 𝓖 𝓡 code.env code.calls-descriptor-list·areas-of f.ended c f-key.name code.function (code.unfolded 𝓤 H 𝓜 𝓡)
-    g.ended d g-def.name g-def.routine code.calls-entries·format-of (g-thm.met 𝓤 H 𝓜 𝓖 𝓡) (λ κs. spells (kinds κs)) (λ κs. tell (kinds κs)) (λ W fm listing known y are.
+    stands 𝓤 H 𝓜 𝓖 𝓡 code.env code.calls-area-structs·areas-of f.ended c f-key.name code.function (code.unfolded 𝓤 H 𝓜 𝓡)
+    g.ended d g-def.name g-def.routine code.calls-call-entries·format-of (g-thm.met 𝓤 H 𝓜 𝓖 𝓡) (λ κs. spells (kinds κs)) (λ κs. tell (kinds κs)) (λ W fm listing known y are.
     begins W _ _ code.function 0 (y .0 .0) (y .0 .1) (kinds (y .0 .0)) (y .0 .3) _ (typed 𝓤 H (𝓖 .A) W (kinds (y .0 .0)) (y .0 .3) are) (λ bs.
     reslices ! (code.function .locals) bs (start (code.function .locals) (in-row (kinds (y .0 .0)) (y .0 .3))) 1 3 4 _ _ (y .0 .3 .0 .ptr) (length (y .0 .3 .0 .now)) refl refl tt refl (tt, tt) tt refl (typed 𝓤 H (𝓖 .A) W (kinds (y .0 .0)) (y .0 .3) are .0) refl refl $
     goes-on ! fm (𝓜 .mem) (𝓡 .run) listing (y .0 .3 .1 .0) g.ended d known (λ n v. ((skip (y .0 .0), skip (y .0 .1), tt, instead n (y .0 .3), instead (v ∷ []) (spelt (kinds (y .0 .0)) (y .0 .3))), tt)) 0 (y .0 .0) (y .0 .1)

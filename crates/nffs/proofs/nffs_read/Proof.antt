@@ -40,18 +40,18 @@ use Rattle.calls.proofs.Handle as T
 use Rattle.calls.proofs.Handle.Laws as T′
 use Rattle.calls.proofs.ReadAnswer as Q
 use Rattle.calls.proofs.ReadAnswer.Laws as Q′
-use Rattle.descriptor_list.specs.declared.Areas.{Areas}
-use Rattle.descriptor_list.proofs.Areas as R
-use Rattle.descriptor_list.proofs.Areas.Laws as R′
-use Rattle.entries.specs.declared.HandleRead.{HandleRead}
-use Rattle.entries.proofs.HandleRead as N
-use Rattle.entries.proofs.HandleRead.Laws as N′
-use Rattle.descriptor_list.specs.Cut.{read-whole}
-use Rattle.entry_walk.proofs.Frame.{leaves}
-use Rattle.entry_walk.proofs.Forward.{Kind, shared, lent, referred, list, spells, tell, spelt, typed, Told, no-asks, clauses3, together, says3, stands, begins, lists}
-use Rattle.entries.proofs.read_of as g
-use Rattle.entries.proofs.read_of.Symbol as g-def
-use Rattle.entries.proofs.read_of.Met as g-thm
+use Rattle.area_structs.specs.declared.Areas.{Areas}
+use Rattle.area_structs.proofs.Areas as R
+use Rattle.area_structs.proofs.Areas.Laws as R′
+use Rattle.call_entries.specs.declared.HandleRead.{HandleRead}
+use Rattle.call_entries.proofs.HandleRead as N
+use Rattle.call_entries.proofs.HandleRead.Laws as N′
+use Rattle.area_structs.specs.Cut.{read-whole}
+use Rattle.nffs_walk.proofs.Frame.{leaves}
+use Rattle.nffs_walk.proofs.Forward.{Kind, shared, lent, referred, list, spells, tell, spelt, typed, Told, no-asks, clauses3, together, says3, stands, begins, lists}
+use Rattle.call_entries.proofs.read_of as g
+use Rattle.call_entries.proofs.read_of.Symbol as g-def
+use Rattle.call_entries.proofs.read_of.Met as g-thm
 use Rattle.nffs.proofs.nffs_read.Key as f-key
 use Rattle.nffs.proofs.nffs_read as f
 use Rattle.nffs.proofs.nffs_read.Statement as stated
@@ -135,8 +135,8 @@ nffs-read-spec 𝓤 H 𝓜 𝓖 𝓡 =
     let A = 𝓖 .A in
     let mem = 𝓜 .mem in
     let run = 𝓡 .run in
-    stands 𝓤 H 𝓜 𝓖 𝓡 code.env code.calls-descriptor-list·areas-of f.ended (f.clauses 𝓤 H A mem run) f-key.name code.function (code.unfolded 𝓤 H 𝓜 𝓡)
-    g.ended (g.clauses 𝓤 H A mem run) g-def.name g-def.routine code.calls-entries·read-of (g-thm.met 𝓤 H 𝓜 𝓖 𝓡) (λ κs. spells (kinds κs)) (λ κs. tell (kinds κs)) (λ W fm listing known y are.
+    stands 𝓤 H 𝓜 𝓖 𝓡 code.env code.calls-area-structs·areas-of f.ended (f.clauses 𝓤 H A mem run) f-key.name code.function (code.unfolded 𝓤 H 𝓜 𝓡)
+    g.ended (g.clauses 𝓤 H A mem run) g-def.name g-def.routine code.calls-call-entries·read-of (g-thm.met 𝓤 H 𝓜 𝓖 𝓡) (λ κs. spells (kinds κs)) (λ κs. tell (kinds κs)) (λ W fm listing known y are.
     let fits = typed 𝓤 H A W (kinds (y .0 .0)) (y .0 .3) are in
     begins W _ _ code.function 2 (y .0 .0) (y .0 .1) (kinds (y .0 .0)) (y .0 .3) _ fits (λ bs.
     lists ! fm mem run listing (y .0 .3 .1 .0) (and-then ! (load ! (from ! (stop !)) (look ! 4 refl)) (no-more !)) (λ n v e is.

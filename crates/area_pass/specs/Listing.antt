@@ -1,0 +1,47 @@
+-- The places of the records of areas in the image.
+use Prim.Native.Nat.{ℕ, _+_, _*_, _≤_, _<_}
+use mathlib.Core.Path.{_≡_}
+use mathlib.Core.List.{List, [], _∷_, _++_}
+use lib.ListN.{length, take, getD}
+use Rattle.format.specs.Bytes.{Bytes}
+use Rattle.format.specs.Record.{recordSize}
+use Rattle.format.specs.AreaHeader.{areaHeaderSize}
+use Rattle.format.specs.Reading.{Placed, areaRecords}
+use Rattle.calls.specs.Areas.{shortestArea, largestImage}
+use Rattle.calls.specs.Mount.{mostRecords, recordsOf}
+use Rattle.area_list.specs.Described.{described}
+use Rattle.area_list.specs.Places.{totalLength}
+use Rattle.calls.specs.declared.Descriptor.{Descriptor}
+
+-- the places in the image of records of an area that starts at base
+unfoldable pub starts : ℕ → List Placed → List ℕ
+starts base [] = []
+starts base (r ∷ l) = (base + r .place) ∷ starts base l
+
+-- the places of the records of areas, area after area
+unfoldable pub placesIn : Bytes → List Descriptor → List ℕ
+placesIn image [] = []
+placesIn image (d ∷ ds) = starts (d .offset) (recordsOf image d) ++ placesIn image ds
+
+-- there is a place for each record: it has at least 20 bytes, and an area's header 24
+pub record Room (area : Bytes) (base : ℕ) (ps : List ℕ) (n : ℕ) : Type 0 where
+  pub header : areaHeaderSize ≤ length area
+  pub inside : base + length area ≤ largestImage
+  pub room : 20 * n + length area ≤ 20 * length ps + areaHeaderSize
+
+pub record Listed (area : Bytes) (base : ℕ) (ps : List ℕ) (n r : ℕ) (ps′ : List ℕ) : Type 0 where
+  pub is : take r ps′ ≡ take n ps ++ starts base (areaRecords recordSize area)
+  pub few : 20 * r + areaHeaderSize ≤ 20 * n + length area
+
+-- file areas that lie in the image and are together no longer than it
+pub record Fit (image : Bytes) (os ls : List ℕ) : Type 0 where
+  pub small : length image ≤ largestImage
+  pub pairs : length ls ≡ length os
+  pub long : (i : ℕ) → i < length os → shortestArea ≤ getD ls i 0
+  pub inside : (i : ℕ) → i < length os → getD os i 0 + getD ls i 0 ≤ length image
+  pub apart : totalLength (described os ls) ≤ largestImage
+
+-- and a place for each record that they can hold
+pub record Files (image : Bytes) (os ls ps : List ℕ) : Type 0 where
+  pub fit : Fit image os ls
+  pub room : mostRecords ≤ length ps
