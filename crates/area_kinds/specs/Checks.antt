@@ -21,7 +21,7 @@ use Rattle.area_kinds.specs.declared.LastScratch.{LastScratch}
 use Rattle.area_kinds.specs.declared.Kinds.{Kinds}
 use Rattle.area_kinds.specs.declared.Areas.{Areas}
 use Rattle.area_list.specs.Described.{areaOf, described, described-length}
-use Rattle.area_kinds.specs.Kinds.{scratchOf, scratch-count, scratch-is, all-lengths, rowsOf, Sorted}
+use Rattle.area_kinds.specs.Kinds.{scratchOf, scratch-count, scratch-is, all-spans, rowsOf, Sorted}
 
 -- checks 2 to 4, of the file areas and the scratch areas
 unfoldable pub kindChecks : Bytes → List Descriptor → List Descriptor → List Check
@@ -93,36 +93,36 @@ module _ (image : Bytes) (fs ss : List Descriptor) where
 pub record KindsAnswer (image : Bytes) (fs : List Descriptor) (s : LastScratch) (r : ℕ) : Type 0 where
   pub is : (ss : List Descriptor) → s ≡ scratchOf ss → r ≡ firstRefusal (kindChecks image fs ss)
 
-module _ (image : Bytes) (os ls : List ℕ) (pairs : length os ≡ length ls) (s : LastScratch) where
-  pub answer-shared : sharedAreaId image (described os ls) ≡ true → KindsAnswer image (described os ls) s 2
-  answer-shared e = record { is = λ ss q. sym (kinds-shared image (described os ls) ss e) }
+module _ (image : Bytes) (starts spans : List ℕ) (pairs : length starts ≡ length spans) (s : LastScratch) where
+  pub answer-shared : sharedAreaId image (described starts spans) ≡ true → KindsAnswer image (described starts spans) s 2
+  answer-shared e = record { is = λ ss q. sym (kinds-shared image (described starts spans) ss e) }
 
-  module _ (own : sharedAreaId image (described os ls) ≡ false) where
-    pub answer-no-file : length os ≡ 0 → KindsAnswer image (described os ls) s 3
-    answer-no-file h = record { is = λ ss q. sym (kinds-no-file image (described os ls) ss own (described-length os ls pairs ∙ h)) }
+  module _ (own : sharedAreaId image (described starts spans) ≡ false) where
+    pub answer-no-file : length starts ≡ 0 → KindsAnswer image (described starts spans) s 3
+    answer-no-file h = record { is = λ ss q. sym (kinds-no-file image (described starts spans) ss own (described-length starts spans pairs ∙ h)) }
 
-    pub answer-scratch : (s .count ≡ 1 → ⊥) → KindsAnswer image (described os ls) s 3
+    pub answer-scratch : (s .count ≡ 1 → ⊥) → KindsAnswer image (described starts spans) s 3
     answer-scratch h = record {
-      is = λ ss q. sym (kinds-scratch image (described os ls) ss own (λ z. h (ap (λ (x : LastScratch). x .count) q ∙ scratch-count ss ∙ z)));
+      is = λ ss q. sym (kinds-scratch image (described starts spans) ss own (λ z. h (ap (λ (x : LastScratch). x .count) q ∙ scratch-count ss ∙ z)));
     }
 
-    module _ (some : length os ≡ 0 → ⊥) (one : s .count ≡ 1) where
+    module _ (some : length starts ≡ 0 → ⊥) (one : s .count ≡ 1) where
       abbrev longest : ℕ
       longest = s .area .length
 
       only : (ss : List Descriptor) → s ≡ scratchOf ss → ss ≡ s .area ∷ []
       only ss q = scratch-is s ss q (sym (scratch-count ss) ∙ sym (ap (λ (x : LastScratch). x .count) q) ∙ one)
 
-      pub answer-short : all (λ n. leb n longest) ls ≡ false → KindsAnswer image (described os ls) s 4
+      pub answer-short : all (λ n. leb n longest) spans ≡ false → KindsAnswer image (described starts spans) s 4
       answer-short e = record {
-        is = λ ss q. sym (kinds-short image (described os ls) ss own (λ z. some (sym (described-length os ls pairs) ∙ z)) (s .area) (only ss q)
-            (all-lengths (λ n. leb n longest) os ls pairs ∙ e));
+        is = λ ss q. sym (kinds-short image (described starts spans) ss own (λ z. some (sym (described-length starts spans pairs) ∙ z)) (s .area) (only ss q)
+            (all-spans (λ n. leb n longest) starts spans pairs ∙ e));
       }
 
-      pub answer-pass : all (λ n. leb n longest) ls ≡ true → KindsAnswer image (described os ls) s 0
+      pub answer-pass : all (λ n. leb n longest) spans ≡ true → KindsAnswer image (described starts spans) s 0
       answer-pass e = record {
-        is = λ ss q. sym (kinds-pass image (described os ls) ss own (λ z. some (sym (described-length os ls pairs) ∙ z)) (s .area) (only ss q)
-            (all-lengths (λ n. leb n longest) os ls pairs ∙ e));
+        is = λ ss q. sym (kinds-pass image (described starts spans) ss own (λ z. some (sym (described-length starts spans pairs) ∙ z)) (s .area) (only ss q)
+            (all-spans (λ n. leb n longest) starts spans pairs ∙ e));
       }
 
 -- what checks 2 to 4 give where they pass

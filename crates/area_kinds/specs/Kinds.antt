@@ -212,11 +212,11 @@ files-good image ds r rows s long e = record {
       ∙ T→true (mem-all (goodArea (length image)) (keep (fileTest image) ds) (λ a n. all-mem (goodArea (length image)) ds (true→T e) (keep-mem (fileTest image) ds n .0)));
 }
 
--- ---- lengths
+-- ---- spans
 
-pub all-lengths : (p : ℕ → Bool) (os ls : List ℕ) → length os ≡ length ls → all (λ d. p (d .length)) (described os ls) ≡ all p ls
+pub all-spans : (p : ℕ → Bool) (starts spans : List ℕ) → length starts ≡ length spans → all (λ d. p (d .length)) (described starts spans) ≡ all p spans
 unfolding described all
-all-lengths p [] [] e = refl
-all-lengths p [] (n ∷ ls) e = absurd (omega arith)
-all-lengths p (o ∷ os) [] e = absurd (omega arith)
-all-lengths p (o ∷ os) (n ∷ ls) e = rw (all-lengths p os ls (omega arith))
+all-spans p [] [] e = refl
+all-spans p [] (n ∷ spans) e = absurd (omega arith)
+all-spans p (o ∷ starts) [] e = absurd (omega arith)
+all-spans p (o ∷ starts) (n ∷ spans) e = rw (all-spans p starts spans (omega arith))

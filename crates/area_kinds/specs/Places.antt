@@ -17,11 +17,11 @@ use Rattle.calls.specs.Refusal.{firstRefusal}
 use Rattle.calls.specs.Mount.{badDescription, shortScratch}
 use Rattle.calls.specs.declared.Descriptor.{Descriptor}
 use Rattle.table_rows.specs.Parts.{part, part-long}
-use Rattle.area_pass.specs.Listing.{Fit}
+use Rattle.area_pass.specs.Listing.{AreasFit}
 use Rattle.area_pass.specs.Rows.{spansAt}
 use Rattle.area_kinds.specs.declared.Areas.{Areas}
 use Rattle.area_list.specs.Described.{areaOf, described, described-at}
-use Rattle.area_list.specs.Good.{Fits, fits}
+use Rattle.area_list.specs.Good.{AreaFits, fits}
 use Rattle.area_list.specs.Description.{GoodDescription, description-good}
 use Rattle.area_list.specs.Places.{Clear, apart-members, keep-disjoint, totalLength, total-within}
 use Rattle.area_kinds.specs.Checks.{areaChecks, KindsPass, kinds-passed, Split, Checked, passed-first}
@@ -39,7 +39,7 @@ areas-pass image ds e =
     record { description = description-good image ds (a .0); kinds = kinds-passed image _ _ (a .1) }
 
 module _ (image : Bytes) (ds : List Descriptor) (p : AreasPass image ds) where
-  pub member-fits : (d : Descriptor) → List·Memᴰ d ds → Fits (length image) d
+  pub member-fits : (d : Descriptor) → List·Memᴰ d ds → AreaFits (length image) d
   member-fits d m = fits (length image) d (T→true (all-mem (goodArea (length image)) ds (true→T (p .description .each)) m))
 
   pub file-member : (d : Descriptor) → List·Memᴰ d (fileAreas image ds) → List·Memᴰ d ds
@@ -102,7 +102,7 @@ module _ (image : Bytes) (ds : List Descriptor) (p : AreasPass image ds) (r : Ar
   spans-long : length spans ≡ r .files
   spans-long = part-long spansAt (r .files) rows (omega (arith, s .few))
 
-  file-fits : (i : ℕ) → i < length starts → Fits (length image) (areaOf (getD starts i 0) (getD spans i 0))
+  file-fits : (i : ℕ) → i < length starts → AreaFits (length image) (areaOf (getD starts i 0) (getD spans i 0))
   file-fits i h =
       let m = rw (s .files) at (described-at starts spans i h (omega (arith, starts-long, spans-long))) in
       member-fits image ds p (areaOf (getD starts i 0) (getD spans i 0)) (file-member image ds p (areaOf (getD starts i 0) (getD spans i 0)) m)
@@ -110,7 +110,7 @@ module _ (image : Bytes) (ds : List Descriptor) (p : AreasPass image ds) (r : Ar
   total : totalLength (described starts spans) ≤ length image
   total = rw (s .files) (files-total image ds p)
 
-  pub files-lie : Fit image (part 0 (r .files) rows) (part spansAt (r .files) rows)
+  pub files-lie : AreasFit image (part 0 (r .files) rows) (part spansAt (r .files) rows)
   files-lie = record {
     small = p .description .small;
     pairs = spans-long ∙ sym starts-long;

@@ -11,6 +11,8 @@ ghost use Rattle.area_list.specs.Good.{Good};
 ghost use Rattle.area_pass.specs.Rows.{spansAt};
 ghost use Rattle.area_kinds.specs.Checks.{KindsAnswer, Checked, refusedAreas};
 ghost use Rattle.area_kinds.specs.Kinds.{Room, Sorted, otherId};
+use area_list::count_good_areas;
+use area_pass::SPANS;
 use area_read::AreaKind;
 use area_read::area_id;
 use area_read::area_kind;
@@ -19,8 +21,6 @@ use calls::Descriptor;
 use calls::NO_FILE_OR_SCRATCH;
 use calls::SAME_AREA_ID;
 use calls::SHORT_SCRATCH;
-use area_list::count_good_areas;
-use area_pass::SPANS;
 
 // The scratch areas found: how many, and the last of them.
 pub struct LastScratch {
@@ -77,13 +77,13 @@ fn sort_areas(image: &[u8], pairs: &[u32], rows: &mut [u32]) -> Kinds
 }
 
 // Whether no area has this id.
-fn no_id(image: &[u8], id: u8, offsets: &[u32], lengths: &[u32]) -> bool
-    requires { ⌜ Good (length (now image)) (now offsets) (now lengths) ⌝ }
-    ensures { λ r. ⌜ r ≡ all (otherId (now (image .entry)) id) (described (now (offsets .entry)) (now (lengths .entry))) ⌝ }
+fn no_id(image: &[u8], id: u8, starts: &[u32], spans: &[u32]) -> bool
+    requires { ⌜ Good (length (now image)) (now starts) (now spans) ⌝ }
+    ensures { λ r. ⌜ r ≡ all (otherId (now (image .entry)) id) (described (now (starts .entry)) (now (spans .entry))) ⌝ }
 {
     let mut i = 0;
-    while i < offsets.len() {
-        if area_id(image, offsets[i]) == id {
+    while i < starts.len() {
+        if area_id(image, starts[i]) == id {
             return false;
         }
         i += 1;
@@ -92,18 +92,18 @@ fn no_id(image: &[u8], id: u8, offsets: &[u32], lengths: &[u32]) -> bool
 }
 
 // Whether two areas have one id.
-fn shared_id(image: &[u8], offsets: &[u32], lengths: &[u32]) -> bool
-    requires { ⌜ Good (length (now image)) (now offsets) (now lengths) ⌝ }
-    ensures { λ r. ⌜ r ≡ sharedAreaId (now (image .entry)) (described (now (offsets .entry)) (now (lengths .entry))) ⌝ }
+fn shared_id(image: &[u8], starts: &[u32], spans: &[u32]) -> bool
+    requires { ⌜ Good (length (now image)) (now starts) (now spans) ⌝ }
+    ensures { λ r. ⌜ r ≡ sharedAreaId (now (image .entry)) (described (now (starts .entry)) (now (spans .entry))) ⌝ }
 {
     let mut i = 0;
-    while i < offsets.len() {
+    while i < starts.len() {
         let next = i + 1;
         if no_id(
             image,
-            area_id(image, offsets[i]),
-            &offsets[next..],
-            &lengths[next..],
+            area_id(image, starts[i]),
+            &starts[next..],
+            &spans[next..],
         ) {} else {
             return true;
         }
@@ -113,12 +113,12 @@ fn shared_id(image: &[u8], offsets: &[u32], lengths: &[u32]) -> bool
 }
 
 // Whether no length is greater than `most`.
-fn none_longer(lengths: &[u32], most: u32) -> bool
-    ensures { λ r. ⌜ r ≡ all (λ n. leb n most) (now (lengths .entry)) ⌝ }
+fn none_longer(spans: &[u32], most: u32) -> bool
+    ensures { λ r. ⌜ r ≡ all (λ n. leb n most) (now (spans .entry)) ⌝ }
 {
     let mut i = 0;
-    while i < lengths.len() {
-        if lengths[i] > most {
+    while i < spans.len() {
+        if spans[i] > most {
             return false;
         }
         i += 1;

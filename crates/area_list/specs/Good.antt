@@ -17,12 +17,12 @@ use Rattle.calls.specs.declared.Descriptor.{Descriptor}
 use Rattle.area_list.specs.Described.{areaOf, described, described-at}
 
 -- what a good area is
-pub record Fits (size : ℕ) (d : Descriptor) : Type 0 where
+pub record AreaFits (size : ℕ) (d : Descriptor) : Type 0 where
   pub long : shortestArea ≤ d .length
   pub short : d .length ≤ largestImage
   pub inside : areaEnd d ≤ size
 
-pub fits : (size : ℕ) (d : Descriptor) → goodArea size d ≡ true → Fits size d
+pub fits : (size : ℕ) (d : Descriptor) → goodArea size d ≡ true → AreaFits size d
 unfolding goodArea
 fits size d e =
     let a = leb shortestArea (d .length) in
@@ -36,37 +36,37 @@ fits size d e =
     }
 
 -- two slices that stand for good areas
-pub record Good (size : ℕ) (os ls : List ℕ) : Type 0 where
-  pub pairs : length os ≡ length ls
-  pub good : all (goodArea size) (described os ls) ≡ true
+pub record Good (size : ℕ) (starts spans : List ℕ) : Type 0 where
+  pub pairs : length starts ≡ length spans
+  pub good : all (goodArea size) (described starts spans) ≡ true
 
-module _ (size : ℕ) (os ls : List ℕ) (g : Good size os ls) where
-  pub good-at : (i : ℕ) → i < length os → goodArea size (areaOf (getD os i 0) (getD ls i 0)) ≡ true
+module _ (size : ℕ) (starts spans : List ℕ) (g : Good size starts spans) where
+  pub good-at : (i : ℕ) → i < length starts → goodArea size (areaOf (getD starts i 0) (getD spans i 0)) ≡ true
   good-at i h =
       let e = g .pairs in
-      T→true (all-mem (goodArea size) (described os ls) (true→T (g .good)) (described-at os ls i h (omega arith)))
+      T→true (all-mem (goodArea size) (described starts spans) (true→T (g .good)) (described-at starts spans i h (omega arith)))
 
-  pub fits-at : (i : ℕ) → i < length os → Fits size (areaOf (getD os i 0) (getD ls i 0))
-  fits-at i h = fits size (areaOf (getD os i 0) (getD ls i 0)) (good-at i h)
+  pub fits-at : (i : ℕ) → i < length starts → AreaFits size (areaOf (getD starts i 0) (getD spans i 0))
+  fits-at i h = fits size (areaOf (getD starts i 0) (getD spans i 0)) (good-at i h)
 
-  pub header-at : (i : ℕ) → i < length os → areaHeaderSize ≤ getD ls i 0
+  pub header-at : (i : ℕ) → i < length starts → areaHeaderSize ≤ getD spans i 0
   header-at i h = let f = fits-at i h .long in omega arith
 
 -- also without the first ones
-described-later : (size : ℕ) (i : ℕ) (os ls : List ℕ) → all (goodArea size) (described os ls) ≡ true
-    → all (goodArea size) (described (drop i os) (drop i ls)) ≡ true
+described-later : (size : ℕ) (i : ℕ) (starts spans : List ℕ) → all (goodArea size) (described starts spans) ≡ true
+    → all (goodArea size) (described (drop i starts) (drop i spans)) ≡ true
 unfolding described all
-described-later size zero os ls e = e
-described-later size (suc i) [] ls e = refl
-described-later size (suc i) (o ∷ os) [] e = none (drop i os)
+described-later size zero starts spans e = e
+described-later size (suc i) [] spans e = refl
+described-later size (suc i) (o ∷ starts) [] e = none (drop i starts)
   where
     none : (l : List ℕ) → all (goodArea size) (described l []) ≡ true
     none [] = refl
     none (o ∷ l) = refl
-described-later size (suc i) (o ∷ os) (n ∷ ls) e = described-later size i os ls (and-right (goodArea size (areaOf o n)) _ e)
+described-later size (suc i) (o ∷ starts) (n ∷ spans) e = described-later size i starts spans (and-right (goodArea size (areaOf o n)) _ e)
 
-pub good-later : (size : ℕ) (os ls : List ℕ) → Good size os ls → (i : ℕ) → Good size (drop i os) (drop i ls)
-good-later size os ls g i = record {
+pub good-later : (size : ℕ) (starts spans : List ℕ) → Good size starts spans → (i : ℕ) → Good size (drop i starts) (drop i spans)
+good-later size starts spans g i = record {
   pairs = let e = g .pairs in simp length-drop (omega arith);
-  good = described-later size i os ls (g .good);
+  good = described-later size i starts spans (g .good);
 }

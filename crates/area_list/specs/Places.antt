@@ -53,18 +53,18 @@ pub apart-members : (l : List Descriptor) → allDisjoint l ≡ true → (d e : 
 apart-members l h = members l (true→T h)
 
 -- any two places of the list
-places : (os ls : List ℕ) → T (allDisjoint (described os ls)) → (i j : ℕ) → i < j → j < length os → j < length ls
-    → Clear (areaOf (getD os i 0) (getD ls i 0)) (areaOf (getD os j 0) (getD ls j 0))
+places : (starts spans : List ℕ) → T (allDisjoint (described starts spans)) → (i j : ℕ) → i < j → j < length starts → j < length spans
+    → Clear (areaOf (getD starts i 0) (getD spans i 0)) (areaOf (getD starts j 0) (getD spans j 0))
 unfolding described
-places [] ls t i j h g k = absurd (omega arith)
-places (o ∷ os) [] t i j h g k = absurd (omega arith)
-places (o ∷ os) (n ∷ ls) t i zero h g k = absurd (omega arith)
-places (o ∷ os) (n ∷ ls) t zero (suc j) h g k = split-first (areaOf o n) (described os ls) t .0 _ (described-at os ls j (omega arith) (omega arith))
-places (o ∷ os) (n ∷ ls) t (suc i) (suc j) h g k = places os ls (split-first (areaOf o n) (described os ls) t .1) i j (omega arith) (omega arith) (omega arith)
+places [] spans t i j h g k = absurd (omega arith)
+places (o ∷ starts) [] t i j h g k = absurd (omega arith)
+places (o ∷ starts) (n ∷ spans) t i zero h g k = absurd (omega arith)
+places (o ∷ starts) (n ∷ spans) t zero (suc j) h g k = split-first (areaOf o n) (described starts spans) t .0 _ (described-at starts spans j (omega arith) (omega arith))
+places (o ∷ starts) (n ∷ spans) t (suc i) (suc j) h g k = places starts spans (split-first (areaOf o n) (described starts spans) t .1) i j (omega arith) (omega arith) (omega arith)
 
-pub apart-places : (os ls : List ℕ) → allDisjoint (described os ls) ≡ true → (i j : ℕ) → i < j → j < length os → j < length ls
-    → Clear (areaOf (getD os i 0) (getD ls i 0)) (areaOf (getD os j 0) (getD ls j 0))
-apart-places os ls h = places os ls (true→T h)
+pub apart-places : (starts spans : List ℕ) → allDisjoint (described starts spans) ≡ true → (i j : ℕ) → i < j → j < length starts → j < length spans
+    → Clear (areaOf (getD starts i 0) (getD spans i 0)) (areaOf (getD starts j 0) (getD spans j 0))
+apart-places starts spans h = places starts spans (true→T h)
 
 -- also of a part of the areas
 pub keep-disjoint : (f : Descriptor → Bool) (l : List Descriptor) → T (allDisjoint l) → T (allDisjoint (keep f l))
@@ -78,7 +78,7 @@ keep-disjoint f (d ∷ l) t = go (f d) (and-T (all (disjoint d) l) (allDisjoint 
         (mem-all (disjoint d) (keep f l) (λ e m. all-mem (disjoint d) l (p .0) (keep-mem f l m .0))) (ih (p .1))
     go false p ih = ih (p .1)
 
--- ---- the sum of the lengths
+-- ---- the sum of the spans
 
 unfoldable pub totalLength : List Descriptor → ℕ
 totalLength [] = 0

@@ -1,5 +1,5 @@
 // Check 1: the area list as it is lent, offset and length in turn, and whether its areas are good.
-// Behind check 1 a list of areas is two lists of one length, offsets and lengths; `described` is the list that they stand for.
+// Behind check 1 a list of areas is two lists of one length, starts and spans; `described` is the list that they stand for.
 ghost use mathlib.Core.Path.{_≡_};
 ghost use mathlib.Core.Bool.{_&&_};
 ghost use Prim.Native.Nat.{_+_};

@@ -21,7 +21,7 @@ use Rattle.record_places.specs.Laws.{place-views, bytes-taken, lies-taken}
 use Rattle.calls.specs.Areas.{areaBytes, fileAreas}
 use Rattle.calls.specs.Mount.{recordsOf, bytesOf, recordsIn, acceptedRecords, volume}
 use Rattle.calls.specs.declared.Descriptor.{Descriptor}
-use Rattle.area_pass.specs.Listing.{starts, placesIn}
+use Rattle.area_pass.specs.Listing.{recordPlaces, placesIn}
 
 -- a record that an area reads as, seen from the image
 module _ (image : Bytes) (d : Descriptor) (r : Placed) (m : List·Memᴰ r (recordsOf image d)) where
@@ -39,35 +39,35 @@ module _ (image : Bytes) (d : Descriptor) (r : Placed) (m : List·Memᴰ r (reco
   pub record-lies : Lies image (d .offset + r .place)
   record-lies = lies-taken image (d .offset + r .place) (d .length - r .place) (rw rest-there at (taken-there .accepted))
 
-starts-bytes : (image : Bytes) (d : Descriptor) (l : List Placed) → ((r : Placed) → List·Memᴰ r l → bytesAt image (d .offset + r .place) ≡ r .bytes)
-    → map (bytesAt image) (starts (d .offset) l) ≡ bytesOf l
-unfolding starts
-starts-bytes image d [] h = refl
-starts-bytes image d (r ∷ l) h =
-    ap₂ (λ (b : Bytes) (bs : List Bytes). b ∷ bs) (h r (List·Memᴰ·head refl)) (starts-bytes image d l (λ s n. h s (List·Memᴰ·tail n)))
+record-places-bytes : (image : Bytes) (d : Descriptor) (l : List Placed) → ((r : Placed) → List·Memᴰ r l → bytesAt image (d .offset + r .place) ≡ r .bytes)
+    → map (bytesAt image) (recordPlaces (d .offset) l) ≡ bytesOf l
+unfolding recordPlaces
+record-places-bytes image d [] h = refl
+record-places-bytes image d (r ∷ l) h =
+    ap₂ (λ (b : Bytes) (bs : List Bytes). b ∷ bs) (h r (List·Memᴰ·head refl)) (record-places-bytes image d l (λ s n. h s (List·Memᴰ·tail n)))
 
 pub places-bytes : (image : Bytes) (fs : List Descriptor) → map (bytesAt image) (placesIn image fs) ≡ recordsIn image fs
 unfolding placesIn recordsIn
 places-bytes image [] = refl
 places-bytes image (d ∷ fs) =
-    map-append (bytesAt image) (starts (d .offset) (recordsOf image d)) (placesIn image fs)
-    ∙ ap₂ (λ (x y : List Bytes). x ++ y) (starts-bytes image d (recordsOf image d) (record-bytes image d)) (places-bytes image fs)
+    map-append (bytesAt image) (recordPlaces (d .offset) (recordsOf image d)) (placesIn image fs)
+    ∙ ap₂ (λ (x y : List Bytes). x ++ y) (record-places-bytes image d (recordsOf image d) (record-bytes image d)) (places-bytes image fs)
 
 -- what stands at each place listed lies in the image
-pub starts-each : (base p : ℕ) (l : List Placed) → List·Memᴰ p (starts base l) → (r : Placed) × List·Memᴰ r l × (p ≡ base + r .place)
-unfolding starts
-starts-each base p [] m = absurd (List·Memᴰ·not-nil m)
-starts-each base p (r ∷ l) m =
-    ⊎-elim (λ e. (r, List·Memᴰ·head refl, e)) (λ n. let t = starts-each base p l n in (t .0, List·Memᴰ·tail (t .1), t .2)) (List·Memᴰ·cases-cons m)
+pub record-places-each : (base p : ℕ) (l : List Placed) → List·Memᴰ p (recordPlaces base l) → (r : Placed) × List·Memᴰ r l × (p ≡ base + r .place)
+unfolding recordPlaces
+record-places-each base p [] m = absurd (List·Memᴰ·not-nil m)
+record-places-each base p (r ∷ l) m =
+    ⊎-elim (λ e. (r, List·Memᴰ·head refl, e)) (λ n. let t = record-places-each base p l n in (t .0, List·Memᴰ·tail (t .1), t .2)) (List·Memᴰ·cases-cons m)
 
 pub places-lie : (image : Bytes) (fs : List Descriptor) (p : ℕ) → List·Memᴰ p (placesIn image fs) → Lies image p
 unfolding placesIn
 places-lie image [] p m = absurd (List·Memᴰ·not-nil m)
 places-lie image (d ∷ fs) p m =
     ⊎-elim
-    (λ n. let t = starts-each (d .offset) p (recordsOf image d) n in rw (t .2) (record-lies image d (t .0) (t .1)))
+    (λ n. let t = record-places-each (d .offset) p (recordsOf image d) n in rw (t .2) (record-lies image d (t .0) (t .1)))
     (places-lie image fs p)
-    (List·Memᴰ·append-cases (starts (d .offset) (recordsOf image d)) m)
+    (List·Memᴰ·append-cases (recordPlaces (d .offset) (recordsOf image d)) m)
 
 -- the volume, of its records held by place
 abbrev pub placedVolume : Bytes → List Descriptor → Volume ℕ

@@ -13,15 +13,15 @@ use Rattle.area_list.specs.Described.{described}
 use Rattle.area_list.specs.Places.{totalLength}
 use Rattle.calls.specs.declared.Descriptor.{Descriptor}
 
--- the places in the image of records of an area that starts at base
-unfoldable pub starts : ℕ → List Placed → List ℕ
-starts base [] = []
-starts base (r ∷ l) = (base + r .place) ∷ starts base l
+-- the places in the image of records of an area that recordPlaces at base
+unfoldable pub recordPlaces : ℕ → List Placed → List ℕ
+recordPlaces base [] = []
+recordPlaces base (r ∷ l) = (base + r .place) ∷ recordPlaces base l
 
 -- the places of the records of areas, area after area
 unfoldable pub placesIn : Bytes → List Descriptor → List ℕ
 placesIn image [] = []
-placesIn image (d ∷ ds) = starts (d .offset) (recordsOf image d) ++ placesIn image ds
+placesIn image (d ∷ ds) = recordPlaces (d .offset) (recordsOf image d) ++ placesIn image ds
 
 -- there is a place for each record: it has at least 20 bytes, and an area's header 24
 pub record Room (area : Bytes) (base : ℕ) (ps : List ℕ) (n : ℕ) : Type 0 where
@@ -30,18 +30,18 @@ pub record Room (area : Bytes) (base : ℕ) (ps : List ℕ) (n : ℕ) : Type 0 w
   pub room : 20 * n + length area ≤ 20 * length ps + areaHeaderSize
 
 pub record Listed (area : Bytes) (base : ℕ) (ps : List ℕ) (n r : ℕ) (ps′ : List ℕ) : Type 0 where
-  pub is : take r ps′ ≡ take n ps ++ starts base (areaRecords recordSize area)
+  pub is : take r ps′ ≡ take n ps ++ recordPlaces base (areaRecords recordSize area)
   pub few : 20 * r + areaHeaderSize ≤ 20 * n + length area
 
 -- file areas that lie in the image and are together no longer than it
-pub record Fit (image : Bytes) (os ls : List ℕ) : Type 0 where
+pub record AreasFit (image : Bytes) (starts spans : List ℕ) : Type 0 where
   pub small : length image ≤ largestImage
-  pub pairs : length ls ≡ length os
-  pub long : (i : ℕ) → i < length os → shortestArea ≤ getD ls i 0
-  pub inside : (i : ℕ) → i < length os → getD os i 0 + getD ls i 0 ≤ length image
-  pub apart : totalLength (described os ls) ≤ largestImage
+  pub pairs : length spans ≡ length starts
+  pub long : (i : ℕ) → i < length starts → shortestArea ≤ getD spans i 0
+  pub inside : (i : ℕ) → i < length starts → getD starts i 0 + getD spans i 0 ≤ length image
+  pub apart : totalLength (described starts spans) ≤ largestImage
 
 -- and a place for each record that they can hold
-pub record Files (image : Bytes) (os ls ps : List ℕ) : Type 0 where
-  pub fit : Fit image os ls
+pub record Files (image : Bytes) (starts spans ps : List ℕ) : Type 0 where
+  pub fit : AreasFit image starts spans
   pub room : mostRecords ≤ length ps

@@ -1,4 +1,4 @@
--- The rows of areas with their readings: offsets, lengths, and of each area its stretches of damage, their bytes and where free space starts.
+-- The rows of areas with their readings: starts, spans, and of each area its stretches of damage, their bytes and where free space starts.
 use Prim.Native.Nat.{ℕ, _+_, _-_, _≤_, _<_}
 use mathlib.Core.Path.{_≡_, refl, sym, ap, ap₂, _∙_}
 use mathlib.Core.Logic.{_≢_}
@@ -15,7 +15,7 @@ use Rattle.area_pass.specs.Listing.{Room, Listed, Files}
 use Rattle.area_pass.specs.Areas.{Through, through-begins, through-on, area-room}
 use Rattle.area_pass.specs.declared.Reading.{Reading}
 
--- where the columns start; the offsets stand first
+-- where the columns start; the starts stand first
 abbrev pub spansAt : ℕ
 spansAt = mostAreas
 

@@ -12,7 +12,7 @@ use area_read::HEADER_SIZE;
 use area_read::next_record;
 use calls::MOST_AREAS;
 
-// The rows of the file areas in columns: offsets first, then lengths, stretches of damage, their bytes, and where free space starts.
+// The rows of the file areas in columns: starts first, then spans, stretches of damage, their bytes, and where free space starts.
 pub const SPANS: usize = MOST_AREAS;
 
 pub const STRETCHES: usize = SPANS + MOST_AREAS;

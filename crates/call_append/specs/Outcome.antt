@@ -44,7 +44,7 @@ use Rattle.calls.specs.Append.{
 }
 use Rattle.calls.specs.declared.Descriptor.{Descriptor}
 use Rattle.area_pass.specs.Bridge.{placedVolume, volume-places}
-use Rattle.path_walk.specs.Found.{refusalOf}
+use Rattle.path_walk.specs.Resolved.{refusalOf}
 use Rattle.write_pieces.specs.Cut.{pieces, shortest-described}
 use Rattle.write_pieces.specs.Plan.{records-count}
 use Rattle.mount_state.specs.State.{starts, spans, blockIdsAt, Safe, Holds}

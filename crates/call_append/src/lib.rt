@@ -22,6 +22,7 @@ ghost use Rattle.mount_state.specs.State.{Safe, Holds, SafePlaces, HoldsPlaces}
 ghost use Rattle.call_append.specs.Last.{lastUnlessBroken};
 ghost use Rattle.call_append.specs.Written.{sizeFor, Cut, Room, Written};
 ghost use Rattle.call_append.specs.Outcome.{Outcome};
+use area_pass::SPANS;
 use calls::BAD_PATH;
 use calls::BROKEN;
 use calls::MOST_APPENDED;
@@ -33,11 +34,11 @@ use file_blocks::Last;
 use file_blocks::Size;
 use file_blocks::file_size;
 use file_blocks::last_block;
-use area_pass::SPANS;
-use path_walk::Found;
 use mount_state::BLOCK_IDS;
 use mount_state::BLOCK_SPOTS;
 use mount_state::Mounted;
+use path_find::find_path;
+use path_walk::Resolved;
 use write_pieces::MOST_PIECES;
 use write_pieces::greatest_block;
 use write_pieces::piece_count;
@@ -45,7 +46,6 @@ use write_pieces::plan_ids;
 use write_pieces::plan_places;
 use write_pieces::shortest;
 use write_pieces::store_pieces;
-use path_find::find_path;
 
 // The blocks that an append adds to the chain of a file: the block before the first, how long they are and how many.
 pub struct Chain {
@@ -197,7 +197,7 @@ pub fn append_mounted<'a>(
         return BAD_PATH;
     }
     let found = find_path(&*image, tables, m, base, path);
-    let Found::Inode(file, directory) = found else {
+    let Resolved::Inode(file, directory) = found else {
         return found.refusal();
     };
     if directory {

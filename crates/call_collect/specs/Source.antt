@@ -28,8 +28,8 @@ use Rattle.image_laws.specs.Apart.{Apart, apart-before, apart-after}
 use Rattle.image_laws.specs.Stores.{joinedBytes}
 use Rattle.area_list.specs.Places.{Clear}
 use Rattle.area_kinds.specs.Places.{AreasPass, member-fits, file-member, scratch-member, file-scratch-apart, files-disjoint, scratch-longest}
-use Rattle.area_pass.specs.Listing.{starts, placesIn}
-use Rattle.area_pass.specs.Bridge.{starts-each, record-bytes, record-lies, placedVolume}
+use Rattle.area_pass.specs.Listing.{recordPlaces, placesIn}
+use Rattle.area_pass.specs.Bridge.{record-places-each, record-bytes, record-lies, placedVolume}
 use Rattle.collect_copies.specs.Copied.{Tables, tableOf, AllRows, inside, dropped, countsIn, copied, copiedPlaces}
 use Rattle.collect_copies.specs.First.{first-mem}
 use Rattle.collect_copies.specs.Bridge.{parted, in-area, volume-copies}
@@ -38,9 +38,9 @@ use Rattle.collect_stores.specs.Filled.{Fillable}
 use Rattle.collect_stores.specs.Moved.{Removable}
 
 -- a record that an area is read as ends in it
-record-ends : (image : Bytes) (d : Descriptor) (p : ℕ) → List·Memᴰ p (starts (d .offset) (recordsOf image d)) → p + sizeAt image p ≤ areaEnd d
+record-ends : (image : Bytes) (d : Descriptor) (p : ℕ) → List·Memᴰ p (recordPlaces (d .offset) (recordsOf image d)) → p + sizeAt image p ≤ areaEnd d
 record-ends image d p m =
-    let r = starts-each (d .offset) p (recordsOf image d) m in
+    let r = record-places-each (d .offset) p (recordsOf image d) m in
     let h = ends (r .0) (r .1) in
     rw (r .2) h
   where
@@ -72,7 +72,7 @@ module _ (image : Bytes) (ds : List Descriptor) (pass : AreasPass image ds) (t :
   long d m = let f = member-fits image ds pass d (file-member image ds pass d m) in omega (arith, f .long)
 
   -- the copies lie in the source
-  copied-in : (p : ℕ) → List·Memᴰ p cs → List·Memᴰ p (starts (s .offset) (recordsOf image s))
+  copied-in : (p : ℕ) → List·Memᴰ p cs → List·Memᴰ p (recordPlaces (s .offset) (recordsOf image s))
   unfolding copiedPlaces copied
   copied-in p m =
       let ps = placesIn image (fileAreas image ds) in
@@ -83,7 +83,7 @@ module _ (image : Bytes) (ds : List Descriptor) (pass : AreasPass image ds) (t :
       let near = and-T there stays (k .1) .0 in
       subst (λ l. List·Memᴰ p l) (parted image s (fileAreas image ds) apart-all long file .0) (mem-keep (inside (s .offset) (s .length)) ps (k .0) near)
 
-  at-cs : (i : ℕ) → i < length cs → List·Memᴰ (getD cs i 0) (starts (s .offset) (recordsOf image s))
+  at-cs : (i : ℕ) → i < length cs → List·Memᴰ (getD cs i 0) (recordPlaces (s .offset) (recordsOf image s))
   at-cs i h = copied-in (getD cs i 0) (getD-mem cs i h)
 
   -- scratch has room for them, and none of them is in it
@@ -101,7 +101,7 @@ module _ (image : Bytes) (ds : List Descriptor) (pass : AreasPass image ds) (t :
         record {
           inside = f .inside;
           header = omega (arith, f .long);
-          lie = λ i h. let r = starts-each (s .offset) (getD cs i 0) (recordsOf image s) (at-cs i h) in rw (r .2) (record-lies image s (r .0) (r .1));
+          lie = λ i h. let r = record-places-each (s .offset) (getD cs i 0) (recordsOf image s) (at-cs i h) in rw (r .2) (record-lies image s (r .0) (r .1));
           room = omega (arith, g .long, scratch-longest image ds pass s t file scratch);
           apart = λ i h. clear (getD cs i 0) (in-area image s (getD cs i 0) (at-cs i h) .0) (record-ends image s (getD cs i 0) (at-cs i h))
               (file-scratch-apart image ds pass s t file scratch);

@@ -6,12 +6,12 @@ ghost use Rattle.calls.specs.declared.Descriptor.{Descriptor};
 ghost use Rattle.area_list.specs.Described.{areaOf, described};
 ghost use Rattle.mount_state.specs.State.{starts, spans, Safe, Holds, SafePlaces, HoldsPlaces};
 ghost use Rattle.call_collect.specs.Collection.{HoldsSome};
+use area_pass::SPANS;
 use calls::NO_SOURCE;
 use collect_copies::MOST_COPIES;
 use collect_copies::list_copies;
 use collect_source::choose_source;
 use collect_stores::move_records;
-use area_pass::SPANS;
 use mount_state::Mounted;
 
 // Collects a file area of a mounted volume into scratch.

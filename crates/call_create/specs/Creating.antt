@@ -24,7 +24,7 @@ use Rattle.calls.specs.Create.{lastName, namesBefore, isRoot, firstIdOf, newId,
 use Rattle.calls.specs.Create.{createAnswer, createImage, createOf, imageCreated}
 use Rattle.calls.specs.declared.Descriptor.{Descriptor}
 use Rattle.calls.specs.declared.Created.{Created}
-use Rattle.path_walk.specs.Found.{refusalOf}
+use Rattle.path_walk.specs.Resolved.{refusalOf}
 use Rattle.path_find.specs.Parent.{parentOf}
 use Rattle.write_inodes.specs.Stored.{placeNumber}
 use Rattle.mount_state.specs.State.{Safe, Holds, Mounts}

@@ -14,16 +14,16 @@ ghost use Rattle.call_create.specs.Creating.{notCreated, storedAnswer};
 use calls::Created;
 use calls::MOST_INODES;
 use calls::TOO_MANY_IDS;
-use write_inodes::store_inode;
-use path_walk::Found;
 use mount_state::Mounted;
-use record_read::FIRST_FILE_ID;
-use record_read::InodeHeader;
-use record_read::ROOT;
 use path_find::find_parent;
 use path_find::last_name;
 use path_find::name_refusal;
+use path_walk::Resolved;
+use record_read::FIRST_FILE_ID;
+use record_read::InodeHeader;
+use record_read::ROOT;
 use write_ids::unused_id;
+use write_inodes::store_inode;
 
 // The kind of a directory; any other number is a file's.
 const DIRECTORY: u32 = 0;
@@ -92,7 +92,7 @@ pub fn create_mounted<'a>(
     ensures { λ r. ⌜ ((ds : List Descriptor) → Holds (now (image .entry)) ds m (now (tables .entry)) → HoldsPlaces (now (image .entry)) ds m (now (places .entry)) → (r ≡ createOf (now (image .entry)) ds (now (base .entry)) (now (path .entry)) kind) × (now (image .exit) ≡ imageCreated (now (image .entry)) ds (now (base .entry)) (now (path .entry)) kind)) ⌝ }
 {
     let found = find_parent(&*image, tables, m, base, path);
-    let Found::Inode(directory, _) = found else {
+    let Resolved::Inode(directory, _) = found else {
         return not_created(found.refusal());
     };
     let name = last_name(base, path);

@@ -11,8 +11,20 @@ ghost use Rattle.calls.specs.Append.{appendOf, imageAppended};
 ghost use Rattle.calls.specs.Unlink.{unlinkOf, imageUnlinked};
 ghost use Rattle.calls.specs.Collect.{collectOf, imageCollected};
 ghost use Rattle.calls.specs.Areas.{areaList};
-ghost use Rattle.path_walk.specs.Found.{meaning, Kinded};
+ghost use Rattle.path_walk.specs.Resolved.{meaning, Kinded};
+use area_structs::Areas;
 use call_append::append_mounted;
+use call_collect::collect_mounted;
+use call_create::create_mounted;
+use call_create::not_created;
+use call_format::format;
+use call_read::lookup_answer;
+use call_read::not_read;
+use call_read::open_answer;
+use call_read::read_mounted;
+use call_report::refused_report;
+use call_report::report_mounted;
+use call_unlink::unlink_mounted;
 use calls::Created;
 use calls::Handle;
 use calls::Lookup;
@@ -20,22 +32,10 @@ use calls::MOST_RECORDS;
 use calls::Opened;
 use calls::ReadAnswer;
 use calls::Report;
-use call_collect::collect_mounted;
-use call_create::create_mounted;
-use call_create::not_created;
-use area_structs::Areas;
-use call_format::format;
-use path_walk::Found;
 use mount::mount;
 use mount_state::TABLES;
-use call_read::lookup_answer;
-use call_read::not_read;
-use call_read::open_answer;
-use call_read::read_mounted;
-use call_report::refused_report;
-use call_report::report_mounted;
 use path_find::find_path;
-use call_unlink::unlink_mounted;
+use path_walk::Resolved;
 
 // Makes an empty volume of the areas: the number of refusal, or 0. A refused format changes no byte.
 pub fn format_of(image: &mut [u8], areas: Areas) -> u32
@@ -59,7 +59,7 @@ pub fn report_of(image: &[u8], areas: Areas) -> Report
 }
 
 // What a path leads to, after the mount.
-fn find_of<'a>(image: &[u8], areas: Areas, base: &'a [u8], path: &'a [u8]) -> Found
+fn find_of<'a>(image: &[u8], areas: Areas, base: &'a [u8], path: &'a [u8]) -> Resolved
     ensures means { λ r. ⌜ meaning r ≡ resolve (now (image .entry)) (areaList (areas .numbers)) (now (base .entry)) (now (path .entry)) ⌝ }
     ensures kind { λ r. ⌜ Kinded r ⌝ }
 {
@@ -67,7 +67,7 @@ fn find_of<'a>(image: &[u8], areas: Areas, base: &'a [u8], path: &'a [u8]) -> Fo
     let mut places = [0u16; MOST_RECORDS];
     let m = mount(image, &areas.numbers, &mut tables[..], &mut places[..]);
     if m.number != 0 {
-        return Found::Absent(m.number);
+        return Resolved::Absent(m.number);
     }
     find_path(image, &tables[..], m, base, path)
 }

@@ -23,7 +23,7 @@ use Rattle.image_laws.specs.Laws.{length-put}
 use Rattle.image_laws.specs.Stores.{put-erased}
 use Rattle.area_list.specs.Described.{areaOf}
 use Rattle.area_list.specs.Listing.{pair-step, pair-holds, paired-end}
-use Rattle.area_list.specs.Good.{Fits, fits}
+use Rattle.area_list.specs.Good.{AreaFits, fits}
 
 -- good areas as pairs, few enough for one byte of id each, and their image
 pub record Lent (image : Bytes) (pairs : List ℕ) : Type 0 where
@@ -37,7 +37,7 @@ lent-kept e l = record { small = rw e (l .small); few = l .few; good = rw e (l .
 
 -- the area i of the list
 pub lent-fits : {x : Bytes} {pairs : List ℕ} → Lent x pairs → (i : ℕ) → i * 2 + 1 < length pairs
-    → Fits (length x) (areaOf (getD pairs (i * 2) 0) (getD pairs (i * 2 + 1) 0))
+    → AreaFits (length x) (areaOf (getD pairs (i * 2) 0) (getD pairs (i * 2 + 1) 0))
 lent-fits {x} {pairs} l i h = fits (length x) _ (pair-holds (goodArea (length x)) pairs i (l .good) h)
 
 -- ---- the longest
@@ -106,7 +106,7 @@ module _ (x₀ : Bytes) (pairs : List ℕ) (most : ℕ) where
     n = getD pairs (i * 2 + 1) 0
 
     -- the area of a turn
-    writing-fits : i * 2 + 1 < length pairs → Fits (length x) (areaOf o n)
+    writing-fits : i * 2 + 1 < length pairs → AreaFits (length x) (areaOf o n)
     writing-fits h = rw (w .long) (lent-fits l i h)
 
     pub writing-room : i * 2 + 1 < length pairs → (o + n ≤ length x) × (areaHeaderSize ≤ n) × (length x ≤ largestImage)

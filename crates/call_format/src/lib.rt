@@ -5,15 +5,15 @@ ghost use lib.ListN.{length};
 ghost use Rattle.calls.specs.Areas.{paired, areaList};
 ghost use Rattle.calls.specs.Format.{longestLength, labelled, blanked, rooted, formatted, formatNumber, imageFormatted};
 ghost use Rattle.call_format.specs.Areas.{Lent, scratchHere, firstFile};
+use area_list::count_good_areas;
 use area_read::HEADER_SIZE;
 use area_read::SCRATCH_ID;
 use area_write::write_area;
 use calls::BAD_AREAS;
 use calls::NO_FILE_OR_SCRATCH;
-use area_list::count_good_areas;
-use record_write::write_inode;
 use record_read::InodeHeader;
 use record_read::NONE;
+use record_write::write_inode;
 
 // The length of the longest area.
 fn longest(pairs: &[u32]) -> u32

@@ -5,7 +5,7 @@ use mathlib.Core.Bool.{true, false}
 use Rattle.format.specs.Ids.{isDirectoryId}
 use Rattle.volume.specs.Tree.{Found, found, absent}
 use Rattle.calls.specs.Lookup.{kindOf, lookupAnswer, fileOnly, openAnswer}
-use Rattle.path_walk.specs.Found.{refusalOf}
+use Rattle.path_walk.specs.Resolved.{refusalOf}
 
 module _ (f : Found) where
   -- nothing was found; k is the number of refusal

@@ -4,7 +4,7 @@ ghost use mathlib.Core.Bool.{cond};
 ghost use mathlib.Core.List.{List};
 ghost use Rattle.calls.specs.Lookup.{lookupAnswer, fileOnly, openAnswer};
 ghost use Rattle.calls.specs.declared.Descriptor.{Descriptor};
-ghost use Rattle.path_walk.specs.Found.{meaning, Kinded};
+ghost use Rattle.path_walk.specs.Resolved.{meaning, Kinded};
 ghost use Rattle.file_read.specs.Reading.{without};
 ghost use Rattle.mount_state.specs.State.{Safe, Holds};
 ghost use Rattle.call_read.specs.Reads.{Reads};
@@ -13,14 +13,14 @@ use calls::NOT_FOUND;
 use calls::Opened;
 use calls::ReadAnswer;
 use calls::WRONG_KIND;
-use path_walk::Found;
-use path_walk::is_live;
+use file_read::read_file;
 use mount_state::BLOCK_IDS;
 use mount_state::BLOCK_SPOTS;
 use mount_state::INODE_IDS;
 use mount_state::INODE_SPOTS;
 use mount_state::Mounted;
-use file_read::read_file;
+use path_walk::Resolved;
+use path_walk::is_live;
 use record_read::is_directory_id;
 
 // The kinds of inodes.
@@ -43,11 +43,11 @@ fn looked_up(number: u32, id: u32, kind: u32) -> Lookup
 }
 
 // The answer of a lookup: id and kind of what was found.
-pub fn lookup_answer(found: Found) -> Lookup
+pub fn lookup_answer(found: Resolved) -> Lookup
     requires { ⌜ Kinded found ⌝ }
     ensures { λ r. ⌜ r ≡ lookupAnswer (meaning found) ⌝ }
 {
-    let Found::Inode(id, directory) = found else {
+    let Resolved::Inode(id, directory) = found else {
         return looked_up(found.refusal(), 0, 0);
     };
     looked_up(0, id, kind_number(directory))
@@ -65,11 +65,11 @@ fn opened(number: u32, id: u32) -> Opened
 }
 
 // The answer of an open: a handle at the start of the file that was found.
-pub fn open_answer(found: Found) -> Opened
+pub fn open_answer(found: Resolved) -> Opened
     requires { ⌜ Kinded found ⌝ }
     ensures { λ r. ⌜ r ≡ openAnswer (fileOnly (meaning found)) ⌝ }
 {
-    let Found::Inode(id, directory) = found else {
+    let Resolved::Inode(id, directory) = found else {
         return opened(found.refusal(), 0);
     };
     if directory {

@@ -50,15 +50,15 @@ module _ (l : List ℕ) (sum i : ℕ) (s : Summing l sum i) where
 
 -- what is summed over areas is the sum of a column that holds it for each of them
 sums-are : (S : List Descriptor → ℕ) (g : Descriptor → ℕ) → S [] ≡ 0 → ((d : Descriptor) (l : List Descriptor) → S (d ∷ l) ≡ g d + S l)
-    → (os ls cs : List ℕ) → length ls ≡ length os → length cs ≡ length os
-    → ((i : ℕ) → i < length os → getD cs i 0 ≡ g (areaOf (getD os i 0) (getD ls i 0))) → sumOf cs ≡ S (described os ls)
+    → (starts spans cs : List ℕ) → length spans ≡ length starts → length cs ≡ length starts
+    → ((i : ℕ) → i < length starts → getD cs i 0 ≡ g (areaOf (getD starts i 0) (getD spans i 0))) → sumOf cs ≡ S (described starts spans)
 unfolding sumOf described
-sums-are S g z c [] ls [] p q h = sym z
-sums-are S g z c [] ls (x ∷ cs) p q h = absurd (omega arith)
-sums-are S g z c (o ∷ os) [] cs p q h = absurd (omega arith)
-sums-are S g z c (o ∷ os) (n ∷ ls) [] p q h = absurd (omega arith)
-sums-are S g z c (o ∷ os) (n ∷ ls) (x ∷ cs) p q h =
-    ap₂ (λ (a b : ℕ). a + b) (h 0 (omega arith)) (sums-are S g z c os ls cs (omega arith) (omega arith) (λ i l. h (suc i) (omega arith))) ∙ sym (c (areaOf o n) (described os ls))
+sums-are S g z c [] spans [] p q h = sym z
+sums-are S g z c [] spans (x ∷ cs) p q h = absurd (omega arith)
+sums-are S g z c (o ∷ starts) [] cs p q h = absurd (omega arith)
+sums-are S g z c (o ∷ starts) (n ∷ spans) [] p q h = absurd (omega arith)
+sums-are S g z c (o ∷ starts) (n ∷ spans) (x ∷ cs) p q h =
+    ap₂ (λ (a b : ℕ). a + b) (h 0 (omega arith)) (sums-are S g z c starts spans cs (omega arith) (omega arith) (λ i l. h (suc i) (omega arith))) ∙ sym (c (areaOf o n) (described starts spans))
 
 -- a column of the rows of areas
 module _ {image : Bytes} {m : Mounted} {t : List ℕ} (s : Safe image m t) where

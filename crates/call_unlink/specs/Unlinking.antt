@@ -16,7 +16,7 @@ use Rattle.calls.specs.Create.{isRoot}
 use Rattle.calls.specs.Rewrite.{rewriteNumber}
 use Rattle.calls.specs.Unlink.{unlinkOne, Unlinking, unlinks, refuses, unlinkWhat, unlinking, unlinkNumber, unlinkImage, unlinkOf, imageUnlinked}
 use Rattle.calls.specs.declared.Descriptor.{Descriptor}
-use Rattle.path_walk.specs.Found.{refusalOf}
+use Rattle.path_walk.specs.Resolved.{refusalOf}
 use Rattle.path_find.specs.Tree.{belowRoot}
 use Rattle.write_inodes.specs.Rewriting.{imageIf}
 use Rattle.mount_state.specs.State.{Holds, Mounts}

@@ -37,7 +37,7 @@ leads image wanted fs d = eqb (d .length) wanted && noneAhead image wanted (coun
 
 -- the area at a place of the list, where there is one
 abbrev pub areaAt : List ℕ → List ℕ → ℕ → Option Descriptor
-areaAt os ls i = cond (ltb i (length os)) (some (areaOf (getD os i 0) (getD ls i 0))) none
+areaAt starts spans i = cond (ltb i (length starts)) (some (areaOf (getD starts i 0) (getD spans i 0))) none
 
 -- the first area that leads
 unfoldable pub firstLeading : Bytes → ℕ → List Descriptor → List Descriptor → Option Descriptor
@@ -95,35 +95,35 @@ module _ (image : Bytes) (wanted : ℕ) (d : Descriptor) where
 
 -- ---- the loops, at i
 
-module _ (image : Bytes) (os ls : List ℕ) (pairs : length os ≡ length ls) (wanted i : ℕ) where
+module _ (image : Bytes) (starts spans : List ℕ) (pairs : length starts ≡ length spans) (wanted i : ℕ) where
   abbrev rest : ℕ → List Descriptor
-  rest k = described (drop k os) (drop k ls)
+  rest k = described (drop k starts) (drop k spans)
 
   abbrev here : Descriptor
-  here = areaOf (getD os i 0) (getD ls i 0)
+  here = areaOf (getD starts i 0) (getD spans i 0)
 
   module _ (count : ℕ) where
-    pub none-fails : i < length os → ahead image wanted count here ≡ true → noneAhead image wanted count (rest i) ≡ false
+    pub none-fails : i < length starts → ahead image wanted count here ≡ true → noneAhead image wanted count (rest i) ≡ false
     unfolding noneAhead all
-    none-fails h e = rw (described-step os ls i pairs h, e)
+    none-fails h e = rw (described-step starts spans i pairs h, e)
 
-    pub none-passes : i < length os → ahead image wanted count here ≡ false → noneAhead image wanted count (rest i) ≡ noneAhead image wanted count (rest (i + 1))
+    pub none-passes : i < length starts → ahead image wanted count here ≡ false → noneAhead image wanted count (rest i) ≡ noneAhead image wanted count (rest (i + 1))
     unfolding noneAhead all
-    none-passes h e = rw (described-step os ls i pairs h, e)
+    none-passes h e = rw (described-step starts spans i pairs h, e)
 
-    pub none-ends : length os ≤ i → noneAhead image wanted count (rest i) ≡ true
+    pub none-ends : length starts ≤ i → noneAhead image wanted count (rest i) ≡ true
     unfolding noneAhead all
-    none-ends h = rw (described-end os ls i h)
+    none-ends h = rw (described-end starts spans i h)
 
   module _ (fs : List Descriptor) where
-    pub first-here : i < length os → leads image wanted fs here ≡ true → areaAt os ls i ≡ firstLeading image wanted fs (rest i)
+    pub first-here : i < length starts → leads image wanted fs here ≡ true → areaAt starts spans i ≡ firstLeading image wanted fs (rest i)
     unfolding firstLeading
-    first-here h e = rw (described-step os ls i pairs h, e, lt-ltb i (length os) h)
+    first-here h e = rw (described-step starts spans i pairs h, e, lt-ltb i (length starts) h)
 
-    pub first-later : i < length os → leads image wanted fs here ≡ false → firstLeading image wanted fs (rest i) ≡ firstLeading image wanted fs (rest (i + 1))
+    pub first-later : i < length starts → leads image wanted fs here ≡ false → firstLeading image wanted fs (rest i) ≡ firstLeading image wanted fs (rest (i + 1))
     unfolding firstLeading
-    first-later h e = rw (described-step os ls i pairs h, e)
+    first-later h e = rw (described-step starts spans i pairs h, e)
 
-    pub first-nowhere : length os ≤ i → areaAt os ls i ≡ firstLeading image wanted fs (rest i)
+    pub first-nowhere : length starts ≤ i → areaAt starts spans i ≡ firstLeading image wanted fs (rest i)
     unfolding firstLeading
-    first-nowhere h = rw (described-end os ls i h, le-ltb i (length os) h)
+    first-nowhere h = rw (described-end starts spans i h, le-ltb i (length starts) h)

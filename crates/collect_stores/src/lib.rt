@@ -19,13 +19,13 @@ use area_read::HEADER_SIZE;
 use area_read::ID_AT;
 use area_read::SCRATCH_ID;
 use area_read::area_id;
-use calls::Descriptor;
-use collect_source::count_at;
+use area_write::write_area;
 use byte_store::ERASED;
 use byte_store::copy;
 use byte_store::erase;
 use byte_store::put;
-use area_write::write_area;
+use calls::Descriptor;
+use collect_source::count_at;
 use record_places::size_at;
 
 // The last collection count, which 0 follows.

@@ -27,7 +27,7 @@ use Rattle.calls.specs.declared.Descriptor.{Descriptor}
 use Rattle.calls_laws.specs.Checks.{Passes}
 use Rattle.calls_laws.specs.Records.{volume-sound}
 use Rattle.demand2.specs.Area.{Whole}
-use Rattle.demand2.specs.Store.{freePlace, Fits, OneStored, one-stored}
+use Rattle.demand2.specs.Store.{freePlace, RecordFits, OneStored, one-stored}
 use Rattle.demand2.specs.Places.{Written, written, all-written}
 use Rattle.calls_laws.specs.Unused.{Smallest, unused-smallest}
 use Rattle.demand2.specs.Added.{Same, Added, added-ids, same-count}
@@ -147,7 +147,7 @@ made-unnamed (p ∷ ps) names f previous m b k n =
 -- the first of several, and the rest
 pub record WrittenFirst (ds : List Descriptor) (image : Bytes) (b : Bytes) (bs : List Bytes) (image′ : Bytes) : Type 0 where
   pub area : Descriptor
-  pub fits : Fits image ds area b
+  pub fits : RecordFits image ds area b
   pub rest : Written ds (put image (freePlace image area) b) bs image′
 
 written-first : {ds : List Descriptor} {image image′ b : Bytes} {bs : List Bytes} → Written ds image (b ∷ bs) image′
@@ -181,7 +181,7 @@ module _ (image : Bytes) (ds : List Descriptor) (p : Passes image ds) (f : ℕ) 
     (named : BlocksName (volume image ds) names) (behind : Behind names previous) (end : lastBlock byBytes (volume image ds) f ≡ some previous)
     (few : length names ≤ mostNames) (room : suc (length (blockIds byBytes (volume image ds))) ≤ mostBlocks)
     (m : IsBlock (blockBytes (next names) 0 f previous text) (next names) 0 f previous text)
-    (area : Descriptor) (fits : Fits image ds area (blockBytes (next names) 0 f previous text)) where
+    (area : Descriptor) (fits : RecordFits image ds area (blockBytes (next names) 0 f previous text)) where
   abbrev b : Bytes
   b = blockBytes (next names) 0 f previous text
 

@@ -14,7 +14,7 @@ use Rattle.format.specs.BlockSize.{greatestBlock}
 use Rattle.volume.specs.Lists.{keep, all, same, once, only}
 use Rattle.volume.specs.Counting.{volumeOf, versions, newest, counting, idsOf, agree, allAgree}
 use Rattle.volume.specs.Fate.{ascend, climb, fateOf, blockDead}
-use Rattle.volume.specs.Path.{splitByte, pieces, goodPiece, goodPieces, isAbsolute, absoluteNames, goodAbsolute, goodPath, pathNames}
+use Rattle.volume.specs.Path.{splitByte, segments, goodSegment, goodSegments, isAbsolute, absoluteNames, goodAbsolute, goodPath, pathNames}
 use Rattle.volume.specs.Tree.{isEntry, isChild, children, walk, lookupNames}
 use Rattle.volume.specs.Contents.{owns, owned, unnamed, lastBlock, chainBack, fileBlocks}
 use Rattle.calls.specs.Image.{put}
@@ -77,7 +77,7 @@ unfolding
     crcByte crcOver check isDirectoryId isFileId isInodeId isBlockId recordSize nameGood inodeRule previousRule blockRule inodeRules
     blockRules checkRight wellFormed acceptable magicsRight validHeader isScratch isFileArea skip parts placed erasedEnd freeSize
     damagedBytes damaged areaParts areaRecords areaDamage areaFree areaClean greatestBlock keep all same once only volumeOf versions newest
-    counting idsOf agree allAgree ascend climb fateOf blockDead splitByte pieces goodPiece goodPieces isAbsolute absoluteNames goodAbsolute
+    counting idsOf agree allAgree ascend climb fateOf blockDead splitByte segments goodSegment goodSegments isAbsolute absoluteNames goodAbsolute
     goodPath pathNames isEntry isChild children walk lookupNames owns owned unnamed lastBlock chainBack fileBlocks put goodArea disjoint
     allDisjoint goodAreas fileAreas scratchAreas firstRefusal recordsIn acceptedRecords volume badDescription sharedAreaId wrongAreas
     shortScratch tooManyIds noRoot mountChecks mountNumber spaces firstFit placeAll storeAll namedByInodes namedByBlocks namedIds isAmong

@@ -23,7 +23,7 @@ use Rattle.format.specs.Record.{
 use Rattle.format.specs.Encoding.{inodeFront, blockFront, sealed, inodeBytes, blockBytes}
 use Rattle.format.specs.BlockSize.{greatestBlock}
 use Rattle.volume.specs.Lists.{all}
-use Rattle.volume.specs.Path.{splitByte, pieces, goodPiece, goodPieces, isAbsolute, absoluteNames, goodAbsolute, goodRelative, goodPath}
+use Rattle.volume.specs.Path.{splitByte, segments, goodSegment, goodSegments, isAbsolute, absoluteNames, goodAbsolute, goodRelative, goodPath}
 
 -- the record of a file below the root, with a name of n bytes
 abbrev fileNamed : ℕ → Bytes
@@ -77,7 +77,7 @@ pub record Measured : Type 0 where
 pub measured : Measured
 unfolding greatestBlock le16 le32 crcBit crcByte crcOver check isDirectoryId isFileId isInodeId isBlockId nameGood inodeRule inodeRules
     previousRule blockRule blockRules checkRight wellFormed acceptable recordSize inodeFront blockFront sealed inodeBytes blockBytes all
-    splitByte pieces goodPiece goodPieces isAbsolute absoluteNames goodAbsolute goodRelative goodPath
+    splitByte segments goodSegment goodSegments isAbsolute absoluteNames goodAbsolute goodRelative goodPath
 measured = record {
   table = refl;
   beyond = λ n h. omega arith;

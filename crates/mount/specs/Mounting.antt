@@ -22,7 +22,7 @@ use Rattle.area_list.specs.Described.{described, described-length}
 use Rattle.area_kinds.specs.Checks.{recordChecks, mount-refused, mount-goes-on, Checked, Split}
 use Rattle.area_kinds.specs.Places.{AreasPass, checked-pass, files-lie}
 use Rattle.area_kinds.specs.declared.Areas.{Areas}
-use Rattle.area_pass.specs.Listing.{placesIn, Fit}
+use Rattle.area_pass.specs.Listing.{placesIn, AreasFit}
 use Rattle.area_pass.specs.Reading.{readingOf}
 use Rattle.area_pass.specs.Rows.{spansAt, stretchesAt, skippedAt, freeAt, areaRows, areaAt, readingAt, Readings, Small}
 use Rattle.area_pass.specs.Rows.{Lent as PassLent}
@@ -63,7 +63,7 @@ module _ (image : Bytes) (ds : List Descriptor) (a : Areas) (t : List ℕ) (long
     split : Split image ds a t
     split = c .split z
 
-    fits : Fit image (part 0 (a .files) t) (part spansAt (a .files) t)
+    fits : AreasFit image (part 0 (a .files) t) (part spansAt (a .files) t)
     fits = files-lie image ds passed a t split (omega (arith, long))
 
     -- check 3 asks for a file area
@@ -188,7 +188,7 @@ module _ (image : Bytes) (ds : List Descriptor) (a : Areas) (t : List ℕ) (long
               files-few = split .few;
               inodes-few = rowed .inodes-few;
               blocks-few = rowed .blocks-few;
-              fit = both (Fit image) starts-still spans-still fits;
+              fit = both (AreasFit image) starts-still spans-still fits;
               readings = smalls;
               inodes = both (InodeTable image) inode-ids inode-spots (rowed .inodes);
               blocks = both (BlockTable image) block-ids block-spots (rowed .blocks);

@@ -4,19 +4,19 @@ ghost use Rattle.calls.specs.Areas.{areaList};
 ghost use Rattle.mount_state.specs.State.{Lent, Mounts, refusedMount};
 ghost use Rattle.mount.specs.Filling.{Ready, Fills};
 use area_kinds::check_areas;
+use area_pass::list_areas;
 use calls::Descriptor;
 use calls::MOST_BLOCKS;
 use calls::MOST_INODES;
 use calls::NO_ROOT;
-use table_fill::gather;
-use area_pass::list_areas;
 use mount_state::INODE_IDS;
 use mount_state::Mounted;
 use mount_state::TABLES;
-use table_words::taken;
 use record_read::ROOT;
+use table_fill::gather;
 use table_rows::Spot;
 use table_rows::find;
+use table_words::taken;
 
 // The words that say which rows are taken, 64 in each.
 const INODE_WORDS: usize = MOST_INODES / 64;

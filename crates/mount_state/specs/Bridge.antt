@@ -18,7 +18,7 @@ use Rattle.calls.specs.Mount.{mostBlocks, mostRecords, volume}
 use Rattle.calls.specs.Storing.{namedIds}
 use Rattle.calls.specs.declared.Descriptor.{Descriptor}
 use Rattle.area_list.specs.Described.{described}
-use Rattle.area_pass.specs.Listing.{Fit}
+use Rattle.area_pass.specs.Listing.{AreasFit}
 use Rattle.area_pass.specs.Bridge.{placedVolume, volume-places}
 use Rattle.area_pass.specs.Rows.{spansAt}
 use Rattle.table_rows.specs.Parts.{part-long, lent, lent-front, both}
@@ -53,8 +53,8 @@ module _ {image : Bytes} {m : Mounted} {t : List ℕ} (s : Safe image m t) where
   pub blocks-few : length (take (blockIdsAt + m .blocks - blockIdsAt) (drop blockIdsAt t)) ≤ mostBlocks
   blocks-few = omega (arith, s .blocks-few, length-take (blockIdsAt + m .blocks - blockIdsAt) (drop blockIdsAt t))
 
-  pub fit-lent : Fit image (take (m .files - 0) t) (take (spansAt + m .files - spansAt) (drop spansAt t))
-  fit-lent = both (Fit image) (lent-front (m .files) t) (lent spansAt (m .files) t) (s .fit)
+  pub fit-lent : AreasFit image (take (m .files - 0) t) (take (spansAt + m .files - spansAt) (drop spansAt t))
+  fit-lent = both (AreasFit image) (lent-front (m .files) t) (lent spansAt (m .files) t) (s .fit)
 
   pub starts-few : length (take (m .files - 0) t) ≤ mostAreas
   starts-few = omega (arith, s .files-few, length-take (m .files - 0) t)

@@ -13,7 +13,7 @@ use Rattle.calls.specs.declared.Descriptor.{Descriptor}
 use Rattle.area_pass.specs.Reading.{readingOf}
 use Rattle.area_pass.specs.Rows.{spansAt, areaRows, areaAt, readingAt, Small}
 use Rattle.area_list.specs.Described.{described}
-use Rattle.area_pass.specs.Listing.{placesIn, Fit}
+use Rattle.area_pass.specs.Listing.{placesIn, AreasFit}
 use Rattle.area_pass.specs.Bridge.{placedVolume}
 use Rattle.mount_state.specs.declared.Mounted.{Mounted}
 
@@ -65,7 +65,7 @@ pub record Safe (image : Bytes) (m : Mounted) (tables : List ℕ) : Type 0 where
   pub files-few : m .files ≤ mostAreas
   pub inodes-few : m .inodes ≤ mostInodes
   pub blocks-few : m .blocks ≤ mostBlocks
-  pub fit : Fit image (starts m tables) (spans m tables)
+  pub fit : AreasFit image (starts m tables) (spans m tables)
   pub readings : (i : ℕ) → i < m .files → Small tables i
   pub inodes : InodeTable image (inodeIds m tables) (inodeSpots m tables)
   pub blocks : BlockTable image (blockIds m tables) (blockSpots m tables)

@@ -1,9 +1,9 @@
 // What a mounted volume is: its counts by value, and where its parts stand in one lent slice of 32-bit numbers.
 // What the code relies on is `Safe`, and what the tables hold is `Holds` (specs/State.antt).
+use area_pass::AREA_ROWS;
 use calls::Descriptor;
 use calls::MOST_BLOCKS;
 use calls::MOST_INODES;
-use area_pass::AREA_ROWS;
 
 // The tables: the rows of the file areas in columns, then of inodes the ids and the spots, then those of blocks.
 pub const INODE_IDS: usize = AREA_ROWS;

@@ -11,13 +11,6 @@ ghost use Rattle.calls.specs.Append.{appendOf, imageAppended};
 ghost use Rattle.calls.specs.Unlink.{unlinkOf, imageUnlinked};
 ghost use Rattle.calls.specs.Collect.{collectOf, imageCollected};
 ghost use Rattle.calls.specs.Areas.{listed};
-use calls::Created;
-use calls::Descriptor;
-use calls::Handle;
-use calls::Lookup;
-use calls::Opened;
-use calls::ReadAnswer;
-use calls::Report;
 use area_structs::areas_of;
 use call_entries::append_of;
 use call_entries::collect_of;
@@ -29,6 +22,13 @@ use call_entries::read_at_of;
 use call_entries::read_of;
 use call_entries::report_of;
 use call_entries::unlink_of;
+use calls::Created;
+use calls::Descriptor;
+use calls::Handle;
+use calls::Lookup;
+use calls::Opened;
+use calls::ReadAnswer;
+use calls::Report;
 
 // Makes an empty volume of the areas: the number of refusal, or 0. A refused format changes no byte.
 #[no_mangle]

@@ -119,8 +119,8 @@ abbrev pub instead : {X Y Z N : Type 0} → N → X × (Y × Z) → X × (N × Z
 instead n p = (p .0, (n, p .1 .1))
 
 -- what `areas_of` says of a list
-abbrev pub Told : List Descriptor → Areas → Type 0
-Told ds r = (r ≡ areasOf ds) × (areaList (r .numbers) ≡ take mostEntries (listed ds))
+abbrev pub Resolved : List Descriptor → Areas → Type 0
+Resolved ds r = (r ≡ areasOf ds) × (areaList (r .numbers) ≡ take mostEntries (listed ds))
 
 -- a contract that asks nothing beside what is owned
 pub no-asks : {M : Type 1} (𝓤 : URA M) (P : SProp 𝓤) → ent 𝓤 P (sep 𝓤 P (emp 𝓤))
@@ -180,8 +180,8 @@ module _ {M : Type 1} (𝓤 : URA M) (H : Heap 𝓤) (A : Atoms 𝓤) where
     abbrev pub to : Lft → Share → RefT (List Descriptor) → Val → AreasOf .Ghost
     to κ s x v = (((κ, tt), (s, tt), tt, (x, tt), (v ∷ [], tt)), tt)
 
-    told : (κ : Lft) (x : RefT (List Descriptor)) (r : Areas) → ent 𝓤 (ensured 𝓤 H A areas.ended (areas.clauses 𝓤 H A mem run) (κ, tt) (x, tt) tt r) (fact 𝓤 (Told (x .now) r))
-    told κ x r = exE 𝓤 _ (λ ws. snd∗ 𝓤 (sem 𝓤 H A (lasts areas.ended (κ, tt) (x, tt) ws)) (fact 𝓤 (Told (x .now) r)))
+    told : (κ : Lft) (x : RefT (List Descriptor)) (r : Areas) → ent 𝓤 (ensured 𝓤 H A areas.ended (areas.clauses 𝓤 H A mem run) (κ, tt) (x, tt) tt r) (fact 𝓤 (Resolved (x .now) r))
+    told κ x r = exE 𝓤 _ (λ ws. snd∗ 𝓤 (sem 𝓤 H A (lasts areas.ended (κ, tt) (x, tt) ws)) (fact 𝓤 (Resolved (x .now) r)))
 
 -- the function is entered: its tokens, the list's the second, what its parameters own, and its locals
 pub begins : {M : Type 1} {𝓤 : URA M} {H : Heap 𝓤} {A : Atoms 𝓤} (W : Given 𝓤 H A) (C : Calls 𝓤 H) (Λ : Loops 𝓤 H) (f : Fn) (m : ℕ) (κs : Lfts (suc (suc m))) (qs : Shares (suc (suc m))) (ks : List Kind) (a : Denots (rows ks)) (Kf : Val → SProp 𝓤)
@@ -218,7 +218,7 @@ module _ {M : Type 1} {𝓤 : URA M} {H : Heap 𝓤} {A : Atoms 𝓤} {K : Type 
   pub lists : K → FmC 𝓤 H (W .laws) C → (mem : Memory → SProp 𝓤) (run : Routine → Fun 𝓤) → Triple 𝓤 (C #descriptor-list·areas-of) (AreasOf 𝓤 H A mem run) → (x : RefT (List Descriptor))
       → {Γ : List (Item 𝓤)} {E : Env 𝓤 H} {q : Post 𝓤 H} {xs : List Operand} {d : Place} {rest : Body} {L₀ Lr : SProp 𝓤} {κ : Lft} {s : Share} {P₀ Pr : Fml} {v : Val}
       → Opds K W (raw (AreasOf 𝓤 H A mem run .pre (to 𝓤 H A mem run κ s x v)) ∷ (raw L₀ ⊛ raw Lr ⊛ ‵ P₀ ⊛ ‵ Pr) ∷ Γ) E xs (v ∷ [])
-      → ((r : Areas) (w : Val) → Told (x .now) r → Is R.the-row r (w ∷ [])
+      → ((r : Areas) (w : Val) → Resolved (x .now) r → Is R.the-row r (w ∷ [])
       → Seq K W (raw (sep 𝓤 (sep 𝓤 (sep 𝓤 L₀ Lr) (sem 𝓤 H A (fsep P₀ (fsep (R.the-row .own r (w ∷ [])) Pr)))) (emp 𝓤)) ∷ ‵ (flft κ s) ∷ Γ) (lands C Λ E d w rest q))
       → Seq K W ((raw L₀ ⊛ ‵ (flft κ s) ⊛ raw Lr) ∷ ‵ (fsep P₀ (fsep (ShrSlice (named 1) κ D.the-row .own x (v ∷ [])) Pr)) ∷ Γ) (runs C Λ E (seq (call #descriptor-list·areas-of xs d) rest) q)
   lists t fm mem run known x {L₀ = L₀} {Lr = Lr} {κ = κ} {s = s} {P₀ = P₀} {Pr = Pr} {v = v} os k =
@@ -228,7 +228,7 @@ module _ {M : Type 1} {𝓤 : URA M} {H : Heap 𝓤} {A : Atoms 𝓤} {K : Type 
       move t (2 ∷ 1 ∷ []) $ use2 W (raw (AreasOf 𝓤 H A mem run .pre (to 𝓤 H A mem run κ s x v))) asked $
       calls-at t fm (AreasOf 𝓤 H A mem run) known (to 𝓤 H A mem run κ s x v) os (λ w.
       use1 W (later (some (λ (r : Areas). ((‵ (flft κ s) ⊛ ‵ ftrue) ⊛ ‵ (R.the-row .own r (w ∷ []))) ⊛ raw (ensured 𝓤 H A areas.ended (areas.clauses 𝓤 H A mem run) (κ, tt) (x, tt) tt r)))) (id⊢ 𝓤 _) $ await t tt $ pick t (λ r.
-      split t $ move t (1 ∷ []) $ use1 W (raw (fact 𝓤 (Told (x .now) r))) (told 𝓤 H A mem run κ x r) $ heard t (Told (x .now) r) (λ e. split t $ move t (1 ∷ []) $
+      split t $ move t (1 ∷ []) $ use1 W (raw (fact 𝓤 (Resolved (x .now) r))) (told 𝓤 H A mem run κ x r) $ heard t (Resolved (x .now) r) (λ e. split t $ move t (1 ∷ []) $
       peeks t R.the-row (Is R.the-row) (shows 𝓤 H A R.the-row) r (w ∷ []) (λ is.
       -- [the copy; the list's token; all the others' at once; …]
       move t (2 ∷ []) $ split t $ move t (1 ∷ []) $ split t $ move t (2 ∷ 0 ∷ []) $ join t $ move t (1 ∷ []) $ split t $
@@ -290,7 +290,7 @@ module _ {M : Type 1} {𝓤 : URA M} {H : Heap 𝓤} {A : Atoms 𝓤} {K : Type 
       → (m : ℕ) (κs : Lfts (suc (suc m))) (qs : Shares (suc (suc m))) {P₀ Pr : Fml}
       → ((n : Areas) (v : Val) → ent 𝓤 (sep 𝓤 (sep 𝓤 (toks 𝓤 A (suc m) (skip κs) (skip qs)) (sem 𝓤 H A (fsep P₀ (fsep (R.the-row .own n (v ∷ [])) Pr)))) (emp 𝓤)) (tripleOf 𝓤 H A (G .signature) (closing 𝓤 H A G c) .pre (y n v)))
       → ((n : Areas) (v : Val) → ent 𝓤 (alive 𝓤 H A (G .signature) (y n v .0 .0) (y n v .0 .1)) (toks 𝓤 A (suc m) (skip κs) (skip qs)))
-      → (Q : (n : Areas) (v : Val) → Res (G .signature) (y n v .0 .0) → SProp 𝓤) → ((n : Areas) (v : Val) → Told (x .now) n → (r : Res (G .signature) (y n v .0 .0)) → ent 𝓤 (ensured 𝓤 H A G c (y n v .0 .0) (y n v .0 .3) (y n v .1) r) (Q n v r))
+      → (Q : (n : Areas) (v : Val) → Res (G .signature) (y n v .0 .0) → SProp 𝓤) → ((n : Areas) (v : Val) → Resolved (x .now) n → (r : Res (G .signature) (y n v .0 .0)) → ent 𝓤 (ensured 𝓤 H A G c (y n v .0 .0) (y n v .0 .3) (y n v .1) r) (Q n v r))
       → (Kf : Val → SProp 𝓤)
       → ((n : Areas) (v w : Val) → ent 𝓤 (H .⇛ (ex 𝓤 (λ (r : Res (G .signature) (y n v .0 .0)). sep 𝓤 (sep 𝓤 (toks 𝓤 A (suc (suc m)) κs qs) (sem 𝓤 H A (typeAt (G .signature .result) (y n v .0 .0) .own r (w ∷ [])))) (Q n v r)))) (Kf w))
       → (ls : List Local) (bs : Blocks ls) (st : Held ls) (k : ℕ) (is : List ℕ) (st′ : Val → Held ls) → ((n : Areas) (v : Val) → Answers ls (typeAt (G .signature .result) (y n v .0 .0)))

@@ -15,10 +15,10 @@ use Rattle.path_names.specs.Names.{namesFrom, anyNames, oneName, firstName, res
 use Rattle.path_names.specs.Walking.{names-none, names-some, still}
 use Rattle.path_names.specs.declared.Walk.{Walk}
 use Rattle.calls.specs.Create.{lastName, namesBefore, isRoot}
-use Rattle.path_walk.specs.Found.{stepOf}
+use Rattle.path_walk.specs.Resolved.{stepOf}
 use Rattle.path_walk.specs.Laws.{walk-fails, walk-goes-on}
-use Rattle.path_walk.specs.declared.Found.{Found as Told}
-use Rattle.path_walk.specs.declared.Found.the-variants.{Inode, Absent}
+use Rattle.path_walk.specs.declared.Resolved.{Resolved}
+use Rattle.path_walk.specs.declared.Resolved.the-variants.{Inode, Absent}
 
 -- a name that a record may bear
 abbrev pub ShortName : Bytes → Type 0
@@ -106,15 +106,15 @@ parentOf F v base path =
     cond (not (goodPath base path) || isRoot (pathNames base path)) (absent 8) (lookupNames F v (namesBefore (pathNames base path)))
 
 -- something was found only for a good path that has a last name
-abbrev pub Below : Bytes → Bytes → Told → Type 0
+abbrev pub Below : Bytes → Bytes → Resolved → Type 0
 Below base path (Inode i d) = (goodPath base path ≡ true) × (anyNames (pathNames base path) ≡ true)
 Below base path (Absent n) = Unit {0}
 
-pub below-any : (base path : Bytes) (r : Told) → goodPath base path ≡ true → anyNames (pathNames base path) ≡ true → Below base path r
+pub below-any : (base path : Bytes) (r : Resolved) → goodPath base path ≡ true → anyNames (pathNames base path) ≡ true → Below base path r
 below-any base path (Inode i d) g a = (g, a)
 below-any base path (Absent n) g a = tt
 
-pub below-found : (base path : Bytes) (r : Told) → Below base path r → (i : ℕ) (d : Bool) → r ≡ Inode i d
+pub below-found : (base path : Bytes) (r : Resolved) → Below base path r → (i : ℕ) (d : Bool) → r ≡ Inode i d
     → (goodPath base path ≡ true) × (anyNames (pathNames base path) ≡ true)
 below-found base path r b i d e = rw e at b
 

@@ -16,7 +16,7 @@ ghost use Rattle.calls.specs.declared.Descriptor.{Descriptor};
 ghost use Rattle.record_places.specs.Place.{byPlace};
 ghost use Rattle.path_names.specs.Names.{anyNames};
 ghost use Rattle.table_rows.specs.Rows.{InodeTable};
-ghost use Rattle.path_walk.specs.Found.{InodesOf, onlyOf, meaning, Kinded};
+ghost use Rattle.path_walk.specs.Resolved.{InodesOf, onlyOf, meaning, Kinded};
 ghost use Rattle.mount_state.specs.State.{Safe, Holds};
 ghost use Rattle.path_find.specs.Tree.{belowRoot};
 ghost use Rattle.path_find.specs.Parent.{ShortName, parentOf, Below};
@@ -24,11 +24,6 @@ ghost use Rattle.path_find.specs.NewName.{anyOf};
 use calls::BAD_PATH;
 use calls::EXISTS;
 use calls::WRONG_KIND;
-use path_walk::Child;
-use path_walk::Found;
-use path_walk::enter;
-use path_walk::find_child;
-use path_walk::resolve;
 use mount_state::INODE_IDS;
 use mount_state::INODE_SPOTS;
 use mount_state::Mounted;
@@ -38,6 +33,11 @@ use path_names::has_name;
 use path_names::is_last;
 use path_names::name_at;
 use path_names::start;
+use path_walk::Child;
+use path_walk::Resolved;
+use path_walk::enter;
+use path_walk::find_child;
+use path_walk::resolve;
 use record_places::sequence_at;
 use record_read::ROOT;
 use record_read::is_directory_id;
@@ -45,7 +45,7 @@ use table_rows::Spot;
 use table_rows::find;
 
 // What a good path leads to.
-fn walk<'a>(image: &[u8], tables: &[u32], m: Mounted, base: &'a [u8], path: &'a [u8]) -> Found
+fn walk<'a>(image: &[u8], tables: &[u32], m: Mounted, base: &'a [u8], path: &'a [u8]) -> Resolved
     requires { ⌜ Safe (now image) m (now tables) ⌝ }
     requires { ⌜ goodPath (now base) (now path) ≡ true ⌝ }
     ensures means { λ r. ⌜ ((ds : List Descriptor) → Holds (now (image .entry)) ds m (now (tables .entry)) → meaning r ≡ lookupNames byBytes (volume (now (image .entry)) ds) (pathNames (now (base .entry)) (now (path .entry)))) ⌝ }
@@ -69,13 +69,13 @@ pub fn find_path<'a>(
     m: Mounted,
     base: &'a [u8],
     path: &'a [u8],
-) -> Found
+) -> Resolved
     requires { ⌜ Safe (now image) m (now tables) ⌝ }
     ensures means { λ r. ⌜ ((ds : List Descriptor) → Holds (now (image .entry)) ds m (now (tables .entry)) → meaning r ≡ resolve (now (image .entry)) ds (now (base .entry)) (now (path .entry))) ⌝ }
     ensures kind { λ r. ⌜ Kinded r ⌝ }
 {
     if good_path(base, path) {} else {
-        return Found::Absent(BAD_PATH);
+        return Resolved::Absent(BAD_PATH);
     }
     walk(image, tables, m, base, path)
 }
@@ -87,16 +87,16 @@ pub fn find_below<'a>(
     m: Mounted,
     base: &'a [u8],
     path: &'a [u8],
-) -> Found
+) -> Resolved
     requires { ⌜ Safe (now image) m (now tables) ⌝ }
     ensures { λ r. ⌜ ((ds : List Descriptor) → Holds (now (image .entry)) ds m (now (tables .entry)) → meaning r ≡ belowRoot byBytes (volume (now (image .entry)) ds) (now (base .entry)) (now (path .entry))) ⌝ }
 {
     if good_path(base, path) {} else {
-        return Found::Absent(BAD_PATH);
+        return Resolved::Absent(BAD_PATH);
     }
     let w = start(base, path);
     if has_name(base, path, w) {} else {
-        return Found::Absent(BAD_PATH);
+        return Resolved::Absent(BAD_PATH);
     }
     walk(image, tables, m, base, path)
 }
@@ -142,7 +142,7 @@ fn walk_before<'a>(
     spots: &[u32],
     base: &'a [u8],
     path: &'a [u8],
-) -> Found
+) -> Resolved
     requires { ⌜ InodeTable (now image) (now ids) (now spots) ⌝ }
     requires { ⌜ goodPath (now base) (now path) ≡ true ⌝ }
     requires { ⌜ anyNames (pathNames (now base) (now path)) ≡ true ⌝ }
@@ -152,11 +152,11 @@ fn walk_before<'a>(
     let mut at = ROOT;
     loop {
         if is_last(base, path, w) {
-            return Found::Inode(at, is_directory_id(at));
+            return Resolved::Inode(at, is_directory_id(at));
         }
         let name = name_at(base, path, w);
         let step = enter(image, ids, spots, at, name);
-        let Found::Inode(id, _) = step else {
+        let Resolved::Inode(id, _) = step else {
             return step;
         };
         at = id;
@@ -171,17 +171,17 @@ pub fn find_parent<'a>(
     m: Mounted,
     base: &'a [u8],
     path: &'a [u8],
-) -> Found
+) -> Resolved
     requires { ⌜ Safe (now image) m (now tables) ⌝ }
     ensures means { λ r. ⌜ ((ds : List Descriptor) → Holds (now (image .entry)) ds m (now (tables .entry)) → meaning r ≡ parentOf byBytes (volume (now (image .entry)) ds) (now (base .entry)) (now (path .entry))) ⌝ }
     ensures good { λ r. ⌜ Below (now (base .entry)) (now (path .entry)) r ⌝ }
 {
     if good_path(base, path) {} else {
-        return Found::Absent(BAD_PATH);
+        return Resolved::Absent(BAD_PATH);
     }
     let w = start(base, path);
     if has_name(base, path, w) {} else {
-        return Found::Absent(BAD_PATH);
+        return Resolved::Absent(BAD_PATH);
     }
     let ids_end = INODE_IDS + m.inodes;
     let spots_end = INODE_SPOTS + m.inodes;

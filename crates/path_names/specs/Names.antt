@@ -1,4 +1,4 @@
--- The names of a path one by one: what the code answers, in terms of the pieces of base and path.
+-- The names of a path one by one: what the code answers, in terms of the segments of base and path.
 use Prim.Native.Nat.{ℕ, suc, _+_, _-_, _≤_, _<_}
 use mathlib.Core.Path.{_≡_}
 use mathlib.Core.List.{List, [], _∷_, _++_}
@@ -8,10 +8,10 @@ use lib.Dec.{eqb, ltb}
 use Rattle.format.specs.Bytes.{Bytes}
 use Rattle.format.specs.Record.{nameGood}
 use Rattle.volume.specs.Lists.{all}
-use Rattle.volume.specs.Path.{SLASH, longestName, longestPath, pieces, goodPieces, pathNames}
+use Rattle.volume.specs.Path.{SLASH, longestName, longestPath, segments, goodSegments, pathNames}
 use Rattle.path_names.specs.declared.Walk.{Walk}
 
--- ---- pieces
+-- ---- segments
 
 abbrev pub noNul : Bytes → Bool
 noNul s = all (λ b. not (eqb b 0)) s
@@ -21,29 +21,29 @@ unfoldable pub toSlash : Bytes → ℕ
 toSlash [] = 0
 toSlash (b ∷ l) = cond (eqb b SLASH) 0 (suc (toSlash l))
 
--- where the piece that starts at a place ends
-unfoldable pub pieceEnd : Bytes → ℕ → ℕ
-pieceEnd s from = from + toSlash (drop from s)
+-- where the segment that starts at a place ends
+unfoldable pub segmentEnd : Bytes → ℕ → ℕ
+segmentEnd s from = from + toSlash (drop from s)
 
 -- and its bytes
-abbrev pub pieceAt : Bytes → ℕ → Bytes
-pieceAt s from = take (pieceEnd s from - from) (drop from s)
+abbrev pub segmentAt : Bytes → ℕ → Bytes
+segmentAt s from = take (segmentEnd s from - from) (drop from s)
 
 -- r is that end, which is not before the place, and inside if the place is
 pub record Ended (s : Bytes) (from r : ℕ) : Type 0 where
-  pub end : r ≡ pieceEnd s from
+  pub end : r ≡ segmentEnd s from
   pub onward : from ≤ r
   pub within : from ≤ length s → r ≤ length s
 
 -- ---- names still to come
 
 -- in one slice, from a place on: none at its end, so that the root has none
-unfoldable pub piecesFrom : Bytes → ℕ → List Bytes
-piecesFrom s at = cond (ltb at (length s)) (pieces (drop at s)) []
+unfoldable pub segmentsFrom : Bytes → ℕ → List Bytes
+segmentsFrom s at = cond (ltb at (length s)) (segments (drop at s)) []
 
 -- from a cursor on, "the base's first"
 unfoldable pub namesFrom : Bytes → Bytes → Walk → List Bytes
-namesFrom base path w = cond (w .based) (piecesFrom base (w .at) ++ piecesFrom path 0) (piecesFrom path (w .at))
+namesFrom base path w = cond (w .based) (segmentsFrom base (w .at) ++ segmentsFrom path 0) (segmentsFrom path (w .at))
 
 unfoldable pub anyNames : List Bytes → Bool
 anyNames [] = false
@@ -64,10 +64,10 @@ restNames (n ∷ ns) = ns
 
 -- ---- what a walk promises
 
--- the pieces of s from a place on are good
+-- the segments of s from a place on are good
 pub record Good (s : Bytes) (at : ℕ) : Type 0 where
   pub short : length s ≤ longestPath
-  pub good : goodPieces (piecesFrom s at) ≡ true
+  pub good : goodSegments (segmentsFrom s at) ≡ true
 
 -- the cursors of a good path: while the base has a name left, the next name is there
 pub record Reached (base path : Bytes) (w : Walk) : Type 0 where

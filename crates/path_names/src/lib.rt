@@ -3,7 +3,7 @@ ghost use mathlib.Core.Path.{_≡_};
 ghost use mathlib.Core.Bool.{true};
 ghost use Prim.Native.Nat.{_≤_};
 ghost use lib.ListN.{length, drop};
-ghost use Rattle.volume.specs.Path.{goodPiece, goodPieces, pieces, isAbsolute, goodAbsolute, goodRelative, goodPath};
+ghost use Rattle.volume.specs.Path.{goodSegment, goodSegments, segments, isAbsolute, goodAbsolute, goodRelative, goodPath};
 ghost use Rattle.path_names.specs.Names.{noNul, namesFrom, anyNames, oneName, Ended, Reached, Started, Named, Stepped};
 
 // The longest name, and the longest path or base.
@@ -18,8 +18,8 @@ pub struct Walk {
     pub at: usize,
 }
 
-// Where the piece that starts at `from` ends: at the next slash, or at the end.
-fn piece_end(s: &[u8], from: usize) -> usize
+// Where the segment that starts at `from` ends: at the next slash, or at the end.
+fn segment_end(s: &[u8], from: usize) -> usize
     ensures { λ r. ⌜ Ended (now (s .entry)) from r ⌝ }
 {
     let mut i = from;
@@ -45,8 +45,8 @@ fn no_nul(s: &[u8]) -> bool
     true
 }
 
-fn good_piece(s: &[u8]) -> bool
-    ensures { λ r. ⌜ r ≡ goodPiece (now (s .entry)) ⌝ }
+fn good_segment(s: &[u8]) -> bool
+    ensures { λ r. ⌜ r ≡ goodSegment (now (s .entry)) ⌝ }
 {
     let n = s.len();
     if n == 0 {
@@ -58,15 +58,15 @@ fn good_piece(s: &[u8]) -> bool
     no_nul(s)
 }
 
-// Whether all pieces from `from` on are good.
-fn good_pieces(s: &[u8], from: usize) -> bool
+// Whether all segments from `from` on are good.
+fn good_segments(s: &[u8], from: usize) -> bool
     requires { ⌜ from ≤ length (now s) ⌝ }
-    ensures { λ r. ⌜ r ≡ goodPieces (pieces (drop from (now (s .entry)))) ⌝ }
+    ensures { λ r. ⌜ r ≡ goodSegments (segments (drop from (now (s .entry)))) ⌝ }
 {
     let mut at = from;
     loop {
-        let end = piece_end(s, at);
-        if good_piece(&s[at..end]) {} else {
+        let end = segment_end(s, at);
+        if good_segment(&s[at..end]) {} else {
             return false;
         }
         let next = end + 1;
@@ -99,7 +99,7 @@ fn good_absolute(s: &[u8]) -> bool
     if s.len() <= 1 {
         return true;
     }
-    good_pieces(s, 1)
+    good_segments(s, 1)
 }
 
 fn good_relative(s: &[u8]) -> bool
@@ -108,7 +108,7 @@ fn good_relative(s: &[u8]) -> bool
     if LONGEST_PATH < s.len() {
         return false;
     }
-    good_pieces(s, 0)
+    good_segments(s, 0)
 }
 
 // Whether `path` is good; one without a leading slash is taken below `base`.
@@ -165,7 +165,7 @@ pub fn is_last(base: &[u8], path: &[u8], w: Walk) -> bool
     if path.len() <= w.at {
         return false;
     }
-    piece_end(path, w.at) == path.len()
+    segment_end(path, w.at) == path.len()
 }
 
 // The next name, a part of the base or of the path, whichever it comes from.
@@ -176,10 +176,10 @@ pub fn name_at<'a>(base: &'a [u8], path: &'a [u8], w: Walk) -> &'a [u8]
 {
     let at = w.at;
     if w.based {
-        let end = piece_end(base, at);
+        let end = segment_end(base, at);
         return &base[at..end];
     }
-    let end = piece_end(path, at);
+    let end = segment_end(path, at);
     &path[at..end]
 }
 
@@ -190,7 +190,7 @@ pub fn after(base: &[u8], path: &[u8], w: Walk) -> Walk
     ensures { λ r. ⌜ Stepped (now (base .entry)) (now (path .entry)) w r ⌝ }
 {
     if w.based {
-        let next = piece_end(base, w.at) + 1;
+        let next = segment_end(base, w.at) + 1;
         if base.len() <= next {
             return Walk {
                 based: false,
@@ -202,7 +202,7 @@ pub fn after(base: &[u8], path: &[u8], w: Walk) -> Walk
             at: next,
         };
     }
-    let next = piece_end(path, w.at) + 1;
+    let next = segment_end(path, w.at) + 1;
     Walk {
         based: false,
         at: next,

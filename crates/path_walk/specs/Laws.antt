@@ -26,7 +26,7 @@ use Rattle.file_blocks.specs.Blocks.{firstOf}
 use Rattle.file_blocks.specs.Rows.{kept-none, kept-some}
 use Rattle.path_names.specs.Names.{anyNames, firstName, restNames}
 use Rattle.path_names.specs.Walking.{names-none, names-some}
-use Rattle.path_walk.specs.Found.{InodesOf, stepOf}
+use Rattle.path_walk.specs.Resolved.{InodesOf, stepOf}
 
 -- ---- one inode
 

@@ -11,11 +11,11 @@ ghost use Rattle.volume.specs.Tree.{found, isEntry, isChild, children, lookupNa
 ghost use Rattle.record_places.specs.Place.{byPlace, blockAt, Lies};
 ghost use Rattle.table_rows.specs.Rows.{InodeTable};
 ghost use Rattle.file_blocks.specs.Blocks.{firstOf};
-ghost use Rattle.path_walk.specs.Found.{InodesOf, onlyOf, meaning, Kinded, refusalOf, stepOf};
+ghost use Rattle.path_walk.specs.Resolved.{InodesOf, onlyOf, meaning, Kinded, refusalOf, stepOf};
 use byte_equal::equal;
+use byte_fields::wide;
 use inode_fate::fate_of;
 use inode_fate::lives;
-use byte_fields::wide;
 use path_names::after;
 use path_names::has_name;
 use path_names::name_at;
@@ -40,31 +40,31 @@ pub enum Child {
 }
 
 // What a path leads to.
-pub enum Found {
+pub enum Resolved {
     // an inode: its id, and whether it is a directory
     Inode(u32, bool),
     // the number of refusal
     Absent(u32),
 }
 
-impl Found {
+impl Resolved {
     // The number of refusal, 0 for an inode.
     pub fn refusal(self) -> u32
         ensures { λ r. ⌜ r ≡ refusalOf (meaning self) ⌝ }
     {
         match self {
-            Found::Inode(_, _) => 0,
-            Found::Absent(number) => number,
+            Resolved::Inode(_, _) => 0,
+            Resolved::Absent(number) => number,
         }
     }
 }
 
 // The inode of an id, with its kind.
-fn inode(id: u32) -> Found
+fn inode(id: u32) -> Resolved
     ensures means { λ r. ⌜ meaning r ≡ found id ⌝ }
     ensures kind { λ r. ⌜ Kinded r ⌝ }
 {
-    Found::Inode(id, is_directory_id(id))
+    Resolved::Inode(id, is_directory_id(id))
 }
 
 // Whether the inode at `p` names the directory as its parent and has the name.
@@ -152,18 +152,18 @@ pub fn find_child(image: &[u8], ids: &[u32], spots: &[u32], directory: u32, name
 }
 
 // One step of a walk: what the name leads to, looked for in the inode of an id.
-pub fn enter(image: &[u8], ids: &[u32], spots: &[u32], directory: u32, name: &[u8]) -> Found
+pub fn enter(image: &[u8], ids: &[u32], spots: &[u32], directory: u32, name: &[u8]) -> Resolved
     requires { ⌜ InodeTable (now image) (now ids) (now spots) ⌝ }
     ensures means { λ r. ⌜ ((v : Volume ℕ) → InodesOf (now (image .entry)) (now (ids .entry)) (now (spots .entry)) v → meaning r ≡ stepOf (byPlace (now (image .entry))) v directory (now (name .entry))) ⌝ }
     ensures kind { λ r. ⌜ Kinded r ⌝ }
 {
     if is_directory_id(directory) {} else {
-        return Found::Absent(NO_DIRECTORY);
+        return Resolved::Absent(NO_DIRECTORY);
     }
     let child = find_child(image, ids, spots, directory, name);
     match child {
-        Child::Nobody => Found::Absent(NO_CHILD),
-        Child::Several => Found::Absent(MANY_CHILDREN),
+        Child::Nobody => Resolved::Absent(NO_CHILD),
+        Child::Several => Resolved::Absent(MANY_CHILDREN),
         Child::One(id) => inode(id),
     }
 }
@@ -175,7 +175,7 @@ pub fn resolve<'a>(
     spots: &[u32],
     base: &'a [u8],
     path: &'a [u8],
-) -> Found
+) -> Resolved
     requires { ⌜ InodeTable (now image) (now ids) (now spots) ⌝ }
     requires { ⌜ goodPath (now base) (now path) ≡ true ⌝ }
     ensures means { λ r. ⌜ ((v : Volume ℕ) → InodesOf (now (image .entry)) (now (ids .entry)) (now (spots .entry)) v → meaning r ≡ lookupNames (byPlace (now (image .entry))) v (pathNames (now (base .entry)) (now (path .entry)))) ⌝ }
@@ -186,7 +186,7 @@ pub fn resolve<'a>(
     while has_name(base, path, w) {
         let name = name_at(base, path, w);
         let step = enter(image, ids, spots, at, name);
-        let Found::Inode(id, _) = step else {
+        let Resolved::Inode(id, _) = step else {
             return step;
         };
         at = id;

@@ -1,10 +1,10 @@
 // Document 01, "Measured on the bench": the check's published value, and the area of 4,096 bytes, as it is and with each named flip.
 ghost use mathlib.Core.Path.{_≡_};
 ghost use lib.ListN.{length};
+use area_pass::list_area;
 use area_read::HEADER_SIZE;
 use area_read::next_record;
 use byte_crc16::check;
-use area_pass::list_area;
 
 // The area's header, the root at 24, the file "a" at 44, its block of 10 at 65 and its block of 5 at 99; FF follows.
 const BENCH: [u8; 128] = [

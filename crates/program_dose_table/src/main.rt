@@ -1,6 +1,4 @@
 // A dose table stored and read back: areas described by a list of structs, and a read by a handle whose position moves.
-use calls::Descriptor;
-use calls::Handle;
 use area_structs::Areas;
 use area_structs::areas_in;
 use call_entries::append_of;
@@ -8,6 +6,8 @@ use call_entries::create_of;
 use call_entries::format_of;
 use call_entries::open_of;
 use call_entries::read_of;
+use calls::Descriptor;
+use calls::Handle;
 
 const FILE: u32 = 1;
 

@@ -3,13 +3,13 @@ ghost use mathlib.Core.Path.{_≡_};
 ghost use Prim.Native.Nat.{_≤_};
 ghost use Rattle.calls.specs.Areas.{areaList, mostAreas};
 ghost use Rattle.calls.specs.Program.{cutAreas, programReport};
-use calls::BAD_AREAS;
-use calls::MOST_AREAS;
-use calls::Report;
 use area_structs::Areas;
 use area_structs::NUMBERS;
 use call_entries::report_of;
 use call_report::refused_report;
+use calls::BAD_AREAS;
+use calls::MOST_AREAS;
+use calls::Report;
 
 // The length of each area.
 const AREA: usize = 4096;

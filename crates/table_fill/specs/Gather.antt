@@ -10,8 +10,8 @@ use Rattle.volume.specs.View.{View}
 use Rattle.volume.specs.Counting.{Volume, volumeOf, allAgree, inodeIds, blockIds}
 use Rattle.record_places.specs.Place.{blockAt, byPlace, AllLie}
 use Rattle.table_words.specs.Occupancy.{capacity}
-use Rattle.table_rows.specs.Table.{taken, Rows, Good, Keeps}
-use Rattle.table_rows.specs.declared.Kept.{Kept}
+use Rattle.table_rows.specs.Table.{taken, Rows, Good, Updates}
+use Rattle.table_rows.specs.declared.Updated.{Updated}
 
 pub record Table : Type 0 where
   pub words : List ℕ
@@ -62,9 +62,9 @@ abbrev pub SameKind : {A : Type 0} → View A → List A → Type 0
 SameKind {A} F rs = (r s : A) → List·Memᴰ r rs → List·Memᴰ s rs → F .id r ≡ F .id s → F .isBlock r ≡ F .isBlock s
 
 -- the record p was shown to the table of its kind, and the other is as it was
-pub record Puts (image : Bytes) (p : ℕ) (t : Tables) (r : Kept) (t′ : Tables) : Type 0 where
+pub record Tabulates (image : Bytes) (p : ℕ) (t : Tables) (r : Updated) (t′ : Tables) : Type 0 where
   pub shown : let u = tableOf (blockAt image p) t in let u′ = tableOf (blockAt image p) t′ in
-      Keeps image p (u .words) (u .ids) (u .spots) r (u′ .words) (u′ .ids) (u′ .spots)
+      Updates image p (u .words) (u .ids) (u .spots) r (u′ .words) (u′ .ids) (u′ .spots)
   pub other : tableOf (not (blockAt image p)) t′ ≡ tableOf (not (blockAt image p)) t
 
 -- more inode ids or block ids than the tables have places: refusal 5

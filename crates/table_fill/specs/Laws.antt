@@ -19,10 +19,10 @@ use Rattle.volume_laws.specs.Counting.{fewer-ids}
 use Rattle.record_places.specs.Place.{blockAt, byPlace, Lies, AllLie}
 use Rattle.table_words.specs.Occupancy.{capacity}
 use Rattle.table_words.specs.Laws.{total-within, fresh-total}
-use Rattle.table_rows.specs.Table.{taken, Keeps}
-use Rattle.table_rows.specs.Laws.{ids-room, getD-mem, rows-number, empty-rows, fresh-good, keeps-good, keeps-rows, keeps-newer, keeps-full}
-use Rattle.table_rows.specs.declared.Kept.{Kept}
-use Rattle.table_rows.specs.declared.Kept.the-variants.{Newer, Older, Full}
+use Rattle.table_rows.specs.Table.{taken, Updates}
+use Rattle.table_rows.specs.Laws.{ids-room, getD-mem, rows-number, empty-rows, fresh-good, updates-good, updates-rows, updates-newer, updates-full}
+use Rattle.table_rows.specs.declared.Updated.{Updated}
+use Rattle.table_rows.specs.declared.Updated.the-variants.{Newer, Older, Full}
 use Rattle.table_fill.specs.Gather.{
   Table,
   Tables,
@@ -34,7 +34,7 @@ use Rattle.table_fill.specs.Gather.{
   AllGood,
   AllRows,
   SameKind,
-  Puts,
+  Tabulates,
   overfull,
   Ready,
   Gathered,
@@ -122,51 +122,51 @@ fresh-ready image places n a b ii is bi bs fa fb lii lis lbi lbs count lie kinds
 
 -- ---- a record shown to the table of its kind
 
-module _ (image : Bytes) (p : ℕ) (t : Tables) (r : Kept) where
-  pub puts-block : (u : Table) → blockAt image p ≡ true
-      → Keeps image p (t .blocks .words) (t .blocks .ids) (t .blocks .spots) r (u .words) (u .ids) (u .spots)
-      → Puts image p t r (record { inodes = t .inodes; blocks = u })
-  puts-block u e k = record { shown = rw e k; other = rw e }
+module _ (image : Bytes) (p : ℕ) (t : Tables) (r : Updated) where
+  pub tabulates-block : (u : Table) → blockAt image p ≡ true
+      → Updates image p (t .blocks .words) (t .blocks .ids) (t .blocks .spots) r (u .words) (u .ids) (u .spots)
+      → Tabulates image p t r (record { inodes = t .inodes; blocks = u })
+  tabulates-block u e k = record { shown = rw e k; other = rw e }
 
-  pub puts-inode : (u : Table) → blockAt image p ≡ false
-      → Keeps image p (t .inodes .words) (t .inodes .ids) (t .inodes .spots) r (u .words) (u .ids) (u .spots)
-      → Puts image p t r (record { inodes = u; blocks = t .blocks })
-  puts-inode u e k = record { shown = rw e k; other = rw e }
+  pub tabulates-inode : (u : Table) → blockAt image p ≡ false
+      → Updates image p (t .inodes .words) (t .inodes .ids) (t .inodes .spots) r (u .words) (u .ids) (u .spots)
+      → Tabulates image p t r (record { inodes = u; blocks = t .blocks })
+  tabulates-inode u e k = record { shown = rw e k; other = rw e }
 
-module _ (image : Bytes) (p : ℕ) (t : Tables) (r : Kept) (t′ : Tables) (good : AllGood image t) (put : Puts image p t r t′) where
+module _ (image : Bytes) (p : ℕ) (t : Tables) (r : Updated) (t′ : Tables) (good : AllGood image t) (tabulates : Tabulates image p t r t′) where
   -- both tables may still be used
-  pub puts-good : Lies image p → AllGood image t′
-  puts-good lies = record { inodes = each false; blocks = each true }
+  pub tabulates-good : Lies image p → AllGood image t′
+  tabulates-good lies = record { inodes = each false; blocks = each true }
     where
       each : (b : Bool) → TableGood image (tableOf b t′)
       each = by-kind (blockAt image p) (λ b. TableGood image (tableOf b t′))
-          (keeps-good image p _ _ _ r _ _ _ (good-of good (blockAt image p)) (put .shown) lies)
-          (subst (λ (u : Table). TableGood image u) (sym (put .other)) (good-of good (not (blockAt image p))))
+          (updates-good image p _ _ _ r _ _ _ (good-of good (blockAt image p)) (tabulates .shown) lies)
+          (subst (λ (u : Table). TableGood image u) (sym (tabulates .other)) (good-of good (not (blockAt image p))))
 
   module _ (ps : List ℕ) (rows : AllRows (byPlace image) (volumeOf (byPlace image) ps) t) where
     -- and hold one record more, unless there was no row for it
-    pub puts-rows : r ≢ Full → AllRows (byPlace image) (volumeOf (byPlace image) (ps ++ (p ∷ []))) t′
-    puts-rows not-full = record { inodes = each false; blocks = each true }
+    pub tabulates-rows : r ≢ Full → AllRows (byPlace image) (volumeOf (byPlace image) (ps ++ (p ∷ []))) t′
+    tabulates-rows not-full = record { inodes = each false; blocks = each true }
       where
         each : (b : Bool) → TableRows (byPlace image) (recordsOf b (volumeOf (byPlace image) (ps ++ (p ∷ [])))) (tableOf b t′)
         each = by-kind (blockAt image p) (λ b. TableRows (byPlace image) (recordsOf b (volumeOf (byPlace image) (ps ++ (p ∷ [])))) (tableOf b t′))
             (rw (own-kind (byPlace image) ps p (blockAt image p) refl)
-            (keeps-rows image p _ _ _ r _ _ _ (good-of good (blockAt image p)) (put .shown) _ (rows-of rows (blockAt image p)) not-full))
+            (updates-rows image p _ _ _ r _ _ _ (good-of good (blockAt image p)) (tabulates .shown) _ (rows-of rows (blockAt image p)) not-full))
             (rw (other-kind (byPlace image) ps p (blockAt image p) refl)
-            (subst (λ (u : Table). TableRows (byPlace image) (recordsOf (not (blockAt image p)) (volumeOf (byPlace image) ps)) u) (sym (put .other))
+            (subst (λ (u : Table). TableRows (byPlace image) (recordsOf (not (blockAt image p)) (volumeOf (byPlace image) ps)) u) (sym (tabulates .other))
             (rows-of rows (not (blockAt image p)))))
 
     -- a record that counts now changes nothing of check 6
-    pub puts-newer : r ≡ Newer → ((q : ℕ) → List·Memᴰ q ps → byPlace image .id q ≡ byPlace image .id p → blockAt image q ≡ blockAt image p)
+    pub tabulates-newer : r ≡ Newer → ((q : ℕ) → List·Memᴰ q ps → byPlace image .id q ≡ byPlace image .id p → blockAt image q ≡ blockAt image p)
         → allAgree (byPlace image) (ps ++ (p ∷ [])) ≡ allAgree (byPlace image) ps
-    puts-newer is kinds = newer-agrees (byPlace image) (places-equivalent image) ps p (λ q m e.
-        keeps-newer image p _ _ _ r _ _ _ (good-of good (blockAt image p)) (put .shown) _ (rows-of rows (blockAt image p)) is q
+    tabulates-newer is kinds = newer-agrees (byPlace image) (places-equivalent image) ps p (λ q m e.
+        updates-newer image p _ _ _ r _ _ _ (good-of good (blockAt image p)) (tabulates .shown) _ (rows-of rows (blockAt image p)) is q
         (kind-mem (byPlace image) ps q (blockAt image p) m (kinds q m e)) e)
 
     -- where there is no row for it, its kind has too many ids
-    pub puts-full : r ≡ Full → capacity (tableOf (blockAt image p) t .words) < length (idsOf (byPlace image) (recordsOf (blockAt image p) (volumeOf (byPlace image) (ps ++ (p ∷ [])))))
-    puts-full is = rw (own-kind (byPlace image) ps p (blockAt image p) refl)
-        (keeps-full image p _ _ _ r _ _ _ (good-of good (blockAt image p)) (put .shown) _ (rows-of rows (blockAt image p)) is)
+    pub tabulates-full : r ≡ Full → capacity (tableOf (blockAt image p) t .words) < length (idsOf (byPlace image) (recordsOf (blockAt image p) (volumeOf (byPlace image) (ps ++ (p ∷ [])))))
+    tabulates-full is = rw (own-kind (byPlace image) ps p (blockAt image p) refl)
+        (updates-full image p _ _ _ r _ _ _ (good-of good (blockAt image p)) (tabulates .shown) _ (rows-of rows (blockAt image p)) is)
 
 -- ---- the loop
 
@@ -224,8 +224,8 @@ module _ (image : Bytes) (places : List ℕ) (n : ℕ) (t₀ : Tables) (ready : 
   }
 
   -- the record at the place i is shown to the tables
-  module _ (t t′ : Tables) (agreed : Bool) (i : ℕ) (r : Kept) (going : Going image places n t₀ t agreed i) (h : i < n)
-      (sizes : SameSizes t′ t) (put : Puts image (getD places i 0) t r t′) where
+  module _ (t t′ : Tables) (agreed : Bool) (i : ℕ) (r : Updated) (going : Going image places n t₀ t agreed i) (h : i < n)
+      (sizes : SameSizes t′ t) (tabulates : Tabulates image (getD places i 0) t r t′) where
     more : take (i + 1) places ≡ take i places ++ (getD places i 0 ∷ [])
     more = one-more places i (omega (arith, ready .count))
 
@@ -238,14 +238,14 @@ module _ (image : Bytes) (places : List ℕ) (n : ℕ) (t₀ : Tables) (ready : 
     next not-full g e = record {
       within = omega arith;
       sizes = sizes-trans sizes (going .sizes);
-      good = puts-good image (getD places i 0) t r t′ (going .good) put (ready .lie i h);
-      rows = rw more (puts-rows image (getD places i 0) t r t′ (going .good) put (take i places) (going .rows) not-full);
+      good = tabulates-good image (getD places i 0) t r t′ (going .good) tabulates (ready .lie i h);
+      rows = rw more (tabulates-rows image (getD places i 0) t r t′ (going .good) tabulates (take i places) (going .rows) not-full);
       agreed-is = rw more e;
     }
 
     pub going-newer : r ≡ Newer → Going image places n t₀ t′ agreed (i + 1)
     going-newer is = next (λ e. let z : _≡_ {A = ℕ} 0 1 = cc in omega arith) agreed
-        (going .agreed-is ∙ sym (puts-newer image (getD places i 0) t r t′ (going .good) put (take i places) (going .rows) is kinds))
+        (going .agreed-is ∙ sym (tabulates-newer image (getD places i 0) t r t′ (going .good) tabulates (take i places) (going .rows) is kinds))
 
     pub going-older : r ≡ Older → (g : Bool) → g ≡ allAgree (byPlace image) (take i places ++ (getD places i 0 ∷ [])) → Going image places n t₀ t′ g (i + 1)
     going-older is g e = next (λ e. let z : _≡_ {A = ℕ} 0 1 = cc in omega arith) g e
@@ -253,7 +253,7 @@ module _ (image : Bytes) (places : List ℕ) (n : ℕ) (t₀ : Tables) (ready : 
     pub going-full : r ≡ Full → Gathered image (take n places) t₀ 5 t′
     going-full is = record {
       number = sym (rw (overfull-by F t₀ (volumeOf F (take n places)) (blockAt image (getD places i 0)) many));
-      good = puts-good image (getD places i 0) t r t′ (going .good) put (ready .lie i h);
+      good = tabulates-good image (getD places i 0) t r t′ (going .good) tabulates (ready .lie i h);
       rows = λ z. absurd (omega arith);
     }
       where
@@ -263,7 +263,7 @@ module _ (image : Bytes) (places : List ℕ) (n : ℕ) (t₀ : Tables) (ready : 
         many : capacity (tableOf (blockAt image (getD places i 0)) t₀ .words) < length (idsOf F (recordsOf (blockAt image (getD places i 0)) (volumeOf F (take n places))))
         many =
             let b = blockAt image (getD places i 0) in
-            let s = puts-full image (getD places i 0) t r t′ (going .good) put (take i places) (going .rows) is in
+            let s = tabulates-full image (getD places i 0) t r t′ (going .good) tabulates (take i places) (going .rows) is in
             let c = same-capacity (going .sizes) b in
             let m = more-ids F (take (i + 1) places) (take (n - (i + 1)) (drop (i + 1) places)) b in
             rw (split places (i + 1) n (omega arith)) (omega (arith, rw (← more) at s))

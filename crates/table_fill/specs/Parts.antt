@@ -8,12 +8,12 @@ use lib.ListN.{length, take, drop, length-take, length-drop}
 use Rattle.format.specs.Bytes.{Bytes}
 use Rattle.record_places.specs.Place.{blockAt}
 use Rattle.table_words.specs.Occupancy.{capacity}
-use Rattle.table_rows.specs.declared.Kept.{Kept}
+use Rattle.table_rows.specs.declared.Updated.{Updated}
 use Rattle.calls.specs.Mount.{mostInodes, mostBlocks}
-use Rattle.table_rows.specs.Rows.{GoodPart, KeepsPart}
+use Rattle.table_rows.specs.Rows.{GoodPart, UpdatesPart}
 use Rattle.table_rows.specs.Parts.{part, putBack, part-long, part-same, part-before, part-after}
-use Rattle.table_fill.specs.Gather.{Tables, table, tables, AllGood, Puts}
-use Rattle.table_fill.specs.Laws.{SameSizes, sizes-trans, Going, puts-block, puts-inode}
+use Rattle.table_fill.specs.Gather.{Tables, table, tables, AllGood, Tabulates}
+use Rattle.table_fill.specs.Laws.{SameSizes, sizes-trans, Going, tabulates-block, tabulates-inode}
 
 -- the rows of inodes, of blocks, and of both: an id and a spot each
 abbrev pub inodeRows : ℕ
@@ -82,26 +82,26 @@ module _ {image : Bytes} {iw bw rows : List ℕ} (room : Room iw bw rows) (good 
   block-part = record { room = room .blocks; good = good .blocks }
 
   -- a record shown to the table of its kind, and its part put back
-  module _ (p : ℕ) (r : Kept) (y : List ℕ) where
-    pub shown-block : length y ≡ length (blockPart rows) → blockAt image p ≡ true → (bw′ : List ℕ) → KeepsPart image p mostBlocks bw (blockPart rows) r bw′ y
-        → Puts image p (tablesIn iw bw rows) r (tablesIn iw bw′ (putBack inodeRows blockRows rows y))
+  module _ (p : ℕ) (r : Updated) (y : List ℕ) where
+    pub shown-block : length y ≡ length (blockPart rows) → blockAt image p ≡ true → (bw′ : List ℕ) → UpdatesPart image p mostBlocks bw (blockPart rows) r bw′ y
+        → Tabulates image p (tablesIn iw bw rows) r (tablesIn iw bw′ (putBack inodeRows blockRows rows y))
     shown-block l e bw′ k =
         let n : length y ≡ blockRows = l ∙ part-long inodeRows blockRows rows (omega (arith, room .both)) in
         rw (
           part-before inodeRows blockRows rows y (omega (arith, room .both)) 0 inodeRows (omega arith),
           part-same inodeRows blockRows rows y (omega (arith, room .both)) n,
         )
-        (puts-block image p (tablesIn iw bw rows) r (table bw′ (take mostBlocks y) (drop mostBlocks y)) e k)
+        (tabulates-block image p (tablesIn iw bw rows) r (table bw′ (take mostBlocks y) (drop mostBlocks y)) e k)
 
-    pub shown-inode : length y ≡ length (inodePart rows) → blockAt image p ≡ false → (iw′ : List ℕ) → KeepsPart image p mostInodes iw (inodePart rows) r iw′ y
-        → Puts image p (tablesIn iw bw rows) r (tablesIn iw′ bw (putBack 0 inodeRows rows y))
+    pub shown-inode : length y ≡ length (inodePart rows) → blockAt image p ≡ false → (iw′ : List ℕ) → UpdatesPart image p mostInodes iw (inodePart rows) r iw′ y
+        → Tabulates image p (tablesIn iw bw rows) r (tablesIn iw′ bw (putBack 0 inodeRows rows y))
     shown-inode l e iw′ k =
         let n : length y ≡ inodeRows = l ∙ part-long 0 inodeRows rows (omega (arith, room .both)) in
         rw (
           part-same 0 inodeRows rows y (omega (arith, room .both)) n,
           part-after 0 inodeRows rows y (omega (arith, room .both)) n inodeRows blockRows (omega arith),
         )
-        (puts-inode image p (tablesIn iw bw rows) r (table iw′ (take mostInodes y) (drop mostInodes y)) e k)
+        (tabulates-inode image p (tablesIn iw bw rows) r (table iw′ (take mostInodes y) (drop mostInodes y)) e k)
 
 -- the records at the first i places are in the tables
 pub record Turn (image : Bytes) (places : List ℕ) (n : ℕ) (iw₀ bw₀ rows₀ iw bw rows : List ℕ) (agreed : Bool) (i : ℕ) : Type 0 where

@@ -5,7 +5,7 @@ ghost use Prim.Native.Nat.{_≤_};
 ghost use lib.ListN.{length, take};
 ghost use Rattle.volume.specs.Counting.{allAgree};
 ghost use Rattle.record_places.specs.Place.{byPlace, Lies, AllLie};
-ghost use Rattle.table_fill.specs.Gather.{AllGood, twins, Puts, Ready, Gathered};
+ghost use Rattle.table_fill.specs.Gather.{AllGood, twins, Tabulates, Ready, Gathered};
 ghost use Rattle.table_fill.specs.Parts.{tablesIn, Room};
 use calls::CONFLICT;
 use calls::MOST_BLOCKS;
@@ -15,8 +15,8 @@ use record_places::id_at;
 use record_places::is_block_at;
 use record_places::same_bytes;
 use record_places::sequence_at;
-use table_rows::Kept;
-use table_rows::keep;
+use table_rows::Updated;
+use table_rows::update;
 
 // The rows of inodes, and those of both kinds: an id and a spot each.
 pub const INODE_ROWS: usize = MOST_INODES + MOST_INODES;
@@ -59,14 +59,20 @@ fn still_agree(image: &[u8], places: &[u16], n: usize, p: u32, agreed: bool) -> 
 }
 
 // Shows the record at `p` to the table of its kind.
-fn put(image: &[u8], iwords: &mut [u64], bwords: &mut [u64], rows: &mut [u32], p: u32) -> Kept
+fn tabulate(
+    image: &[u8],
+    iwords: &mut [u64],
+    bwords: &mut [u64],
+    rows: &mut [u32],
+    p: u32,
+) -> Updated
     requires { ⌜ AllGood (now image) (tablesIn (now iwords) (now bwords) (now rows)) ⌝ }
     requires { ⌜ Room (now iwords) (now bwords) (now rows) ⌝ }
     requires { ⌜ Lies (now image) p ⌝ }
-    ensures { λ r. ⌜ Puts (now (image .entry)) p (tablesIn (now (iwords .entry)) (now (bwords .entry)) (now (rows .entry))) r (tablesIn (now (iwords .exit)) (now (bwords .exit)) (now (rows .exit))) ⌝ }
+    ensures { λ r. ⌜ Tabulates (now (image .entry)) p (tablesIn (now (iwords .entry)) (now (bwords .entry)) (now (rows .entry))) r (tablesIn (now (iwords .exit)) (now (bwords .exit)) (now (rows .exit))) ⌝ }
 {
     if is_block_at(image, p) {
-        return keep(
+        return update(
             image,
             &mut *bwords,
             &mut rows[INODE_ROWS..ALL_ROWS],
@@ -74,7 +80,7 @@ fn put(image: &[u8], iwords: &mut [u64], bwords: &mut [u64], rows: &mut [u32], p
             p,
         );
     }
-    keep(
+    update(
         image,
         &mut *iwords,
         &mut rows[0..INODE_ROWS],
@@ -102,11 +108,11 @@ pub fn gather(
     let mut i = 0;
     while i < n {
         let p = places[i] as u32;
-        let kept = put(image, &mut *iwords, &mut *bwords, &mut *rows, p);
-        match kept {
-            Kept::Full => return TOO_MANY_IDS,
-            Kept::Newer => i += 1,
-            Kept::Older => {
+        let updated = tabulate(image, &mut *iwords, &mut *bwords, &mut *rows, p);
+        match updated {
+            Updated::Full => return TOO_MANY_IDS,
+            Updated::Newer => i += 1,
+            Updated::Older => {
                 agreed = still_agree(image, places, i, p, agreed);
                 i += 1;
             }

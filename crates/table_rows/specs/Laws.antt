@@ -19,7 +19,7 @@ use Rattle.volume_laws.specs.Once.{Nodup}
 use Rattle.volume_laws.specs.Counting.{counting-mem, counting-some, counting-none, counting-top, ids-of, ids-mem}
 use Rattle.record_places.specs.Place.{byPlace, Lies, AllLie}
 use Rattle.table_words.specs.Position.{positionOf}
-use Rattle.table_words.specs.Occupancy.{places, capacity, firstZero, total, Low}
+use Rattle.table_words.specs.Occupancy.{bits, capacity, firstZero, total, Low}
 use Rattle.table_words.specs.Laws.{
   position-hit,
   position-miss,
@@ -28,7 +28,7 @@ use Rattle.table_words.specs.Laws.{
   position-within,
   position-left,
   position-right,
-  length-places,
+  length-bits,
   total-within,
   low-first,
   fresh-low,
@@ -36,10 +36,10 @@ use Rattle.table_words.specs.Laws.{
   next-total,
   next-low,
 }
-use Rattle.table_rows.specs.Table.{taken, rowOf, held, found, Rows, Sized, Good, judged, isNewer, rowFor, Keeps}
+use Rattle.table_rows.specs.Table.{taken, rowOf, held, found, Rows, Sized, Good, judged, isNewer, rowFor, Updates}
 use Rattle.table_rows.specs.Snoc.{ids-old, ids-new, counting-same, counting-other}
-use Rattle.table_rows.specs.declared.Kept.{Kept}
-use Rattle.table_rows.specs.declared.Kept.the-variants.{Newer, Older, Full}
+use Rattle.table_rows.specs.declared.Updated.{Updated}
+use Rattle.table_rows.specs.declared.Updated.the-variants.{Newer, Older, Full}
 
 -- ---- rows
 
@@ -236,7 +236,7 @@ pub taken-stays : (l : List ℕ) → Low l → (k : ℕ) → k < total l → set
 taken-stays l low k h = set-same l k 1 (low-taken l low k h)
 
 -- The four ways that a record can go which is shown to a table: it takes the row of its id over, leaves it, gets a new row, or finds none.
-data Way (image : Bytes) (p : ℕ) (words ids spots : List ℕ) (r : Kept) : Type 0 where
+data Way (image : Bytes) (p : ℕ) (words ids spots : List ℕ) (r : Updated) : Type 0 where
   over : rowFor image words ids p < taken words → byPlace image .sequence (getD spots (rowFor image words ids p) 0) < byPlace image .sequence p
       → r ≡ Newer → Way image p words ids spots r
   under : rowFor image words ids p < taken words → byPlace image .sequence p ≤ byPlace image .sequence (getD spots (rowFor image words ids p) 0)
@@ -244,8 +244,8 @@ data Way (image : Bytes) (p : ℕ) (words ids spots : List ℕ) (r : Kept) : Typ
   new : rowFor image words ids p ≡ taken words → taken words < capacity words → r ≡ Newer → Way image p words ids spots r
   full : rowFor image words ids p ≡ taken words → taken words ≡ capacity words → r ≡ Full → Way image p words ids spots r
 
-module _ (image : Bytes) (p : ℕ) (words ids spots : List ℕ) (r : Kept) (words′ ids′ spots′ : List ℕ)
-    (good : Good image words ids spots) (keeps : Keeps image p words ids spots r words′ ids′ spots′) where
+module _ (image : Bytes) (p : ℕ) (words ids spots : List ℕ) (r : Updated) (words′ ids′ spots′ : List ℕ)
+    (good : Good image words ids spots) (updates : Updates image p words ids spots r words′ ids′ spots′) where
   row-within : rowFor image words ids p ≤ taken words
   row-within = position-within (byPlace image .id p) (taken words) ids (ids-room (good .sized))
 
@@ -266,24 +266,24 @@ module _ (image : Bytes) (p : ℕ) (words ids spots : List ℕ) (r : Kept) (word
       go true e =
           let h = ltb-true (rowFor image words ids p) (taken words) e in
           seen h (getD spots (rowFor image words ids p) 0) refl (ltb (byPlace image .sequence (getD spots (rowFor image words ids p) 0)) (byPlace image .sequence p)) refl
-          (keeps .answer ∙ rw (held-in (taken words) spots (rowFor image words ids p) h))
+          (updates .answer ∙ rw (held-in (taken words) spots (rowFor image words ids p) h))
       go false e =
           let h = ltb-false (rowFor image words ids p) (taken words) e in
-          unseen h (ltb (taken words) (capacity words)) refl (keeps .answer ∙ rw (held-out (taken words) spots (rowFor image words ids p) h))
+          unseen h (ltb (taken words) (capacity words)) refl (updates .answer ∙ rw (held-out (taken words) spots (rowFor image words ids p) h))
 
   -- the table then: with the record in its row, or as it was
   kept : r ≡ Newer
-      → (places words′ ≡ set (places words) (rowFor image words ids p) 1)
+      → (bits words′ ≡ set (bits words) (rowFor image words ids p) 1)
       × (ids′ ≡ set ids (rowFor image words ids p) (byPlace image .id p))
       × (spots′ ≡ set spots (rowFor image words ids p) p)
-  kept e = (keeps .words-are ∙ rw e, keeps .ids-are ∙ rw e, keeps .spots-are ∙ rw e)
+  kept e = (updates .words-are ∙ rw e, updates .ids-are ∙ rw e, updates .spots-are ∙ rw e)
 
-  left : isNewer r ≡ false → (places words′ ≡ places words) × (ids′ ≡ ids) × (spots′ ≡ spots)
-  left e = (keeps .words-are ∙ rw e, keeps .ids-are ∙ rw e, keeps .spots-are ∙ rw e)
+  left : isNewer r ≡ false → (bits words′ ≡ bits words) × (ids′ ≡ ids) × (spots′ ≡ spots)
+  left e = (updates .words-are ∙ rw e, updates .ids-are ∙ rw e, updates .spots-are ∙ rw e)
 
   -- the row of a record that takes it over is taken already, and has its id
-  same-places : rowFor image words ids p < taken words → r ≡ Newer → places words′ ≡ places words
-  same-places h e = kept e .0 ∙ taken-stays (places words) (good .low) (rowFor image words ids p) h
+  same-bits : rowFor image words ids p < taken words → r ≡ Newer → bits words′ ≡ bits words
+  same-bits h e = kept e .0 ∙ taken-stays (bits words) (good .low) (rowFor image words ids p) h
 
   same-ids : rowFor image words ids p < taken words → r ≡ Newer → ids′ ≡ ids
   same-ids h e =
@@ -291,29 +291,29 @@ module _ (image : Bytes) (p : ℕ) (words ids spots : List ℕ) (r : Kept) (word
       ∙ set-same ids (rowFor image words ids p) (byPlace image .id p) (position-found (byPlace image .id p) (taken words) ids (ids-room (good .sized)) h)
 
   -- a new row is the lowest free one
-  lowest : rowFor image words ids p ≡ taken words → rowFor image words ids p ≡ firstZero (places words)
-  lowest e = e ∙ sym (low-first (places words) (good .low))
+  lowest : rowFor image words ids p ≡ taken words → rowFor image words ids p ≡ firstZero (bits words)
+  lowest e = e ∙ sym (low-first (bits words) (good .low))
 
   sized-still : Sized words′ ids′ spots′
-  sized-still = go (isNewer r) (ap length (keeps .words-are)) (ap length (keeps .ids-are)) (ap length (keeps .spots-are))
+  sized-still = go (isNewer r) (ap length (updates .words-are)) (ap length (updates .ids-are)) (ap length (updates .spots-are))
     where
-      sizes : length (places words′) ≡ length (places words) → length ids′ ≡ length ids → length spots′ ≡ length spots → Sized words′ ids′ spots′
+      sizes : length (bits words′) ≡ length (bits words) → length ids′ ≡ length ids → length spots′ ≡ length spots → Sized words′ ids′ spots′
       sizes w i s =
-          let m : length words′ ≡ length words = omega (arith, length-places words, length-places words′) in
+          let m : length words′ ≡ length words = omega (arith, length-bits words, length-bits words′) in
           record { few = rw m (good .sized .few); ids-long = rw m (i ∙ good .sized .ids-long); spots-long = rw m (s ∙ good .sized .spots-long) }
 
-      go : (b : Bool) → length (places words′) ≡ length (cond b (set (places words) (rowFor image words ids p) 1) (places words))
+      go : (b : Bool) → length (bits words′) ≡ length (cond b (set (bits words) (rowFor image words ids p) 1) (bits words))
           → length ids′ ≡ length (cond b (set ids (rowFor image words ids p) (byPlace image .id p)) ids)
           → length spots′ ≡ length (cond b (set spots (rowFor image words ids p) p) spots) → Sized words′ ids′ spots′
-      go true w i s = sizes (w ∙ length-set (places words) _ 1) (i ∙ length-set ids _ _) (s ∙ length-set spots _ p)
+      go true w i s = sizes (w ∙ length-set (bits words) _ 1) (i ∙ length-set ids _ _) (s ∙ length-set spots _ p)
       go false w i s = sizes w i s
 
   -- the table may still be used
-  pub keeps-good : Lies image p → Good image words′ ids′ spots′
-  keeps-good lies = record { sized = sized-still; low = low way; lie = lie way }
+  pub updates-good : Lies image p → Good image words′ ids′ spots′
+  updates-good lies = record { sized = sized-still; low = low way; lie = lie way }
     where
-      low : Way image p words ids spots r → Low (places words′)
-      low (over h l e) = rw (same-places h e) (good .low)
+      low : Way image p words ids spots r → Low (bits words′)
+      low (over h l e) = rw (same-bits h e) (good .low)
       low (under h l e) = rw (left (ap isNewer e) .0) (good .low)
       low (new h m e) = next-low words words′ (rowFor image words ids p) (good .low) (lowest h) (omega arith) (kept e .0)
       low (full h m e) = rw (left (ap isNewer e) .0) (good .low)
@@ -327,7 +327,7 @@ module _ (image : Bytes) (p : ℕ) (words ids spots : List ℕ) (r : Kept) (word
           at (no q) = rw (getD-set-other spots (rowFor image words ids p) i p 0 q) (good .lie i (h i l q))
 
       lie : Way image p words ids spots r → AllLie image spots′ (taken words′)
-      lie (over h l e) = rw (kept e .2, same-places h e) (stored (taken words) (λ i b q. b) (omega (arith, spots-room (good .sized))))
+      lie (over h l e) = rw (kept e .2, same-bits h e) (stored (taken words) (λ i b q. b) (omega (arith, spots-room (good .sized))))
       lie (under h l e) = rw (left (ap isNewer e) .2, left (ap isNewer e) .0) (good .lie)
       lie (new h m e) =
           let t = next-total words words′ (rowFor image words ids p) (good .low) (lowest h) (omega arith) (kept e .0) in
@@ -336,12 +336,12 @@ module _ (image : Bytes) (p : ℕ) (words ids spots : List ℕ) (r : Kept) (word
 
   module _ (ps : List ℕ) (rows : Rows (byPlace image) ps (taken words) ids spots) where
     -- and its rows are those of one record more, unless there was no row for it
-    pub keeps-rows : r ≢ Full → Rows (byPlace image) (ps ++ (p ∷ [])) (taken words′) ids′ spots′
-    keeps-rows not-full = go way
+    pub updates-rows : r ≢ Full → Rows (byPlace image) (ps ++ (p ∷ [])) (taken words′) ids′ spots′
+    updates-rows not-full = go way
       where
         go : Way image p words ids spots r → Rows (byPlace image) (ps ++ (p ∷ [])) (taken words′) ids′ spots′
         go (over h l e) =
-            rw (same-places h e, same-ids h e, kept e .2)
+            rw (same-bits h e, same-ids h e, kept e .2)
             (rows-newer (byPlace image) ps p (taken words) (rowFor image words ids p) ids spots rows (ids-room (good .sized)) (spots-room (good .sized)) refl h l)
         go (under h l e) =
             let s = left (ap isNewer e) in
@@ -355,9 +355,9 @@ module _ (image : Bytes) (p : ℕ) (words ids spots : List ℕ) (r : Kept) (word
         go (full h m e) = absurd (not-full e)
 
     -- a record that counts now has a sequence greater than all before it of its id
-    pub keeps-newer : r ≡ Newer → (q : ℕ) → List·Memᴰ q ps → byPlace image .id q ≡ byPlace image .id p
+    pub updates-newer : r ≡ Newer → (q : ℕ) → List·Memᴰ q ps → byPlace image .id q ≡ byPlace image .id p
         → byPlace image .sequence q < byPlace image .sequence p
-    keeps-newer is q m i = go way
+    updates-newer is q m i = go way
       where
         go : Way image p words ids spots r → byPlace image .sequence q < byPlace image .sequence p
         go (over h l e) =
@@ -370,8 +370,8 @@ module _ (image : Bytes) (p : ℕ) (words ids spots : List ℕ) (r : Kept) (word
         go (full h l e) = let z : _≡_ {A = ℕ} 0 1 = cc in absurd (omega arith)
 
     -- where there is no row for it, there are more ids than places: refusal 5
-    pub keeps-full : r ≡ Full → capacity words < length (idsOf (byPlace image) (ps ++ (p ∷ [])))
-    keeps-full is = go way
+    pub updates-full : r ≡ Full → capacity words < length (idsOf (byPlace image) (ps ++ (p ∷ [])))
+    updates-full is = go way
       where
         go : Way image p words ids spots r → capacity words < length (idsOf (byPlace image) (ps ++ (p ∷ [])))
         go (over h l e) = let z : _≡_ {A = ℕ} 0 1 = cc in absurd (omega arith)

@@ -18,9 +18,9 @@ use Rattle.volume_laws.specs.Lists.{keep-mem}
 use Rattle.volume_laws.specs.Counting.{counting-mem}
 use Rattle.record_places.specs.Place.{byPlace, blockAt, Lies, AllLie}
 use Rattle.table_words.specs.Occupancy.{capacity}
-use Rattle.table_rows.specs.Table.{taken, rowOf, held, found, Rows, Good, Keeps}
+use Rattle.table_rows.specs.Table.{taken, rowOf, held, found, Rows, Good, Updates}
 use Rattle.table_rows.specs.Laws.{held-some, row-counts}
-use Rattle.table_rows.specs.declared.Kept.{Kept}
+use Rattle.table_rows.specs.declared.Updated.{Updated}
 
 -- Safety of a table of `most` rows in one part, the ids and then the spots.
 pub record GoodPart (image : Bytes) (most : ℕ) (words part : List ℕ) : Type 0 where
@@ -28,8 +28,8 @@ pub record GoodPart (image : Bytes) (most : ℕ) (words part : List ℕ) : Type 
   pub good : Good image words (take most part) (drop most part)
 
 -- the record p was shown to such a table
-abbrev pub KeepsPart : Bytes → ℕ → ℕ → List ℕ → List ℕ → Kept → List ℕ → List ℕ → Type 0
-KeepsPart image p most words part r words′ part′ = Keeps image p words (take most part) (drop most part) r words′ (take most part′) (drop most part′)
+abbrev pub UpdatesPart : Bytes → ℕ → ℕ → List ℕ → List ℕ → Updated → List ℕ → List ℕ → Type 0
+UpdatesPart image p most words part r words′ part′ = Updates image p words (take most part) (drop most part) r words′ (take most part′) (drop most part′)
 
 -- Safety of the taken rows, each an id and a spot: as many spots as ids, and a whole record at each spot.
 pub record Usable (image : Bytes) (ids spots : List ℕ) : Type 0 where

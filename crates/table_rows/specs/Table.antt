@@ -11,15 +11,15 @@ use Rattle.volume.specs.View.{View}
 use Rattle.volume.specs.Counting.{counting, idsOf}
 use Rattle.record_places.specs.Place.{byPlace, AllLie}
 use Rattle.table_words.specs.Position.{positionOf}
-use Rattle.table_words.specs.Occupancy.{places, capacity, total, Low}
-use Rattle.table_rows.specs.declared.Kept.{Kept}
-use Rattle.table_rows.specs.declared.Kept.the-variants.{Newer, Older, Full}
+use Rattle.table_words.specs.Occupancy.{bits, capacity, total, Low}
+use Rattle.table_rows.specs.declared.Updated.{Updated}
+use Rattle.table_rows.specs.declared.Updated.the-variants.{Newer, Older, Full}
 use Rattle.table_rows.specs.declared.Spot.{Spot}
 use Rattle.table_rows.specs.declared.Spot.the-variants.{At, Nowhere}
 
 -- "the number taken is read from that word"
 abbrev pub taken : List ℕ → ℕ
-taken words = total (places words)
+taken words = total (bits words)
 
 -- the row of an id among the first n, or n where none of them has it
 abbrev pub rowOf : ℕ → List ℕ → ℕ → ℕ
@@ -47,7 +47,7 @@ pub record Sized (words ids spots : List ℕ) : Type 0 where
 -- a table that may be used: the taken rows stand first, and hold places of whole records
 pub record Good (image : Bytes) (words ids spots : List ℕ) : Type 0 where
   pub sized : Sized words ids spots
-  pub low : Low (places words)
+  pub low : Low (bits words)
   pub lie : AllLie image spots (taken words)
 
 -- what an answer of `find` says
@@ -56,11 +56,11 @@ spotOf (At p) = some p
 spotOf Nowhere = none
 
 -- what becomes of the record p in a table of m places of which n are taken, by what it has for p's id
-unfoldable pub judged : View ℕ → ℕ → ℕ → Option ℕ → ℕ → Kept
+unfoldable pub judged : View ℕ → ℕ → ℕ → Option ℕ → ℕ → Updated
 judged F n m none p = cond (ltb n m) Newer Full
 judged F n m (some q) p = cond (ltb (F .sequence q) (F .sequence p)) Newer Older
 
-abbrev pub isNewer : Kept → Bool
+abbrev pub isNewer : Updated → Bool
 isNewer Newer = true
 isNewer Older = false
 isNewer Full = false
@@ -70,8 +70,8 @@ abbrev pub rowFor : Bytes → List ℕ → List ℕ → ℕ → ℕ
 rowFor image words ids p = rowOf (taken words) ids (byPlace image .id p)
 
 -- The record p was shown to a table. Where it counts now, its row is taken and has its id and its place; else the table is as it was.
-pub record Keeps (image : Bytes) (p : ℕ) (words ids spots : List ℕ) (r : Kept) (words′ ids′ spots′ : List ℕ) : Type 0 where
+pub record Updates (image : Bytes) (p : ℕ) (words ids spots : List ℕ) (r : Updated) (words′ ids′ spots′ : List ℕ) : Type 0 where
   pub answer : r ≡ judged (byPlace image) (taken words) (capacity words) (found (taken words) ids spots (byPlace image .id p)) p
-  pub words-are : places words′ ≡ cond (isNewer r) (set (places words) (rowFor image words ids p) 1) (places words)
+  pub words-are : bits words′ ≡ cond (isNewer r) (set (bits words) (rowFor image words ids p) 1) (bits words)
   pub ids-are : ids′ ≡ cond (isNewer r) (set ids (rowFor image words ids p) (byPlace image .id p)) ids
   pub spots-are : spots′ ≡ cond (isNewer r) (set spots (rowFor image words ids p) p) spots

@@ -4,16 +4,16 @@ ghost use mathlib.Core.Path.{_≡_};
 ghost use lib.ListN.{length};
 ghost use Rattle.record_places.specs.Place.{Lies};
 ghost use Rattle.table_rows.specs.Table.{found, spotOf};
-ghost use Rattle.table_rows.specs.Rows.{GoodPart, KeepsPart};
+ghost use Rattle.table_rows.specs.Rows.{GoodPart, UpdatesPart};
+use record_places::id_at;
+use record_places::sequence_at;
 use table_words::first_free;
 use table_words::occupy;
 use table_words::position;
 use table_words::taken;
-use record_places::id_at;
-use record_places::sequence_at;
 
 // What became of a record that was shown to a table.
-pub enum Kept {
+pub enum Updated {
     // it counts now: no record of its id before it has a sequence so great
     Newer,
     // a record of its id before it has a sequence as great or greater
@@ -29,10 +29,10 @@ pub enum Spot {
 }
 
 // Shows the record at `p` to the table, which has `most` rows.
-pub fn keep(image: &[u8], words: &mut [u64], rows: &mut [u32], most: usize, p: u32) -> Kept
+pub fn update(image: &[u8], words: &mut [u64], rows: &mut [u32], most: usize, p: u32) -> Updated
     requires { ⌜ GoodPart (now image) most (now words) (now rows) ⌝ }
     requires { ⌜ Lies (now image) p ⌝ }
-    ensures { λ r. ⌜ KeepsPart (now (image .entry)) p most (now (words .entry)) (now (rows .entry)) r (now (words .exit)) (now (rows .exit)) ⌝ }
+    ensures { λ r. ⌜ UpdatesPart (now (image .entry)) p most (now (words .entry)) (now (rows .entry)) r (now (words .exit)) (now (rows .exit)) ⌝ }
 {
     let id = id_at(image, p);
     let n = taken(&*words);
@@ -40,18 +40,18 @@ pub fn keep(image: &[u8], words: &mut [u64], rows: &mut [u32], most: usize, p: u
     if k < n {
         if sequence_at(image, rows[most + k]) < sequence_at(image, p) {
             rows[most + k] = p;
-            return Kept::Newer;
+            return Updated::Newer;
         }
-        return Kept::Older;
+        return Updated::Older;
     }
     let free = first_free(&*words);
     if free < most {
         rows[free] = id;
         rows[most + free] = p;
         occupy(&mut *words, free);
-        return Kept::Newer;
+        return Updated::Newer;
     }
-    Kept::Full
+    Updated::Full
 }
 
 // The place of the record that counts for `id`, by the taken rows.

@@ -8,7 +8,7 @@ use native.Mathlib.Omega.{arith}
 use lib.ListN.{length, set, getD, take, drop, drop-of-length-le}
 use lib.Seq.{drop-cons, getD-take, length-take-le, set-append-left}
 use Rattle.table_words.specs.Position.{positionOf}
-use Rattle.table_words.specs.Occupancy.{digits, places, firstZero, total}
+use Rattle.table_words.specs.Occupancy.{digits, bits, firstZero, total}
 use Rattle.table_words.specs.Laws.{position-hit, position-miss, position-left, position-right, total-append, length-digits}
 
 -- ---- the search of the first n of a list's numbers, at i
@@ -30,24 +30,24 @@ module _ (x n i : ℕ) (l : List ℕ) (within : n ≤ length l) where
 -- ---- the words from i on
 
 module _ (i : ℕ) (ws : List ℕ) (within : i < length ws) where
-  next-word : places (drop i ws) ≡ digits 64 (getD ws i 0) ++ places (drop (i + 1) ws)
-  unfolding places
+  next-word : bits (drop i ws) ≡ digits 64 (getD ws i 0) ++ bits (drop (i + 1) ws)
+  unfolding bits
   next-word = rw (add-one, drop-cons ws i 0)
 
-  pub word-free : firstZero (digits 64 (getD ws i 0)) < 64 → firstZero (places (drop i ws)) ≡ firstZero (digits 64 (getD ws i 0))
+  pub word-free : firstZero (digits 64 (getD ws i 0)) < 64 → firstZero (bits (drop i ws)) ≡ firstZero (digits 64 (getD ws i 0))
   word-free h = rw next-word (position-left 0 _ _ (rw length-digits h))
 
-  pub word-full : 64 ≤ firstZero (digits 64 (getD ws i 0)) → firstZero (places (drop i ws)) ≡ 64 + firstZero (places (drop (i + 1) ws))
+  pub word-full : 64 ≤ firstZero (digits 64 (getD ws i 0)) → firstZero (bits (drop i ws)) ≡ 64 + firstZero (bits (drop (i + 1) ws))
   word-full h =
-      let e = position-right 0 (digits 64 (getD ws i 0)) (places (drop (i + 1) ws)) (rw length-digits h) in
+      let e = position-right 0 (digits 64 (getD ws i 0)) (bits (drop (i + 1) ws)) (rw length-digits h) in
       rw next-word (omega (arith, length-digits 64 (getD ws i 0)))
 
-  pub word-total : total (places (drop i ws)) ≡ total (digits 64 (getD ws i 0)) + total (places (drop (i + 1) ws))
+  pub word-total : total (bits (drop i ws)) ≡ total (digits 64 (getD ws i 0)) + total (bits (drop (i + 1) ws))
   word-total = rw next-word (total-append _ _)
 
 -- past the last word there is no place
-pub words-end : (i : ℕ) (ws : List ℕ) → length ws ≤ i → places (drop i ws) ≡ []
-unfolding places
+pub words-end : (i : ℕ) (ws : List ℕ) → length ws ≤ i → bits (drop i ws) ≡ []
+unfolding bits
 words-end i ws h = rw (drop-of-length-le ws {i = i} h)
 
 -- ---- the word i stored with its place j taken
@@ -57,12 +57,12 @@ set-right [] b j v = ap (λ (n : ℕ). set b n v) (omega arith)
 set-right (x ∷ a) b j v = rw (suc-add (length a) j) (ap (λ (l : List ℕ). x ∷ l) (set-right a b j v))
 
 pub word-set : (i j w : ℕ) (ws : List ℕ) → i < length ws → j < 64 → digits 64 w ≡ set (digits 64 (getD ws i 0)) j 1
-    → places (set ws i w) ≡ set (places ws) (i * 64 + j) 1
-unfolding places
+    → bits (set ws i w) ≡ set (bits ws) (i * 64 + j) 1
+unfolding bits
 word-set i j w [] h l e = absurd (omega arith)
 word-set zero j w (v ∷ ws) h l e =
-    rw (e, ← set-append-left (digits 64 v) (places ws) j 1 (rw length-digits l))
-    (ap (λ (n : ℕ). set (digits 64 v ++ places ws) n 1) (omega arith))
+    rw (e, ← set-append-left (digits 64 v) (bits ws) j 1 (rw length-digits l))
+    (ap (λ (n : ℕ). set (digits 64 v ++ bits ws) n 1) (omega arith))
 word-set (suc i) j w (v ∷ ws) h l e =
-    rw (word-set i j w ws (omega arith) l e, ← set-right (digits 64 v) (places ws) (i * 64 + j) 1, length-digits)
-    (ap (λ (n : ℕ). set (digits 64 v ++ places ws) n 1) (omega arith))
+    rw (word-set i j w ws (omega arith) l e, ← set-right (digits 64 v) (bits ws) (i * 64 + j) 1, length-digits)
+    (ap (λ (n : ℕ). set (digits 64 v ++ bits ws) n 1) (omega arith))

@@ -11,7 +11,7 @@ use lib.ListN.{length, set, getD, take, drop, replicate, length-append, length-r
 use lib.Seq.{take-at, drop-at, getD-take, length-take-le}
 use borrow.Author.Tests.{eq-eqb, ne-eqb, eqb-true, eqb-false, ltb-true, ltb-false}
 use Rattle.table_words.specs.Position.{positionOf, First}
-use Rattle.table_words.specs.Occupancy.{digits, places, capacity, firstZero, total, filled, Low, Binary, none, more}
+use Rattle.table_words.specs.Occupancy.{digits, bits, capacity, firstZero, total, filled, Low, Binary, none, more}
 
 -- ---- positions: a free place is the digit 0, so these are the laws of the lowest free place too
 
@@ -176,10 +176,10 @@ unfolding digits
 length-digits zero w = refl
 length-digits (suc k) w = ap suc (length-digits k (w / 2))
 
-pub length-places : (ws : List ℕ) → length (places ws) ≡ capacity ws
-unfolding places
-length-places [] = omega arith
-length-places (w ∷ ws) = rw (length-append, length-digits, length-places ws, suc-mul) (omega arith)
+pub length-bits : (ws : List ℕ) → length (bits ws) ≡ capacity ws
+unfolding bits
+length-bits [] = omega arith
+length-bits (w ∷ ws) = rw (length-append, length-digits, length-bits ws, suc-mul) (omega arith)
 
 binary-append : {a b : List ℕ} → Binary a → Binary b → Binary (a ++ b)
 binary-append none q = q
@@ -190,23 +190,23 @@ unfolding digits
 binary-digits zero w = none
 binary-digits (suc k) w = more {d = w % 2} (omega arith) (binary-digits k (w / 2))
 
-pub binary-places : (ws : List ℕ) → Binary (places ws)
-unfolding places
-binary-places [] = none
-binary-places (w ∷ ws) = binary-append (binary-digits 64 w) (binary-places ws)
+pub binary-bits : (ws : List ℕ) → Binary (bits ws)
+unfolding bits
+binary-bits [] = none
+binary-bits (w ∷ ws) = binary-append (binary-digits 64 w) (binary-bits ws)
 
-pub total-within : (ws : List ℕ) → total (places ws) ≤ capacity ws
-total-within ws = rw length-places at (total-le (binary-places ws))
+pub total-within : (ws : List ℕ) → total (bits ws) ≤ capacity ws
+total-within ws = rw length-bits at (total-le (binary-bits ws))
 
-pub first-within : (ws : List ℕ) → firstZero (places ws) ≤ capacity ws
-first-within ws = rw length-places at (position-first 0 (places ws) .within)
+pub first-within : (ws : List ℕ) → firstZero (bits ws) ≤ capacity ws
+first-within ws = rw length-bits at (position-first 0 (bits ws) .within)
 
 -- a full table has no free place, and only a full one
-pub full-none-free : (ws : List ℕ) → total (places ws) ≡ capacity ws → firstZero (places ws) ≡ capacity ws
-full-none-free ws e = full-first (binary-places ws) (e ∙ sym (length-places ws)) ∙ length-places ws
+pub full-none-free : (ws : List ℕ) → total (bits ws) ≡ capacity ws → firstZero (bits ws) ≡ capacity ws
+full-none-free ws e = full-first (binary-bits ws) (e ∙ sym (length-bits ws)) ∙ length-bits ws
 
-pub none-free-full : (ws : List ℕ) → firstZero (places ws) ≡ capacity ws → total (places ws) ≡ capacity ws
-none-free-full ws e = first-full (binary-places ws) (e ∙ sym (length-places ws)) ∙ length-places ws
+pub none-free-full : (ws : List ℕ) → firstZero (bits ws) ≡ capacity ws → total (bits ws) ≡ capacity ws
+none-free-full ws e = first-full (binary-bits ws) (e ∙ sym (length-bits ws)) ∙ length-bits ws
 
 -- ---- the places fix the words, so what a contract says of the places leaves no word open
 
@@ -220,19 +220,19 @@ digits-only (suc k) w v hw hv e =
     let rest : digits k (w / 2) ≡ digits k (v / 2) = cc in
     omega (arith, digits-only k (w / 2) (v / 2) (omega arith) (omega arith) rest)
 
-pub places-only : (ws vs : List ℕ) → ((i : ℕ) → getD ws i 0 < 2 ^ 64) → ((i : ℕ) → getD vs i 0 < 2 ^ 64) → places ws ≡ places vs → ws ≡ vs
-unfolding places
-places-only [] [] hw hv e = refl
-places-only [] (v ∷ vs) hw hv e = absurd (omega (arith, ap length e, length-places (v ∷ vs)))
-places-only (w ∷ ws) [] hw hv e = absurd (omega (arith, ap length e, length-places (w ∷ ws)))
-places-only (w ∷ ws) (v ∷ vs) hw hv e =
+pub bits-only : (ws vs : List ℕ) → ((i : ℕ) → getD ws i 0 < 2 ^ 64) → ((i : ℕ) → getD vs i 0 < 2 ^ 64) → bits ws ≡ bits vs → ws ≡ vs
+unfolding bits
+bits-only [] [] hw hv e = refl
+bits-only [] (v ∷ vs) hw hv e = absurd (omega (arith, ap length e, length-bits (v ∷ vs)))
+bits-only (w ∷ ws) [] hw hv e = absurd (omega (arith, ap length e, length-bits (w ∷ ws)))
+bits-only (w ∷ ws) (v ∷ vs) hw hv e =
     let front : digits 64 w ≡ digits 64 v =
-    sym (take-at (digits 64 w) (places ws) 64 (length-digits 64 w)) ∙ ap (take 64) e ∙ take-at (digits 64 v) (places vs) 64 (length-digits 64 v) in
-    let rest : places ws ≡ places vs =
-    sym (drop-at (digits 64 w) (places ws) 64 (length-digits 64 w)) ∙ ap (drop 64) e ∙ drop-at (digits 64 v) (places vs) 64 (length-digits 64 v) in
+    sym (take-at (digits 64 w) (bits ws) 64 (length-digits 64 w)) ∙ ap (take 64) e ∙ take-at (digits 64 v) (bits vs) 64 (length-digits 64 v) in
+    let rest : bits ws ≡ bits vs =
+    sym (drop-at (digits 64 w) (bits ws) 64 (length-digits 64 w)) ∙ ap (drop 64) e ∙ drop-at (digits 64 v) (bits vs) 64 (length-digits 64 v) in
     ap₂ (λ (x : ℕ) (l : List ℕ). x ∷ l)
     (digits-only 64 w v (hw 0) (hv 0) front)
-    (places-only ws vs (λ i. hw (suc i)) (λ i. hv (suc i)) rest)
+    (bits-only ws vs (λ i. hw (suc i)) (λ i. hv (suc i)) rest)
 
 -- ---- a table of words that are all zero: no place is taken
 
@@ -241,37 +241,37 @@ unfolding digits
 digits-zero zero = refl
 digits-zero (suc k) = ap (λ (l : List ℕ). 0 ∷ l) (digits-zero k)
 
-pub fresh-places : (m : ℕ) → places (replicate m 0) ≡ filled 0 (m * 64)
-unfolding places
-fresh-places zero = refl
-fresh-places (suc m) =
+pub fresh-bits : (m : ℕ) → bits (replicate m 0) ≡ filled 0 (m * 64)
+unfolding bits
+fresh-bits zero = refl
+fresh-bits (suc m) =
     let e : 64 + m * 64 ≡ suc m * 64 = omega arith in
-    ap₂ (λ (a b : List ℕ). a ++ b) (digits-zero 64) (fresh-places m)
+    ap₂ (λ (a b : List ℕ). a ++ b) (digits-zero 64) (fresh-bits m)
     ∙ replicate-append-replicate 64 (m * 64) 0
     ∙ ap (λ (n : ℕ). replicate n 0) e
 
-pub fresh-low : (m : ℕ) → Low (places (replicate m 0))
-fresh-low m = rw (fresh-places m) (filled-low 0 (m * 64))
+pub fresh-low : (m : ℕ) → Low (bits (replicate m 0))
+fresh-low m = rw (fresh-bits m) (filled-low 0 (m * 64))
 
-pub fresh-total : (m : ℕ) → total (places (replicate m 0)) ≡ 0
-fresh-total m = ap total (fresh-places m) ∙ total-filled 0 (m * 64)
+pub fresh-total : (m : ℕ) → total (bits (replicate m 0)) ≡ 0
+fresh-total m = ap total (fresh-bits m) ∙ total-filled 0 (m * 64)
 
 -- ---- the lowest free place k of a Low table taken, as `occupy` takes it
 
-module _ (ws ws′ : List ℕ) (k : ℕ) (low : Low (places ws)) (first : k ≡ firstZero (places ws)) (room : k < capacity ws)
-    (took : places ws′ ≡ set (places ws) k 1) where
+module _ (ws ws′ : List ℕ) (k : ℕ) (low : Low (bits ws)) (first : k ≡ firstZero (bits ws)) (room : k < capacity ws)
+    (took : bits ws′ ≡ set (bits ws) k 1) where
   -- the place is the number taken before
-  pub next-at : k ≡ total (places ws)
-  next-at = first ∙ low-first (places ws) low
+  pub next-at : k ≡ total (bits ws)
+  next-at = first ∙ low-first (bits ws) low
 
-  next-filled : places ws′ ≡ filled (suc (total (places ws))) (length (places ws) - suc (total (places ws)))
+  next-filled : bits ws′ ≡ filled (suc (total (bits ws))) (length (bits ws) - suc (total (bits ws)))
   next-filled =
       took
-      ∙ ap (λ (n : ℕ). set (places ws) n 1) next-at
-      ∙ low-set (places ws) low (omega (arith, next-at, length-places ws))
+      ∙ ap (λ (n : ℕ). set (bits ws) n 1) next-at
+      ∙ low-set (bits ws) low (omega (arith, next-at, length-bits ws))
 
-  pub next-total : total (places ws′) ≡ suc (total (places ws))
-  next-total = ap total next-filled ∙ total-filled (suc (total (places ws))) (length (places ws) - suc (total (places ws)))
+  pub next-total : total (bits ws′) ≡ suc (total (bits ws))
+  next-total = ap total next-filled ∙ total-filled (suc (total (bits ws))) (length (bits ws) - suc (total (bits ws)))
 
-  pub next-low : Low (places ws′)
-  next-low = rw next-filled (filled-low (suc (total (places ws))) (length (places ws) - suc (total (places ws))))
+  pub next-low : Low (bits ws′)
+  next-low = rw next-filled (filled-low (suc (total (bits ws))) (length (bits ws) - suc (total (bits ws))))

@@ -11,9 +11,9 @@ digits zero w = []
 digits (suc k) w = w % 2 ∷ digits k (w / 2)
 
 -- the places of several such words, joined: the first word's come first
-unfoldable pub places : List ℕ → List ℕ
-places [] = []
-places (w ∷ ws) = digits 64 w ++ places ws
+unfoldable pub bits : List ℕ → List ℕ
+bits [] = []
+bits (w ∷ ws) = digits 64 w ++ bits ws
 
 -- "tables of 64 and 256 places": how many places the words have
 abbrev pub capacity : List ℕ → ℕ

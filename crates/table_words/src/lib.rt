@@ -4,7 +4,7 @@ ghost use mathlib.Core.Path.{_≡_};
 ghost use Prim.Native.Nat.{_<_, _≤_};
 ghost use lib.ListN.{length, set, take};
 ghost use Rattle.table_words.specs.Position.{positionOf};
-ghost use Rattle.table_words.specs.Occupancy.{digits, places, capacity, mostWords, firstZero, total};
+ghost use Rattle.table_words.specs.Occupancy.{digits, bits, capacity, mostWords, firstZero, total};
 
 // The places of one word, a bit each: 1 for a taken place.
 const BITS: usize = 64;
@@ -12,7 +12,7 @@ const BITS: usize = 64;
 // The lowest free place, or the number of places where all are taken.
 pub fn first_free(words: &[u64]) -> usize
     requires few { ⌜ length (now words) ≤ mostWords ⌝ }
-    ensures lowest { λ r. ⌜ r ≡ firstZero (places (now (words .entry))) ⌝ }
+    ensures lowest { λ r. ⌜ r ≡ firstZero (bits (now (words .entry))) ⌝ }
     ensures within { λ r. ⌜ r ≤ capacity (now (words .entry)) ⌝ }
 {
     let mut i = 0;
@@ -29,7 +29,7 @@ pub fn first_free(words: &[u64]) -> usize
 // How many places are taken.
 pub fn taken(words: &[u64]) -> usize
     requires few { ⌜ length (now words) ≤ mostWords ⌝ }
-    ensures counted { λ r. ⌜ r ≡ total (places (now (words .entry))) ⌝ }
+    ensures counted { λ r. ⌜ r ≡ total (bits (now (words .entry))) ⌝ }
     ensures within { λ r. ⌜ r ≤ capacity (now (words .entry)) ⌝ }
 {
     let mut count = 0;
@@ -41,10 +41,10 @@ pub fn taken(words: &[u64]) -> usize
     count
 }
 
-// Takes one place; every other stays as it is. The places fix the words (law `places-only`).
+// Takes one place; every other stays as it is. The places fix the words (law `bits-only`).
 pub fn occupy(words: &mut [u64], place: usize)
     requires { ⌜ place < capacity (now words) ⌝ }
-    ensures { λ r. ⌜ places (now (words .exit)) ≡ set (places (now (words .entry))) place 1 ⌝ }
+    ensures { λ r. ⌜ bits (now (words .exit)) ≡ set (bits (now (words .entry))) place 1 ⌝ }
 {
     let i = place / BITS;
     words[i] = with_place(words[i], place % BITS);

@@ -19,8 +19,8 @@ use Rattle.calls.specs.Storing.{namedByInodes, namedByBlocks, namedIds, isAmong
 use Rattle.calls_laws.specs.Unused.{among, not-among, Smallest, unused-smallest, inodes-name, blocks-name}
 use Rattle.record_places.specs.Place.{blockAt, bytesAt, byPlace}
 use Rattle.record_places.specs.Laws.{place-views}
-use Rattle.table_words.specs.Occupancy.{places, capacity, firstZero}
-use Rattle.table_words.specs.Laws.{position-only, length-places, fresh-places}
+use Rattle.table_words.specs.Occupancy.{bits, capacity, firstZero}
+use Rattle.table_words.specs.Laws.{position-only, length-bits, fresh-bits}
 use Rattle.write_ids.specs.Window.{Marks, namedAt, withNames, namesOf}
 
 -- ---- whether a number is among others
@@ -50,15 +50,15 @@ among-append i (j ∷ l) m = rw (among-cons i j (l ++ m), among-cons i j l, amon
 module _ (first : ℕ) (names words : List ℕ) (marks : Marks first names words) (i : ℕ) where
   -- its place taken
   pub marks-taken : (words′ : List ℕ) (k : ℕ) → first + k ≡ i → k < capacity words → length words′ ≡ length words
-      → places words′ ≡ set (places words) k 1 → Marks first (i ∷ names) words′
+      → bits words′ ≡ set (bits words) k 1 → Marks first (i ∷ names) words′
   unfolding Marks
   marks-taken words′ k e h long took j g = rw (took, among-cons (first + j) i names) (go (ℕ-discrete j k))
     where
-      go : Dec (j ≡ k) → getD (set (places words) k 1) j 0 ≡ cond (eqb (first + j) i || isAmong (first + j) names) 1 0
-      go (yes q) = rw (q, getD-set-same (places words) k 1 0 (omega (arith, length-places words)), eq-eqb (first + k) i e)
+      go : Dec (j ≡ k) → getD (set (bits words) k 1) j 0 ≡ cond (eqb (first + j) i || isAmong (first + j) names) 1 0
+      go (yes q) = rw (q, getD-set-same (bits words) k 1 0 (omega (arith, length-bits words)), eq-eqb (first + k) i e)
       go (no q) =
           let n : first + j ≢ i = λ z. q (omega arith) in
-          rw (getD-set-other (places words) k j 1 0 q, ne-eqb (first + j) i n) (marks j (omega arith))
+          rw (getD-set-other (bits words) k j 1 0 q, ne-eqb (first + j) i n) (marks j (omega arith))
 
   -- outside the window
   marks-outside : ((k : ℕ) → k < capacity words → first + k ≢ i) → Marks first (i ∷ names) words
@@ -76,7 +76,7 @@ pub marks-fresh : (first n : ℕ) → Marks first [] (replicate n 0)
 unfolding Marks
 marks-fresh first n k h =
     let l : length {A = ℕ} (replicate n 0) ≡ n = length-replicate n 0 in
-    rw (fresh-places n, among-none (first + k)) (getD-replicate (n * 64) k 0 0 (rw l at h))
+    rw (fresh-bits n, among-none (first + k)) (getD-replicate (n * 64) k 0 0 (rw l at h))
 
 -- ---- the smallest id that is not named
 
@@ -93,13 +93,13 @@ module _ (first : ℕ) (names words : List ℕ) (marks : Marks first names words
   at-within : at < capacity words
   at-within = omega (arith, least .near)
 
-  free : getD (places words) at 0 ≡ 0
+  free : getD (bits words) at 0 ≡ 0
   unfolding Marks
   free =
       let e : isAmong (first + at) names ≡ false = rw at-is (not-T→false (λ t. least .unused (among (unusedId first names) names t))) in
       marks at at-within ∙ rw e
 
-  named : (j : ℕ) → j < at → getD (places words) j 0 ≡ 1
+  named : (j : ℕ) → j < at → getD (bits words) j 0 ≡ 1
   unfolding Marks
   named j h =
       let m = least .smallest (first + j) (omega arith) (omega arith) in
@@ -110,23 +110,23 @@ module _ (first : ℕ) (names words : List ℕ) (marks : Marks first names words
       go true q m = true→T q
       go false q m = absurd (not-among (first + j) names (λ t. rw q at t) m)
 
-  lowest : firstZero (places words) ≡ at
-  lowest = position-only 0 (places words) at (record {
-    within = omega (arith, at-within, length-places words);
+  lowest : firstZero (bits words) ≡ at
+  lowest = position-only 0 (bits words) at (record {
+    within = omega (arith, at-within, length-bits words);
     here = λ h. free;
     before = λ j h z. omega (arith, named j h);
   })
 
-  pub unused-is : unusedId first names ≡ first + firstZero (places words)
+  pub unused-is : unusedId first names ≡ first + firstZero (bits words)
   unused-is = rw lowest (sym at-is)
 
-  pub unused-within : firstZero (places words) < capacity words
+  pub unused-within : firstZero (bits words) < capacity words
   unused-within = rw lowest at-within
 
   -- taken, it is named too
-  pub unused-taken : (words′ : List ℕ) → length words′ ≡ length words → places words′ ≡ set (places words) (firstZero (places words)) 1
+  pub unused-taken : (words′ : List ℕ) → length words′ ≡ length words → bits words′ ≡ set (bits words) (firstZero (bits words)) 1
       → Marks first (unusedId first names ∷ names) words′
-  unused-taken words′ long took = marks-taken first names words marks (unusedId first names) words′ (firstZero (places words)) (sym unused-is) unused-within long took
+  unused-taken words′ long took = marks-taken first names words marks (unusedId first names) words′ (firstZero (bits words)) (sym unused-is) unused-within long took
 
 -- ---- the names of records
 

@@ -10,7 +10,7 @@ use Rattle.volume_laws.specs.Map.{overVolume}
 use Rattle.calls.specs.Mount.{mostRecords, mostBlocks}
 use Rattle.calls.specs.Storing.{namedIds, isAmong}
 use Rattle.record_places.specs.Place.{blockAt, bytesAt, byPlace}
-use Rattle.table_words.specs.Occupancy.{places, capacity}
+use Rattle.table_words.specs.Occupancy.{bits, capacity}
 
 -- words for more ids than all records name, three at most to each, and one append takes
 abbrev pub idWords : ℕ
@@ -18,7 +18,7 @@ idWords = (mostRecords * 3 + mostBlocks) / 64 + 1
 
 -- the k-th place is taken where the id first + k is named, and free where not
 unfoldable pub Marks : ℕ → List ℕ → List ℕ → Type 0
-Marks first names words = (k : ℕ) → k < capacity words → getD (places words) k 0 ≡ cond (isAmong (first + k) names) 1 0
+Marks first names words = (k : ℕ) → k < capacity words → getD (bits words) k 0 ≡ cond (isAmong (first + k) names) 1 0
 
 -- the ids that the records at some places name "as id, parent, owner or previous"
 abbrev pub namedAt : Bytes → List ℕ → List ℕ

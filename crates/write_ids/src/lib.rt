@@ -7,16 +7,16 @@ ghost use Rattle.format.specs.Ids.{firstBlockId};
 ghost use Rattle.calls.specs.Mount.{mostRecords};
 ghost use Rattle.calls.specs.Storing.{unusedId};
 ghost use Rattle.record_places.specs.Place.{Lies, AllLie};
-ghost use Rattle.table_words.specs.Occupancy.{places, capacity, mostWords, firstZero};
+ghost use Rattle.table_words.specs.Occupancy.{bits, capacity, mostWords, firstZero};
 ghost use Rattle.write_ids.specs.Window.{Marks, namedAt, withNames};
 use calls::MOST_BLOCKS;
 use calls::MOST_RECORDS;
-use table_words::first_free;
-use table_words::occupy;
 use record_places::id_at;
 use record_places::is_block_at;
 use record_places::link_at;
 use record_places::previous_at;
+use table_words::first_free;
+use table_words::occupy;
 
 // The ids of one word, a bit each.
 const BITS: usize = 64;
@@ -70,7 +70,7 @@ pub fn mark_named(image: &[u8], places: &[u16], words: &mut [u64], first: u32)
 // The smallest id of the window that is not named, which is marked as named from then on.
 pub fn take_id(words: &mut [u64], first: u32) -> u32
     requires { ⌜ length (now words) ≤ mostWords ⌝ }
-    requires { ⌜ firstZero (places (now words)) < capacity (now words) ⌝ }
+    requires { ⌜ firstZero (bits (now words)) < capacity (now words) ⌝ }
     requires { ⌜ first ≤ firstBlockId ⌝ }
     ensures { λ r. ⌜ ((names : List ℕ) → Marks first names (now (words .entry)) → length names < capacity (now (words .entry)) → (r ≡ unusedId first names) × Marks first (r ∷ names) (now (words .exit))) ⌝ }
 {

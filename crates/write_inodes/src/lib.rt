@@ -13,12 +13,12 @@ ghost use Rattle.write_inodes.specs.Stored.{placeNumber};
 ghost use Rattle.write_inodes.specs.Rewriting.{imageIf};
 use calls::LAST_SEQUENCE;
 use calls::NO_ROOM;
+use mount_state::Mounted;
+use path_find::sequence_of;
+use record_read::InodeHeader;
 use record_write::write_inode;
 use write_room::Place;
 use write_room::place_one;
-use mount_state::Mounted;
-use record_read::InodeHeader;
-use path_find::sequence_of;
 
 // The greatest sequence, which no record can follow.
 const GREATEST_SEQUENCE: u32 = 0xffffffff;

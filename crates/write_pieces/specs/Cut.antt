@@ -140,15 +140,15 @@ shortestOf [] = 0
 shortestOf (n ∷ []) = n
 shortestOf (n ∷ m ∷ l) = min n (shortestOf (m ∷ l))
 
-pub shortest-described : (os ls : List ℕ) → length ls ≡ length os → shortestOf ls ≡ shortestLength (described os ls)
+pub shortest-described : (starts spans : List ℕ) → length spans ≡ length starts → shortestOf spans ≡ shortestLength (described starts spans)
 unfolding shortestOf shortestLength described
 shortest-described [] [] e = refl
-shortest-described [] (n ∷ ls) e = absurd (omega arith)
-shortest-described (o ∷ os) [] e = absurd (omega arith)
+shortest-described [] (n ∷ spans) e = absurd (omega arith)
+shortest-described (o ∷ starts) [] e = absurd (omega arith)
 shortest-described (o ∷ []) (n ∷ []) e = refl
-shortest-described (o ∷ []) (n ∷ m ∷ ls) e = absurd (omega arith)
-shortest-described (o ∷ p ∷ os) (n ∷ []) e = absurd (omega arith)
-shortest-described (o ∷ p ∷ os) (n ∷ m ∷ ls) e = ap (min n) (shortest-described (p ∷ os) (m ∷ ls) (omega arith))
+shortest-described (o ∷ []) (n ∷ m ∷ spans) e = absurd (omega arith)
+shortest-described (o ∷ p ∷ starts) (n ∷ []) e = absurd (omega arith)
+shortest-described (o ∷ p ∷ starts) (n ∷ m ∷ spans) e = ap (min n) (shortest-described (p ∷ starts) (m ∷ spans) (omega arith))
 
 min-two : (a b c : ℕ) → min a (min b c) ≡ min (min a b) c
 min-two a b c = omega arith
@@ -159,37 +159,37 @@ shortest-two a b [] = refl
 shortest-two a b (c ∷ l) = min-two a b (shortestOf (c ∷ l))
 
 -- the shortest of the first i areas, and of those that are left
-pub record Shrinking (ls : List ℕ) (least i : ℕ) : Type 0 where
-  pub whole : shortestOf (least ∷ drop i ls) ≡ shortestOf ls
+pub record Shrinking (spans : List ℕ) (least i : ℕ) : Type 0 where
+  pub whole : shortestOf (least ∷ drop i spans) ≡ shortestOf spans
 
-module _ (ls : List ℕ) where
-  pub shrinking-begins : 0 < length ls → Shrinking ls (getD ls 0 0) 1
-  shrinking-begins h = record { whole = ap shortestOf (sym (drop-cons ls 0 0 h)) }
+module _ (spans : List ℕ) where
+  pub shrinking-begins : 0 < length spans → Shrinking spans (getD spans 0 0) 1
+  shrinking-begins h = record { whole = ap shortestOf (sym (drop-cons spans 0 0 h)) }
 
-  module _ (least i : ℕ) (s : Shrinking ls least i) where
-    next : i < length ls → shortestOf (min least (getD ls i 0) ∷ drop (suc i) ls) ≡ shortestOf ls
-    next h = sym (shortest-two least (getD ls i 0) (drop (suc i) ls)) ∙ rw (drop-cons ls i 0 h) at (s .whole)
+  module _ (least i : ℕ) (s : Shrinking spans least i) where
+    next : i < length spans → shortestOf (min least (getD spans i 0) ∷ drop (suc i) spans) ≡ shortestOf spans
+    next h = sym (shortest-two least (getD spans i 0) (drop (suc i) spans)) ∙ rw (drop-cons spans i 0 h) at (s .whole)
 
-    pub shrinking-shorter : i < length ls → getD ls i 0 < least → Shrinking ls (getD ls i 0) (i + 1)
+    pub shrinking-shorter : i < length spans → getD spans i 0 < least → Shrinking spans (getD spans i 0) (i + 1)
     shrinking-shorter h l =
-        let m : min least (getD ls i 0) ≡ getD ls i 0 = omega arith in
+        let m : min least (getD spans i 0) ≡ getD spans i 0 = omega arith in
         record { whole = rw (add-one, ← m) (next h) }
 
-    pub shrinking-not : i < length ls → least ≤ getD ls i 0 → Shrinking ls least (i + 1)
+    pub shrinking-not : i < length spans → least ≤ getD spans i 0 → Shrinking spans least (i + 1)
     shrinking-not h l =
-        let m : min least (getD ls i 0) ≡ least = omega arith in
+        let m : min least (getD spans i 0) ≡ least = omega arith in
         record { whole = rw add-one (rw m at (next h)) }
 
-    pub shrinking-ends : length ls ≤ i → least ≡ shortestOf ls
+    pub shrinking-ends : length spans ≤ i → least ≡ shortestOf spans
     unfolding shortestOf
-    shrinking-ends h = rw (drop-of-length-le ls {i = i} h) at (s .whole)
+    shrinking-ends h = rw (drop-of-length-le spans {i = i} h) at (s .whole)
 
 -- every area is so long, so the shortest is
-pub shortest-long : (m : ℕ) (ls : List ℕ) → 0 < length ls → ((i : ℕ) → i < length ls → m ≤ getD ls i 0) → m ≤ shortestOf ls
+pub shortest-long : (m : ℕ) (spans : List ℕ) → 0 < length spans → ((i : ℕ) → i < length spans → m ≤ getD spans i 0) → m ≤ shortestOf spans
 unfolding shortestOf
 shortest-long m [] h g = absurd (omega arith)
 shortest-long m (n ∷ []) h g = g 0 (omega arith)
-shortest-long m (n ∷ k ∷ ls) h g =
+shortest-long m (n ∷ k ∷ spans) h g =
     let a : m ≤ n = g 0 (omega arith) in
-    let b = shortest-long m (k ∷ ls) (omega arith) (λ i l. g (suc i) (omega arith)) in
+    let b = shortest-long m (k ∷ spans) (omega arith) (λ i l. g (suc i) (omega arith)) in
     omega arith

@@ -22,7 +22,7 @@ use Rattle.calls.specs.declared.Descriptor.{Descriptor}
 use Rattle.mount_state.specs.State.{Safe, Holds}
 use Rattle.mount_state.specs.declared.Mounted.{Mounted}
 use Rattle.image_laws.specs.Laws.{length-put}
-use Rattle.table_words.specs.Occupancy.{places, capacity, firstZero}
+use Rattle.table_words.specs.Occupancy.{bits, capacity, firstZero}
 use Rattle.write_ids.specs.Window.{Marks}
 use Rattle.write_ids.specs.Laws.{unused-within}
 use Rattle.write_room.specs.Spaces.{spacesOf, fitOf}
@@ -151,7 +151,7 @@ module _ {names₀ words₀ ids₀ words ids : List ℕ} {i : ℕ} (g : Taking n
     enough : length (g .names) < capacity words
     enough = omega (arith, g .few, g .words-long)
 
-    pub taking-room : firstZero (places words) < capacity words
+    pub taking-room : firstZero (bits words) < capacity words
     taking-room = unused-within firstBlockId (g .names) words (g .marks) enough
 
     pub taking-on : {words′ : List ℕ} (r : ℕ) → length words′ ≡ length words

@@ -23,27 +23,27 @@ ghost use Rattle.write_pieces.specs.Laws.{plannedOf, Ready};
 use calls::MOST_APPENDED;
 use calls::MOST_AREAS;
 use calls::SHORTEST_AREA;
-use record_write::write_block;
-use write_room::Place;
-use write_room::find_spaces;
-use write_room::take_place;
 use mount_state::Mounted;
 use record_read::BlockHeader;
 use record_read::FIRST_BLOCK_ID;
 use record_read::LONGEST_DATA;
+use record_write::write_block;
 use write_ids::ID_WORDS;
 use write_ids::mark_named;
 use write_ids::take_id;
+use write_room::Place;
+use write_room::find_spaces;
+use write_room::take_place;
 
 // The length of the shortest area.
-pub fn shortest(lengths: &[u32]) -> u32
-    requires { ⌜ 0 < length (now lengths) ⌝ }
-    ensures { λ r. ⌜ r ≡ shortestOf (now (lengths .entry)) ⌝ }
+pub fn shortest(spans: &[u32]) -> u32
+    requires { ⌜ 0 < length (now spans) ⌝ }
+    ensures { λ r. ⌜ r ≡ shortestOf (now (spans .entry)) ⌝ }
 {
-    let mut least = lengths[0];
+    let mut least = spans[0];
     let mut i = 1;
-    while i < lengths.len() {
-        let length = lengths[i];
+    while i < spans.len() {
+        let length = spans[i];
         if length < least {
             least = length;
             i += 1;

@@ -10,10 +10,10 @@ ghost use Rattle.mount_state.specs.State.{Safe, Holds};
 ghost use Rattle.write_room.specs.Spaces.{spacesOf, fitOf, placeOf, placeIn, EndsAt};
 ghost use Rattle.write_room.specs.First.{First};
 ghost use Rattle.write_room.specs.Rows.{AreaRows, rowSpaces};
-use calls::MOST_AREAS;
 use area_pass::FREE;
 use area_pass::SPANS;
 use area_pass::STRETCHES;
+use calls::MOST_AREAS;
 use mount_state::Mounted;
 
 // Where a record goes.

@@ -5,7 +5,7 @@ use borrow.Author.Tests.{eq-eqb, ne-eqb}
 use Rattle.format_laws.specs.Tests.{via}
 use Rattle.calls.specs.declared.Descriptor.{Descriptor}
 use Rattle.area_list.specs.Described.{areaOf}
-use Rattle.area_list.specs.Good.{Fits, fits}
+use Rattle.area_list.specs.Good.{AreaFits, fits}
 use Rattle.area_read.specs.Kinds.{idOf, kind-invalid, kind-scratch, kind-file}
 use native.Mathlib.Omega.{arith}
 use borrow.Author.Needs.{needs}
@@ -19,7 +19,7 @@ start v = v .before .before
 abbrev area : tie.After-valid-area → Descriptor
 area v = areaOf (start v .args .offset) (start v .args .span)
 
-long : (v : tie.After-valid-area) → Fits (length (start v .args .image .now)) (area v)
+long : (v : tie.After-valid-area) → AreaFits (length (start v .args .image .now)) (area v)
 long v = fits (length (start v .args .image .now)) (area v) (start v .pre)
 
 id-is : (i : tie.After-area-id) → i .area-id .result ≡ idOf (start (i .before .before) .args .image .now) (area (i .before .before))

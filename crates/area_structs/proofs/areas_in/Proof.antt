@@ -64,16 +64,16 @@ abbrev stayed : Stays (f.ended .signature .params) (f.ended .kept)
 stayed = (stay-dropped (ArrayOf (plain (λ _. D.the-row)) (λ _. tt) mostEntries) yes, tt)
 
 -- what `areas_of` says of a list
-abbrev Told : List Descriptor → Areas → Type 0
-Told ys r = (r ≡ areasOf ys) × (areaList (r .numbers) ≡ take mostEntries (listed ys))
+abbrev Resolved : List Descriptor → Areas → Type 0
+Resolved ys r = (r ≡ areasOf ys) × (areaList (r .numbers) ≡ take mostEntries (listed ys))
 
 module _ {M : Type 1} (𝓤 : URA M) (H : Heap 𝓤) (A : Atoms 𝓤) (mem : Memory → SProp 𝓤) (run : Routine → Fun 𝓤) where
   -- the contract that the proof cites, and of the callee's `ensured` the clause alone
   abbrev AreasOf : Contract 𝓤
   AreasOf = tripleOf 𝓤 H A g.signature (g.spec 𝓤 H A mem run)
 
-  said : (ν : ℕ) (x : RefT (List Descriptor)) (r : Areas) → ent 𝓤 (ensured 𝓤 H A g.ended (g.clauses 𝓤 H A mem run) (ν ∷ [], tt) (x, tt) tt r) (fact 𝓤 (Told (x .now) r))
-  said ν x r = exE 𝓤 _ (λ ws. snd∗ 𝓤 (sem 𝓤 H A (lasts g.ended (ν ∷ [], tt) (x, tt) ws)) (fact 𝓤 (Told (x .now) r)))
+  said : (ν : ℕ) (x : RefT (List Descriptor)) (r : Areas) → ent 𝓤 (ensured 𝓤 H A g.ended (g.clauses 𝓤 H A mem run) (ν ∷ [], tt) (x, tt) tt r) (fact 𝓤 (Resolved (x .now) r))
+  said ν x r = exE 𝓤 _ (λ ws. snd∗ 𝓤 (sem 𝓤 H A (lasts g.ended (ν ∷ [], tt) (x, tt) ws)) (fact 𝓤 (Resolved (x .now) r)))
 
 module _ {M : Type 1} (𝓤 : URA M) (H : Heap 𝓤) (A : Atoms 𝓤) (W : Given 𝓤 H A) (mem : Memory → SProp 𝓤) (run : Routine → Fun 𝓤) (ys : List Descriptor) (ys-is : Is (Array D.the-row mostEntries) ys (val ys ∷ [])) where
   long : length ys ≡ mostEntries
@@ -85,7 +85,7 @@ module _ {M : Type 1} (𝓤 : URA M) (H : Heap 𝓤) (A : Atoms 𝓤) (W : Given
   abbrev Post : Val → SProp 𝓤
   Post = walkOf 𝓤 H A f.ended stayed (f.clauses 𝓤 H A mem run) .post ((tt, tt, tt, (ys, tt), (val ys ∷ [], tt)), tt)
 
-  exits : (r : Areas) (w : Val) → Told ys r → ent 𝓤 (sem 𝓤 H A (R.the-row .own r (w ∷ []))) (Post w)
+  exits : (r : Areas) (w : Val) → Resolved ys r → ent 𝓤 (sem 𝓤 H A (R.the-row .own r (w ∷ []))) (Post w)
   exits r w e =
       qed W (‵ (R.the-row .own r (w ∷ [])) ∷ []) ∵
       suffices ! _ (ends-at 𝓤 H A f.ended stayed (f.clauses 𝓤 H A mem run) W ((tt, tt, tt, (ys, tt), (val ys ∷ [], tt)), tt) w r (tt, tt) (tt, tt)) $ says ! e $
@@ -124,7 +124,7 @@ module _ {M : Type 1} (𝓤 : URA M) (H : Heap 𝓤) (A : Atoms 𝓤) (W : Given
         move ! (2 ∷ 0 ∷ []) $ use2 W (raw (AreasOf 𝓤 H A mem run .pre (to l₂ ν δ))) (asked l₂ ν δ) $
         calls-at ! fm (AreasOf 𝓤 H A mem run) known (to l₂ ν δ) (and-then ! (load ! (from ! (stop !)) (look ! 2 refl)) (no-more !)) (λ w.
         use1 W (later (some (λ (r : Areas). ((‵ (flft (ν ∷ []) fullShare) ⊛ ‵ ftrue) ⊛ ‵ (R.the-row .own r (w ∷ []))) ⊛ raw (ensured 𝓤 H A g.ended (g.clauses 𝓤 H A mem run) (ν ∷ [], tt) (lent l₂ δ, tt) tt r)))) (id⊢ 𝓤 _) $ await ! tt $ pick ! (λ r.
-        split ! $ move ! (1 ∷ []) $ use1 W (raw (fact 𝓤 (Told ys r))) (said 𝓤 H A mem run ν (lent l₂ δ) r) $ heard ! (Told ys r) (λ e. split ! $ move ! (1 ∷ []) $
+        split ! $ move ! (1 ∷ []) $ use1 W (raw (fact 𝓤 (Resolved ys r))) (said 𝓤 H A mem run ν (lent l₂ δ) r) $ heard ! (Resolved ys r) (λ e. split ! $ move ! (1 ∷ []) $
         -- [the result; the token; the lender's part; _4; …; _3; …; …; _1; …; room for _0; …]
         peeks ! R.the-row (Is R.the-row) (shows 𝓤 H A R.the-row) r (w ∷ []) (λ is.
         land ! (from ! (stop !)) (init ! 10 refl (LL.lawful R.the-type R′.the-laws 𝓤 H A W .typed r _ is .0)) $

@@ -6,7 +6,7 @@ use lib.ListN.{length}
 use borrow.Author.Needs.{needs}
 use Rattle.format.specs.Ids.{isDirectoryId}
 use Rattle.calls.specs.Append.{mostAppended}
-use Rattle.path_walk.specs.Found.{meaning, Kinded}
+use Rattle.path_walk.specs.Resolved.{meaning, Kinded}
 use Rattle.call_append.specs.Outcome.{to-directory, append-long, append-absent, append-found}
 use Rattle.call_append.proofs.append_mounted.Statement.{statement}
 use Rattle.call_append.proofs.append_mounted.Tie as tie

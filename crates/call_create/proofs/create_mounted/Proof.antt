@@ -1,7 +1,7 @@
 -- `call_create::create_mounted` meets its contract.
 use mathlib.Core.Path.{ap}
 use borrow.Author.Needs.{needs}
-use Rattle.path_walk.specs.Found.{meaning}
+use Rattle.path_walk.specs.Resolved.{meaning}
 use Rattle.path_find.specs.Parent.{below-found}
 use Rattle.call_create.specs.Creating.{create-absent, create-fails, create-full, create-stored}
 use Rattle.call_create.proofs.create_mounted.Statement.{statement}

@@ -1,7 +1,7 @@
 -- `call_entries::lookup_of` meets its contract.
 use mathlib.Core.Path.{_∙_}
 use Rattle.calls.specs.Areas.{areaList}
-use Rattle.path_walk.specs.Found.{meaning}
+use Rattle.path_walk.specs.Resolved.{meaning}
 use Rattle.call_entries.specs.Calls.{lookup-is}
 use borrow.Author.Needs.{needs}
 use Rattle.call_entries.proofs.lookup_of.Statement.{statement}

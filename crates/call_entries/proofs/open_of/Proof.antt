@@ -1,7 +1,7 @@
 -- `call_entries::open_of` meets its contract.
 use mathlib.Core.Path.{_∙_}
 use Rattle.calls.specs.Areas.{areaList}
-use Rattle.path_walk.specs.Found.{meaning}
+use Rattle.path_walk.specs.Resolved.{meaning}
 use Rattle.call_entries.specs.Calls.{open-is}
 use borrow.Author.Needs.{needs}
 use Rattle.call_entries.proofs.open_of.Statement.{statement}

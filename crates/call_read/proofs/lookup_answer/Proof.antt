@@ -3,7 +3,7 @@ use mathlib.Core.Path.{_≡_, ap, subst, _∙_}
 use mathlib.Core.Bool.{Bool, cond}
 use Rattle.format.specs.Ids.{isDirectoryId}
 use borrow.Author.Needs.{needs}
-use Rattle.path_walk.specs.Found.{meaning, Kinded}
+use Rattle.path_walk.specs.Resolved.{meaning, Kinded}
 use Rattle.call_read.specs.Answers.{lookup-absent, lookup-found}
 use Rattle.call_read.proofs.lookup_answer.Statement.{statement}
 use Rattle.call_read.proofs.lookup_answer.Tie as tie

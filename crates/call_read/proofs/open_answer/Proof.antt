@@ -2,7 +2,7 @@
 use mathlib.Core.Path.{_≡_, sym, ap, subst, _∙_}
 use Rattle.format.specs.Ids.{isDirectoryId}
 use borrow.Author.Needs.{needs}
-use Rattle.path_walk.specs.Found.{meaning, Kinded}
+use Rattle.path_walk.specs.Resolved.{meaning, Kinded}
 use Rattle.call_read.specs.Answers.{open-absent, open-directory, open-file}
 use Rattle.call_read.proofs.open_answer.Statement.{statement}
 use Rattle.call_read.proofs.open_answer.Tie as tie

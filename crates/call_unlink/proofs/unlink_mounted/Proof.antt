@@ -1,7 +1,7 @@
 -- `call_unlink::unlink_mounted` meets its contract.
 use mathlib.Core.Path.{ap}
 use borrow.Author.Needs.{needs}
-use Rattle.path_walk.specs.Found.{meaning}
+use Rattle.path_walk.specs.Resolved.{meaning}
 use Rattle.call_unlink.specs.Unlinking.{unlink-absent, unlink-found}
 use Rattle.call_unlink.proofs.unlink_mounted.Statement.{statement}
 use Rattle.call_unlink.proofs.unlink_mounted.Tie as tie

@@ -48,7 +48,7 @@ use Rattle.call_entries.proofs.HandleRead as N
 use Rattle.call_entries.proofs.HandleRead.Laws as N′
 use Rattle.area_structs.specs.Cut.{read-whole}
 use Rattle.nffs_walk.proofs.Frame.{leaves}
-use Rattle.nffs_walk.proofs.Forward.{Kind, shared, lent, referred, list, spells, tell, spelt, typed, Told, no-asks, clauses3, together, says3, stands, begins, lists}
+use Rattle.nffs_walk.proofs.Forward.{Kind, shared, lent, referred, list, spells, tell, spelt, typed, Resolved, no-asks, clauses3, together, says3, stands, begins, lists}
 use Rattle.call_entries.proofs.read_of as g
 use Rattle.call_entries.proofs.read_of.Symbol as g-def
 use Rattle.call_entries.proofs.read_of.Met as g-thm
@@ -116,7 +116,7 @@ module _ {M : Type 1} (𝓤 : URA M) (H : Heap 𝓤) (A : Atoms 𝓤) (mem : Mem
     Says r zs ds = clauses3 𝓤 (r .answer ≡ readAnswer (gives ds)) (r .handle ≡ handleAfter (gives ds) (h .now)) (zs ≡ bufferAfter (gives ds) (buffer .now))
 
     -- the same of the whole list
-    whole-said : (n : Areas) (r : HandleRead) (zs : List ℕ) → Told (y .0 .3 .1 .0 .now) n → Said r zs (areaList (n .numbers)) → Said r zs (listed (y .0 .3 .1 .0 .now))
+    whole-said : (n : Areas) (r : HandleRead) (zs : List ℕ) → Resolved (y .0 .3 .1 .0 .now) n → Said r zs (areaList (n .numbers)) → Said r zs (listed (y .0 .3 .1 .0 .now))
     whole-said n r zs e = subst (λ (u : Gives). (r .answer ≡ readAnswer u) × (r .handle ≡ handleAfter u (h .now)) × (zs ≡ bufferAfter u (buffer .now))) (ap gives (e .1) ∙ read-whole (image .now) (listed (y .0 .3 .1 .0 .now)) (h .now .id) (h .now .position) (length (buffer .now)))
 
     exits : (r : HandleRead) (zs : List ℕ) → Is Q.the-row (r .answer) (word (r .answer) ∷ []) → Said r zs (listed (y .0 .3 .1 .0 .now))

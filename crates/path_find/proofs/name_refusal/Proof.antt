@@ -4,7 +4,7 @@ use mathlib.Core.Bool.{true}
 use borrow.Author.Needs.{needs}
 use Rattle.format.specs.Ids.{isDirectoryId}
 use Rattle.area_pass.specs.Bridge.{placedVolume}
-use Rattle.path_walk.specs.Found.{onlyOf}
+use Rattle.path_walk.specs.Resolved.{onlyOf}
 use Rattle.mount_state.specs.Bridge.{inodes-lent, rows-lent}
 use Rattle.path_find.specs.NewName.{name-below-file, name-taken, name-free}
 use Rattle.path_find.proofs.name_refusal.Statement.{statement}

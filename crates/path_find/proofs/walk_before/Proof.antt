@@ -8,7 +8,7 @@ use Rattle.volume.specs.Counting.{Volume}
 use Rattle.record_places.specs.Place.{byPlace}
 use Rattle.path_names.specs.Names.{namesFrom, oneName}
 use Rattle.path_names.specs.Walking.{fewer}
-use Rattle.path_walk.specs.Found.{InodesOf, meaning}
+use Rattle.path_walk.specs.Resolved.{InodesOf, meaning}
 use Rattle.path_find.specs.Parent.{Toward, toward-begins, toward-on, Along, along-begins, along-on, along-fails, along-ends}
 use Rattle.path_find.proofs.walk_before.Statement.{statement}
 use Rattle.path_find.proofs.walk_before.Tie as tie

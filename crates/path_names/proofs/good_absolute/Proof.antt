@@ -38,7 +38,7 @@ returns-4 c =
       via (a .is-absolute .ensures) (e .before .if1 .taken),
       le-leb _ _ (e .if2 .left),
       names-behind (a .before .before .args .s .now) (f .if3 .left),
-    ) (c .good-pieces .ensures)
+    ) (c .good-segments .ensures)
 
 pub good-absolute-spec : {M : Type 1} → statement M
 good-absolute-spec =

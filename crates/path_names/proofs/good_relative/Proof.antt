@@ -11,7 +11,7 @@ returns c = simp (lt-leb _ _ (c .if1 .taken))
 
 returns-2 : tie.Need-returns-2
 unfolding goodRelative
-returns-2 c = simp (le-leb _ _ (c .before .if1 .left)) (c .good-pieces .ensures)
+returns-2 c = simp (le-leb _ _ (c .before .if1 .left)) (c .good-segments .ensures)
 
 pub good-relative-spec : {M : Type 1} → statement M
 good-relative-spec = tie.close (tie.spec returns (λ c κs. search needs) returns-2)

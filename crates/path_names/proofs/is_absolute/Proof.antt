@@ -1,7 +1,7 @@
 -- `path_names::is_absolute` meets its contract.
 use mathlib.Core.Path.{sym}
 use borrow.Author.Needs.{needs}
-use Rattle.path_names.specs.Pieces.{absolute-none, absolute-first}
+use Rattle.path_names.specs.Segments.{absolute-none, absolute-first}
 use Rattle.path_names.proofs.is_absolute.Statement.{statement}
 use Rattle.path_names.proofs.is_absolute.Tie as tie
 

@@ -20,7 +20,7 @@ returns-3 : tie.Need-returns-3
 returns-3 c =
     let e = c .before .before .before in
     let s = e .before .before .before in
-    rw (c .piece-end .ensures .end)
+    rw (c .segment-end .ensures .end)
     (sym (path-last (s .args .base .now) (s .args .path .now) (s .args .w) (s .pre) (e .if1 .left) (c .before .if2 .left)))
 
 pub is-last-spec : {M : Type 1} → statement M

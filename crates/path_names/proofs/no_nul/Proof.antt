@@ -4,7 +4,7 @@ use mathlib.Core.Path.{_≡_, refl, sym, _∙_}
 use borrow.Author.Needs.{needs}
 use lib.ListN.{length, drop}
 use Rattle.path_names.specs.Names.{noNul}
-use Rattle.path_names.specs.Pieces.{nul-here, nul-next, nul-end}
+use Rattle.path_names.specs.Segments.{nul-here, nul-next, nul-end}
 use Rattle.path_names.proofs.no_nul.Statement.{statement}
 use Rattle.path_names.proofs.no_nul.Tie as tie
 

@@ -7,7 +7,7 @@ use Rattle.volume.specs.Lists.{Only, nobody, several, one}
 use Rattle.volume.specs.Counting.{Volume}
 use Rattle.volume.specs.Tree.{found, onward}
 use Rattle.record_places.specs.Place.{byPlace}
-use Rattle.path_walk.specs.Found.{InodesOf, onlyOf, stepOf}
+use Rattle.path_walk.specs.Resolved.{InodesOf, onlyOf, stepOf}
 use Rattle.path_walk.specs.Laws.{step-file, step-child}
 use Rattle.path_walk.proofs.enter.Statement.{statement}
 use Rattle.path_walk.proofs.enter.Tie as tie

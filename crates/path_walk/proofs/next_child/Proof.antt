@@ -9,7 +9,7 @@ use Rattle.volume.specs.Tree.{isChild}
 use Rattle.record_places.specs.Place.{byPlace}
 use Rattle.file_blocks.specs.Blocks.{firstOf}
 use Rattle.file_blocks.specs.Rows.{search-here, search-later, search-end}
-use Rattle.path_walk.specs.Found.{InodesOf}
+use Rattle.path_walk.specs.Resolved.{InodesOf}
 use Rattle.path_walk.proofs.next_child.Statement.{statement}
 use Rattle.path_walk.proofs.next_child.Tie as tie
 

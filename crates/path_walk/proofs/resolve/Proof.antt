@@ -10,7 +10,7 @@ use Rattle.volume.specs.Tree.{walk, lookupNames}
 use Rattle.record_places.specs.Place.{byPlace}
 use Rattle.path_names.specs.Names.{namesFrom, anyNames, Reached}
 use Rattle.path_names.specs.Walking.{fewer}
-use Rattle.path_walk.specs.Found.{InodesOf, meaning}
+use Rattle.path_walk.specs.Resolved.{InodesOf, meaning}
 use Rattle.path_walk.specs.Laws.{walk-starts, walk-ends, walk-fails, walk-goes-on}
 use Rattle.path_walk.proofs.resolve.Statement.{statement}
 use Rattle.path_walk.proofs.resolve.Tie as tie

@@ -1,6 +1,6 @@
 -- `record_write::write_sealed` meets its contract.
 use mathlib.Core.Path.{_∙_}
-use Rattle.record_write.specs.Pieces.{sealed-pieces}
+use Rattle.record_write.specs.Sealed.{sealed-parts}
 use borrow.Author.Needs.{needs}
 use Rattle.record_write.proofs.write_sealed.Statement.{statement}
 use Rattle.record_write.proofs.write_sealed.Tie as tie
@@ -15,7 +15,7 @@ returns c =
     let g = s .args in
     body .put3 .ensures
     ∙ rw (field .put2 .ensures, front .put .ensures, v .store16 .ensures)
-    (sealed-pieces (g .image .now) (g .at) (g .front .now) (g .body .now) _ (s .pre) (v .before .check .ensures))
+    (sealed-parts (g .image .now) (g .at) (g .front .now) (g .body .now) _ (s .pre) (v .before .check .ensures))
 
 pub write-sealed-spec : {M : Type 1} → statement M
 write-sealed-spec =

@@ -28,21 +28,21 @@ abbrev so-far : tie.At-loop Inv-loop μ-loop → Tables
 so-far l = tablesIn (l .loop .iwords) (l .loop .bwords) (l .loop .rows)
 
 -- the turn in which a record is shown, and the tables after it
-abbrev turn : tie.After-put Inv-loop μ-loop → tie.In-loop Inv-loop μ-loop
+abbrev turn : tie.After-tabulate Inv-loop μ-loop → tie.In-loop Inv-loop μ-loop
 turn d = d .before .before .before .before .before
 
-abbrev shown : tie.After-slice-known6 Inv-loop μ-loop → tie.After-put Inv-loop μ-loop
+abbrev shown : tie.After-slice-known6 Inv-loop μ-loop → tie.After-tabulate Inv-loop μ-loop
 shown c = c .before .before .before .before .before .before
 
-abbrev behind : tie.After-put Inv-loop μ-loop → Tables
-behind d = tablesIn (d .put .last .1 .0) (d .put .last .1 .1 .0) (d .put .last .1 .1 .1 .0)
+abbrev behind : tie.After-tabulate Inv-loop μ-loop → Tables
+behind d = tablesIn (d .tabulate .last .1 .0) (d .tabulate .last .1 .1 .0) (d .tabulate .last .1 .1 .1 .0)
 
-kept : (d : tie.After-put Inv-loop μ-loop) → let l = turn d .before in
-    SameLengths (d .put .last .1 .0) (d .put .last .1 .1 .0) (d .put .last .1 .1 .1 .0) (l .loop .iwords) (l .loop .bwords) (l .loop .rows)
-kept d = record { inodes = d .put .kept .1 .0; blocks = d .put .kept .1 .1 .0; both = d .put .kept .1 .1 .1 .0 }
+kept : (d : tie.After-tabulate Inv-loop μ-loop) → let l = turn d .before in
+    SameLengths (d .tabulate .last .1 .0) (d .tabulate .last .1 .1 .0) (d .tabulate .last .1 .1 .1 .0) (l .loop .iwords) (l .loop .bwords) (l .loop .rows)
+kept d = record { inodes = d .tabulate .kept .1 .0; blocks = d .tabulate .kept .1 .1 .0; both = d .tabulate .kept .1 .1 .1 .0 }
 
-long : (d : tie.After-put Inv-loop μ-loop) → let s = start (turn d .before) in
-    SameLengths (d .put .last .1 .0) (d .put .last .1 .1 .0) (d .put .last .1 .1 .1 .0) (s .args .iwords .now) (s .args .bwords .now) (s .args .rows .now)
+long : (d : tie.After-tabulate Inv-loop μ-loop) → let s = start (turn d .before) in
+    SameLengths (d .tabulate .last .1 .0) (d .tabulate .last .1 .1 .0) (d .tabulate .last .1 .1 .1 .0) (s .args .iwords .now) (s .args .bwords .now) (s .args .rows .now)
 long d = lengths-trans (kept d) (turn d .before .loop .inv .lengths)
 
 -- what is answered when all records are in the tables
@@ -70,8 +70,8 @@ shared-slice-read-p c = omega (arith, start (c .before .before) .pre .0 .count)
 cast-p : tie.Need-cast-p Inv-loop μ-loop
 cast-p c = omega (arith, c .shared-slice-known3 .given (c .before .before .loop .i))
 
-put-requires : tie.Need-put-requires Inv-loop μ-loop
-put-requires c κs =
+tabulate-requires : tie.Need-tabulate-requires Inv-loop μ-loop
+tabulate-requires c κs =
     let n = c .before .before .before .before in
     let l = n .before in
     (l .loop .inv .going .good, (same-room (l .loop .inv .lengths) (start l .pre .1), start l .pre .0 .lie (l .loop .i) (n .loop-test .taken)))
@@ -83,7 +83,7 @@ returns c =
     let l = n .before in
     let s = start l in
     going-full (s .args .image .now) (s .args .places .now) (s .args .n) (lent l) (s .pre .0) (so-far l) (behind d) (l .loop .agreed) (l .loop .i)
-    (d .put .result) (l .loop .inv .going) (n .loop-test .taken) (same-sizes (kept d)) (d .put .ensures) (c .enum-told .given .1)
+    (d .tabulate .result) (l .loop .inv .going) (n .loop-test .taken) (same-sizes (kept d)) (d .tabulate .ensures) (c .enum-told .given .1)
 
 add-i : tie.Need-add-i Inv-loop μ-loop
 add-i c = let n = turn (shown (c .before .before)) in omega (arith, n .loop-test .taken, start (n .before) .fits .n .fits)
@@ -99,7 +99,7 @@ loop-again c =
     let s = start l in
     record {
       going = going-newer (s .args .image .now) (s .args .places .now) (s .args .n) (lent l) (s .pre .0) (so-far l) (behind d) (l .loop .agreed) (l .loop .i)
-          (d .put .result) (l .loop .inv .going) (n .loop-test .taken) (same-sizes (kept d)) (d .put .ensures) (c .enum-told2 .given .1);
+          (d .tabulate .result) (l .loop .inv .going) (n .loop-test .taken) (same-sizes (kept d)) (d .tabulate .ensures) (c .enum-told2 .given .1);
       lengths = long d;
     }
 
@@ -125,7 +125,7 @@ loop-again-2 c =
     let s = start l in
     record {
       going = going-older (s .args .image .now) (s .args .places .now) (s .args .n) (lent l) (s .pre .0) (so-far l) (behind d) (l .loop .agreed) (l .loop .i)
-          (d .put .result) (l .loop .inv .going) (n .loop-test .taken) (same-sizes (kept d)) (d .put .ensures) (c .before .enum-told3 .given .1)
+          (d .tabulate .result) (l .loop .inv .going) (n .loop-test .taken) (same-sizes (kept d)) (d .tabulate .ensures) (c .before .enum-told3 .given .1)
           (c .still-agree .result) (c .still-agree .ensures);
       lengths = long d;
     }
@@ -146,7 +146,7 @@ gather-spec =
     mul-p
     shared-slice-read-p
     cast-p
-    put-requires
+    tabulate-requires
     (λ c. search needs)
     (λ c. long (shown (c .before .before)) .inodes)
     (λ c. long (shown (c .before .before)) .blocks)

@@ -5,13 +5,13 @@ use native.Mathlib.Omega.{arith}
 use lib.ListN.{length, drop}
 use borrow.Author.Needs.{needs}
 use Rattle.table_words.specs.Position.{positionOf}
-use Rattle.table_words.specs.Occupancy.{places, firstZero}
+use Rattle.table_words.specs.Occupancy.{bits, firstZero}
 use Rattle.table_words.proofs.Steps.{word-free, word-full, words-end}
 use Rattle.table_words.proofs.first_free.Statement.{statement}
 use Rattle.table_words.proofs.first_free.Tie as tie
 
 abbrev Inv-loop : tie.InvT-loop
-Inv-loop words i₀ i = (i ≤ length words) × (firstZero (places words) ≡ i * 64 + firstZero (places (drop i words)))
+Inv-loop words i₀ i = (i ≤ length words) × (firstZero (bits words) ≡ i * 64 + firstZero (bits (drop i words)))
 
 abbrev μ-loop : tie.MeasureT-loop
 μ-loop words i₀ i = length words - i

@@ -4,14 +4,14 @@ use mathlib.Core.Path.{_≡_, ap}
 use native.Mathlib.Omega.{arith}
 use lib.ListN.{length, drop}
 use borrow.Author.Needs.{needs}
-use Rattle.table_words.specs.Occupancy.{places, total}
+use Rattle.table_words.specs.Occupancy.{bits, total}
 use Rattle.table_words.proofs.Steps.{word-total, words-end}
 use Rattle.table_words.proofs.taken.Statement.{statement}
 use Rattle.table_words.proofs.taken.Tie as tie
 
 abbrev Inv-loop : tie.InvT-loop
 Inv-loop words count₀ i₀ count i =
-    (i ≤ length words) × (count ≤ i * 64) × (total (places words) ≡ count + total (places (drop i words)))
+    (i ≤ length words) × (count ≤ i * 64) × (total (bits words) ≡ count + total (bits (drop i words)))
 
 abbrev μ-loop : tie.MeasureT-loop
 μ-loop words count₀ i₀ count i = length words - i

@@ -8,10 +8,10 @@ use Rattle.write_pieces.proofs.shortest.Statement.{statement}
 use Rattle.write_pieces.proofs.shortest.Tie as tie
 
 abbrev Inv-loop : tie.InvT-loop
-Inv-loop lengths least₀ i₀ least i = Shrinking lengths least i
+Inv-loop spans least₀ i₀ least i = Shrinking spans least i
 
 abbrev μ-loop : tie.MeasureT-loop
-μ-loop lengths least₀ i₀ least i = length lengths - i
+μ-loop spans least₀ i₀ least i = length spans - i
 
 loop-holds : tie.Need-loop-holds Inv-loop μ-loop
 loop-holds c = shrinking-begins _ (c .before .pre)

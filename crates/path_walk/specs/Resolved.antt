@@ -12,8 +12,8 @@ use Rattle.record_places.specs.Place.{byPlace}
 use Rattle.table_rows.specs.Rows.{RowsOf}
 use Rattle.path_walk.specs.declared.Child.{Child}
 use Rattle.path_walk.specs.declared.Child.the-variants.{Nobody, Several, One}
-use Rattle.path_walk.specs.declared.Found.{Found as Told}
-use Rattle.path_walk.specs.declared.Found.the-variants.{Inode, Absent}
+use Rattle.path_walk.specs.declared.Resolved.{Resolved}
+use Rattle.path_walk.specs.declared.Resolved.the-variants.{Inode, Absent}
 
 -- the rows are those of the inodes of a volume, held by their places
 abbrev pub InodesOf : Bytes → List ℕ → List ℕ → Volume ℕ → Type 0
@@ -26,12 +26,12 @@ onlyOf Several = several
 onlyOf (One i) = one i
 
 -- what an answer of `resolve` says
-abbrev pub meaning : Told → Found
+abbrev pub meaning : Resolved → Found
 meaning (Inode i d) = found i
 meaning (Absent n) = absent n
 
 -- the kind told is that of the id
-abbrev pub Kinded : Told → Type 0
+abbrev pub Kinded : Resolved → Type 0
 Kinded (Inode i d) = d ≡ isDirectoryId i
 Kinded (Absent n) = Unit {0}
 

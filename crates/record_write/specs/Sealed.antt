@@ -1,4 +1,4 @@
--- A record is stored in pieces: the header bytes before the check, the check, and the body.
+-- A record is stored in three parts: the header bytes before the check, the check, and the body.
 use Prim.Native.Nat.{ℕ, _+_, _≤_}
 use mathlib.Core.Path.{_≡_}
 use mathlib.Core.List.{[], _++_, append-assoc}
@@ -10,11 +10,11 @@ use Rattle.format.specs.Encoding.{sealed}
 use Rattle.calls.specs.Image.{put}
 use Rattle.image_laws.specs.Laws.{put-put}
 
-pub sealed-pieces : (x : Bytes) (at : ℕ) (front body : Bytes) (v : ℕ) → at + (length front + 2 + length body) ≤ length x
+pub sealed-parts : (x : Bytes) (at : ℕ) (front body : Bytes) (v : ℕ) → at + (length front + 2 + length body) ≤ length x
     → v ≡ check front body
     → put (put (put x at front) (at + length front) (enc16 v [])) (at + length front + 2) body ≡ put x at (sealed front body)
 unfolding sealed
-sealed-pieces x at front body v room e =
+sealed-parts x at front body v room e =
     let field = enc16 v [] in
     let l : length (front ++ field) ≡ length front + 2 = length-append front field in
     let end : at + length front + 2 ≡ at + length (front ++ field) = omega arith in

@@ -1,9 +1,9 @@
--- `table_fill::put` meets its contract.
+-- `table_fill::tabulate` meets its contract.
 use mathlib.Core.Path.{sym, _∙_}
 use Rattle.table_fill.specs.Parts.{shown-block, shown-inode}
 use borrow.Author.Needs.{needs}
-use Rattle.table_fill.proofs.put.Statement.{statement}
-use Rattle.table_fill.proofs.put.Tie as tie
+use Rattle.table_fill.proofs.tabulate.Statement.{statement}
+use Rattle.table_fill.proofs.tabulate.Tie as tie
 
 -- the arguments, from where the kind is known
 abbrev start : tie.After-is-block-at → tie.Start
@@ -14,19 +14,19 @@ returns c =
     let k = c .before .before .before .before in
     let i = k .before .before .before in
     let s = start (i .before) in
-    shown-block (s .pre .1 .0) (s .pre .0) (s .args .p) (k .keep .result) (k .keep .last .1 .1 .0) (k .keep .kept .1 .1 .0)
-    (sym (i .before .is-block-at .ensures) ∙ i .if1 .taken) (k .keep .last .1 .0) (k .keep .ensures)
+    shown-block (s .pre .1 .0) (s .pre .0) (s .args .p) (k .update .result) (k .update .last .1 .1 .0) (k .update .kept .1 .1 .0)
+    (sym (i .before .is-block-at .ensures) ∙ i .if1 .taken) (k .update .last .1 .0) (k .update .ensures)
 
 returns-2 : tie.Need-returns-2
 returns-2 c =
     let k = c .before .before .before .before in
     let i = k .before .before .before in
     let s = start (i .before) in
-    shown-inode (s .pre .1 .0) (s .pre .0) (s .args .p) (k .keep2 .result) (k .keep2 .last .1 .1 .0) (k .keep2 .kept .1 .1 .0)
-    (sym (i .before .is-block-at .ensures) ∙ i .if1 .left) (k .keep2 .last .1 .0) (k .keep2 .ensures)
+    shown-inode (s .pre .1 .0) (s .pre .0) (s .args .p) (k .update2 .result) (k .update2 .last .1 .1 .0) (k .update2 .kept .1 .1 .0)
+    (sym (i .before .is-block-at .ensures) ∙ i .if1 .left) (k .update2 .last .1 .0) (k .update2 .ensures)
 
-pub put-spec : {M : Type 1} → statement M
-put-spec =
+pub tabulate-spec : {M : Type 1} → statement M
+tabulate-spec =
     tie.close
     (tie.spec
     (λ c κs. search needs)

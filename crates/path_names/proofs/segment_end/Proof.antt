@@ -1,15 +1,15 @@
--- `path_names::piece_end` meets its contract.
+-- `path_names::segment_end` meets its contract.
 use Prim.Native.Nat.{_-_}
 use mathlib.Core.Path.{_≡_, refl, sym, _∙_}
 use borrow.Author.Needs.{needs}
 use lib.ListN.{length}
-use Rattle.path_names.specs.Names.{pieceEnd}
-use Rattle.path_names.specs.Pieces.{end-here, end-next, end-none, ended}
-use Rattle.path_names.proofs.piece_end.Statement.{statement}
-use Rattle.path_names.proofs.piece_end.Tie as tie
+use Rattle.path_names.specs.Names.{segmentEnd}
+use Rattle.path_names.specs.Segments.{end-here, end-next, end-none, ended}
+use Rattle.path_names.proofs.segment_end.Statement.{statement}
+use Rattle.path_names.proofs.segment_end.Tie as tie
 
 abbrev Inv-loop : tie.InvT-loop
-Inv-loop s from i₀ i = pieceEnd s i ≡ pieceEnd s from
+Inv-loop s from i₀ i = segmentEnd s i ≡ segmentEnd s from
 
 abbrev μ-loop : tie.MeasureT-loop
 μ-loop s from i₀ i = length s - i
@@ -31,8 +31,8 @@ returns-2 c =
     let s = l .before .args .s .now in
     ended s (l .before .args .from) (l .loop .i) (sym (end-none s (l .loop .i) (c .loop-test .left)) ∙ l .loop .inv)
 
-pub piece-end-spec : {M : Type 1} → statement M
-piece-end-spec =
+pub segment-end-spec : {M : Type 1} → statement M
+segment-end-spec =
     tie.close
     (tie.spec
     Inv-loop

@@ -1,4 +1,4 @@
--- `table_rows::keep` meets its contract: it ends in one of four ways.
+-- `table_rows::update` meets its contract: it ends in one of four ways.
 use Prim.Native.Nat.{_+_, _≤_, _<_}
 use mathlib.Core.Path.{_≡_}
 use native.Mathlib.Omega.{arith}
@@ -8,8 +8,8 @@ use Rattle.table_words.specs.Position.{positionOf}
 use Rattle.table_rows.specs.Table.{taken}
 use Rattle.table_rows.proofs.Part.{part-long, taken-few, taken-in, spot-lies, over, under, new, full}
 use borrow.Author.Needs.{needs}
-use Rattle.table_rows.proofs.keep.Statement.{statement}
-use Rattle.table_rows.proofs.keep.Tie as tie
+use Rattle.table_rows.proofs.update.Statement.{statement}
+use Rattle.table_rows.proofs.update.Tie as tie
 
 -- the record's id, and the arguments, from where the row was found
 abbrev with-id : tie.After-position → tie.After-id-at
@@ -91,8 +91,8 @@ returns-4 c =
     full (s .pre .0) (s .args .p) (f .position .result) (row f) (absent (n .before .before)) (n .first-free .result)
     (n .first-free .ensures .0) (omega arith)
 
-pub keep-spec : {M : Type 1} → statement M
-keep-spec =
+pub update-spec : {M : Type 1} → statement M
+update-spec =
     tie.close
     (tie.spec
     (λ c κs. search needs)
