@@ -14,6 +14,7 @@ pub mod Added
 pub mod Found
 pub mod Mounted
 pub mod NewRecord
+pub mod Rewritten
 -- the calls
 pub mod NewInode
 pub mod Create
