@@ -19,7 +19,7 @@ use Rattle.calls.specs.Mount.{mountChecks, mountNumber}
 use Rattle.calls.specs.declared.Descriptor.{Descriptor}
 use Rattle.area_kinds.specs.declared.LastScratch.{LastScratch}
 use Rattle.area_kinds.specs.declared.Kinds.{Kinds}
-use Rattle.area_kinds.specs.declared.Areas.{Areas}
+use Rattle.area_kinds.specs.declared.CheckedAreas.{CheckedAreas}
 use Rattle.area_list.specs.Described.{areaOf, described, described-length}
 use Rattle.area_kinds.specs.Kinds.{scratchOf, scratch-count, scratch-is, all-spans, rowsOf, Sorted}
 
@@ -158,26 +158,26 @@ kinds-passed image fs ss e =
 -- ---- the answer
 
 -- a refused answer's other numbers are 0
-abbrev pub refusedAreas : ℕ → Areas
+abbrev pub refusedAreas : ℕ → CheckedAreas
 refusedAreas n = record { number = n; files = 0; scratch = areaOf 0 0 }
 
 -- the areas of a volume: rows that begin with its file areas, and its scratch area
-pub record Split (image : Bytes) (ds : List Descriptor) (r : Areas) (rows : List ℕ) : Type 0 where
+pub record Split (image : Bytes) (ds : List Descriptor) (r : CheckedAreas) (rows : List ℕ) : Type 0 where
   pub files : rowsOf (r .files) rows ≡ fileAreas image ds
   pub few : r .files ≤ mostAreas
   pub scratch : scratchAreas image ds ≡ r .scratch ∷ []
 
 -- the answer of checks 1 to 4
-pub record Checked (image : Bytes) (ds : List Descriptor) (r : Areas) (rows : List ℕ) : Type 0 where
+pub record Checked (image : Bytes) (ds : List Descriptor) (r : CheckedAreas) (rows : List ℕ) : Type 0 where
   pub refusal : r .number ≡ firstRefusal (areaChecks image ds)
   pub split : r .number ≡ 0 → Split image ds r rows
 
-pub bad-checked : (image : Bytes) (ds : List Descriptor) (r : Areas) (rows : List ℕ) → badDescription image ds ≡ true → r ≡ refusedAreas 1
+pub bad-checked : (image : Bytes) (ds : List Descriptor) (r : CheckedAreas) (rows : List ℕ) → badDescription image ds ≡ true → r ≡ refusedAreas 1
     → Checked image ds r rows
 unfolding areaChecks firstRefusal
 bad-checked image ds r rows e q = record {
   refusal = rw (e, q);
-  split = λ z. let one = ap (λ (x : Areas). x .number) q in absurd (omega arith);
+  split = λ z. let one = ap (λ (x : CheckedAreas). x .number) q in absurd (omega arith);
 }
 
 -- the kinds are checked, after check 1
@@ -187,9 +187,9 @@ module _ (image : Bytes) (ds : List Descriptor) (good : badDescription image ds 
   unfolding areaChecks firstRefusal
   answered = rw good (rw (s .files) at (answer .is (scratchAreas image ds) (s .scratch)))
 
-  pub checked-refused : (r : Areas) → (n ≡ 0 → ⊥) → r ≡ refusedAreas n → Checked image ds r rows
+  pub checked-refused : (r : CheckedAreas) → (n ≡ 0 → ⊥) → r ≡ refusedAreas n → Checked image ds r rows
   checked-refused r h e =
-      let number : r .number ≡ n = ap (λ (x : Areas). x .number) e in
+      let number : r .number ≡ n = ap (λ (x : CheckedAreas). x .number) e in
       record { refusal = number ∙ answered; split = λ z. absurd (h (sym number ∙ z)) }
 
   pub checked-passes : n ≡ 0 → Checked image ds (record { number = 0; files = k .files; scratch = k .scratch .area }) rows

@@ -19,7 +19,7 @@ use Rattle.calls.specs.declared.Descriptor.{Descriptor}
 use Rattle.table_rows.specs.Parts.{part, part-long}
 use Rattle.area_pass.specs.Listing.{AreasFit}
 use Rattle.area_pass.specs.Rows.{spansAt}
-use Rattle.area_kinds.specs.declared.Areas.{Areas}
+use Rattle.area_kinds.specs.declared.CheckedAreas.{CheckedAreas}
 use Rattle.area_list.specs.Described.{areaOf, described, described-at}
 use Rattle.area_list.specs.Good.{AreaFits, fits}
 use Rattle.area_list.specs.Description.{GoodDescription, description-good}
@@ -83,12 +83,12 @@ module _ (image : Bytes) (ds : List Descriptor) (p : AreasPass image ds) where
       leb→le (d .length) (s .length) (all-mem _ (fileAreas image ds) (all-mem _ (scratchAreas image ds) t n) m)
 
 -- where `check_areas` does not refuse
-pub checked-pass : (image : Bytes) (ds : List Descriptor) (r : Areas) (rows : List ℕ) → Checked image ds r rows → r .number ≡ 0 → AreasPass image ds
+pub checked-pass : (image : Bytes) (ds : List Descriptor) (r : CheckedAreas) (rows : List ℕ) → Checked image ds r rows → r .number ≡ 0 → AreasPass image ds
 checked-pass image ds r rows c e = areas-pass image ds (sym (c .refusal) ∙ e)
 
 -- ---- the file areas by the rows that `check_areas` stored them in
 
-module _ (image : Bytes) (ds : List Descriptor) (p : AreasPass image ds) (r : Areas) (rows : List ℕ) (s : Split image ds r rows)
+module _ (image : Bytes) (ds : List Descriptor) (p : AreasPass image ds) (r : CheckedAreas) (rows : List ℕ) (s : Split image ds r rows)
     (long : spansAt + mostAreas ≤ length rows) where
   abbrev starts : List ℕ
   starts = part 0 (r .files) rows

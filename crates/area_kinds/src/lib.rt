@@ -35,7 +35,7 @@ pub struct Kinds {
 }
 
 // The answer of checks 1 to 4: the number of refusal, or 0 with the number of file areas and the scratch area.
-pub struct Areas {
+pub struct CheckedAreas {
     pub number: u32,
     pub files: usize,
     pub scratch: Descriptor,
@@ -148,10 +148,10 @@ fn kinds_refusal(image: &[u8], starts: &[u32], spans: &[u32], scratch: LastScrat
 }
 
 // A refused answer.
-fn refused(number: u32) -> Areas
+fn refused(number: u32) -> CheckedAreas
     ensures { λ r. ⌜ r ≡ refusedAreas number ⌝ }
 {
-    Areas {
+    CheckedAreas {
         number,
         files: 0,
         scratch: Descriptor {
@@ -162,7 +162,7 @@ fn refused(number: u32) -> Areas
 }
 
 // Checks 1 to 4 of an image and a list of areas. Where none refuses, the file areas stand in the first two columns of `rows`.
-pub fn check_areas(image: &[u8], areas: &[u32], rows: &mut [u32]) -> Areas
+pub fn check_areas(image: &[u8], areas: &[u32], rows: &mut [u32]) -> CheckedAreas
     requires { ⌜ spansAt + mostAreas ≤ length (now rows) ⌝ }
     ensures { λ r. ⌜ Checked (now (image .entry)) (areaList (now (areas .entry))) r (now (rows .exit)) ⌝ }
 {
@@ -180,7 +180,7 @@ pub fn check_areas(image: &[u8], areas: &[u32], rows: &mut [u32]) -> Areas
         return refused(number);
     }
     let area = scratch.area;
-    Areas {
+    CheckedAreas {
         number: 0,
         files,
         scratch: area,

@@ -21,7 +21,7 @@ use Rattle.calls_laws.specs.Records.{records-sound}
 use Rattle.area_list.specs.Described.{described, described-length}
 use Rattle.area_kinds.specs.Checks.{recordChecks, mount-refused, mount-goes-on, Checked, Split}
 use Rattle.area_kinds.specs.Places.{AreasPass, checked-pass, files-lie}
-use Rattle.area_kinds.specs.declared.Areas.{Areas}
+use Rattle.area_kinds.specs.declared.CheckedAreas.{CheckedAreas}
 use Rattle.area_pass.specs.Listing.{placesIn, AreasFit}
 use Rattle.area_pass.specs.Reading.{readingOf}
 use Rattle.area_pass.specs.Rows.{spansAt, stretchesAt, skippedAt, freeAt, areaRows, areaAt, readingAt, Readings, Small}
@@ -52,7 +52,7 @@ same-reading : (t r : List ℕ) (i : ℕ) → getD t (stretchesAt + i) 0 ≡ get
 same-reading t r i a b c = rw (a, b, c)
 
 -- the answer a of checks 1 to 4, which left the file areas in the tables t
-module _ (image : Bytes) (ds : List Descriptor) (a : Areas) (t : List ℕ) (long : length t ≡ tablesSize) (c : Checked image ds a t) where
+module _ (image : Bytes) (ds : List Descriptor) (a : CheckedAreas) (t : List ℕ) (long : length t ≡ tablesSize) (c : Checked image ds a t) where
   pub areas-refused : (t′ ps : List ℕ) (m : Mounted) → m ≡ refusedMount (a .number) → (a .number ≡ 0 → ⊥) → Mounts image ds m t′ ps
   areas-refused t′ ps m e h = refuses image ds (a .number) t′ ps m e h (sym (mount-refused image ds (a .number) (sym (c .refusal)) h))
 
