@@ -32,6 +32,7 @@ fn segment_end(s: &[u8], from: usize) -> usize
     i
 }
 
+// Whether no byte is NUL.
 fn no_nul(s: &[u8]) -> bool
     ensures { λ r. ⌜ r ≡ noNul (now (s .entry)) ⌝ }
 {
@@ -45,6 +46,7 @@ fn no_nul(s: &[u8]) -> bool
     true
 }
 
+// Whether a segment is good: 1 to 255 bytes, none of them NUL.
 fn good_segment(s: &[u8]) -> bool
     ensures { λ r. ⌜ r ≡ goodSegment (now (s .entry)) ⌝ }
 {
@@ -77,6 +79,7 @@ fn good_segments(s: &[u8], from: usize) -> bool
     }
 }
 
+// Whether a path begins with a slash.
 fn is_absolute(s: &[u8]) -> bool
     ensures { λ r. ⌜ r ≡ isAbsolute (now (s .entry)) ⌝ }
 {
@@ -86,6 +89,7 @@ fn is_absolute(s: &[u8]) -> bool
     s[0] == b'/'
 }
 
+// Whether a path that must be absolute is good.
 fn good_absolute(s: &[u8]) -> bool
     ensures { λ r. ⌜ r ≡ goodAbsolute (now (s .entry)) ⌝ }
 {
@@ -102,6 +106,7 @@ fn good_absolute(s: &[u8]) -> bool
     good_segments(s, 1)
 }
 
+// Whether a path below a base is good.
 fn good_relative(s: &[u8]) -> bool
     ensures { λ r. ⌜ r ≡ goodRelative (now (s .entry)) ⌝ }
 {

@@ -143,6 +143,7 @@ const PLACES: usize = 205;
 
 const DIGITS: [u8; 9] = [0x31, 0x32, 0x33, 0x34, 0x35, 0x36, 0x37, 0x38, 0x39];
 
+// Prints a word and a number.
 fn show(word: &[u8], n: usize) {
     io::write_all(1, word);
     io::print_decimal(1, n as u64);
@@ -190,6 +191,7 @@ fn show_area(area: &[u8])
     show_reading(area);
 }
 
+// The check of document 01's nine digits; then the bench area as it is, and with one bit changed at a time.
 fn main() {
     io::print_hex(1, check(&DIGITS, b"") as u64, 4);
     io::write_all(1, b"\n");

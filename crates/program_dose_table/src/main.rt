@@ -42,6 +42,7 @@ fn read_on(image: &[u8], areas: Areas, h: Handle) -> Handle {
     r.handle
 }
 
+// Two areas: a dose table is stored, opened and read in two reads; prints what each call answers.
 fn main() {
     let mut image = [0u8; 2048];
     let first = Descriptor {

@@ -4,6 +4,7 @@ use program_input::report_input;
 // The longest input that can be an image.
 const LARGEST: usize = 65536;
 
+// Prints a word and a number.
 fn show(word: &[u8], n: u32) {
     io::write_all(1, word);
     io::print_decimal(1, n as u64);
@@ -24,6 +25,7 @@ fn drain() -> bool {
     any
 }
 
+// Prints the report of an input.
 fn print(image: &[u8]) {
     let r = report_input(image);
     show(b"mount ", r.number);
@@ -37,6 +39,7 @@ fn print(image: &[u8]) {
     }
 }
 
+// Reads the image. Input longer than any image is answered as empty input is: it is no image.
 fn main() {
     let mut image = io::large_buffer();
     let n = io::read_full(0, &mut image);

@@ -63,18 +63,21 @@ pub struct BlockHeader {
     pub length: u32,
 }
 
+// Whether an id is one of a directory.
 pub fn is_directory_id(id: u32) -> bool
     ensures { λ r. ⌜ r ≡ isDirectoryId id ⌝ }
 {
     id < FIRST_FILE_ID
 }
 
+// Whether an id is one of a file.
 pub fn is_file_id(id: u32) -> bool
     ensures { λ r. ⌜ r ≡ isFileId id ⌝ }
 {
     FIRST_FILE_ID <= id && id < FIRST_BLOCK_ID
 }
 
+// Whether an id is one of a block.
 pub fn is_block_id(id: u32) -> bool
     ensures { λ r. ⌜ r ≡ isBlockId id ⌝ }
 {
@@ -203,6 +206,7 @@ fn check_right(b: &[u8], offset: usize, size: usize) -> bool
     load16(b, offset) == check(&b[..offset], &b[size..]) as u32
 }
 
+// The rules of an inode: of its header's fields, and of its name.
 fn inode_rules(b: &[u8]) -> bool
     requires { ⌜ 20 ≤ length (now b) ⌝ }
     ensures { λ r. ⌜ r ≡ inodeRules (now (b .entry)) ⌝ }
@@ -213,6 +217,7 @@ fn inode_rules(b: &[u8]) -> bool
     name_good(&b[InodeHeader::SIZE..])
 }
 
+// The rules of a block: of its header's fields.
 fn block_rules(b: &[u8]) -> bool
     requires { ⌜ 24 ≤ length (now b) ⌝ }
     ensures { λ r. ⌜ r ≡ blockRules (now (b .entry)) ⌝ }
