@@ -10,6 +10,7 @@ ghost use Rattle.area_pass.specs.Reading.{readingOf};
 ghost use Rattle.area_pass.specs.Rows.{spansAt, Lent, Readings};
 use area_read::HEADER_SIZE;
 use area_read::next_record;
+use byte_store::ERASED;
 use calls::MOST_AREAS;
 
 // The rows of the file areas in columns: starts first, then spans, stretches of damage, their bytes, and where free space starts.
@@ -22,9 +23,6 @@ pub const SKIPPED: usize = STRETCHES + MOST_AREAS;
 pub const FREE: usize = SKIPPED + MOST_AREAS;
 
 pub const AREA_ROWS: usize = FREE + MOST_AREAS;
-
-// An erased byte.
-const ERASED: u8 = 255;
 
 // What the reading of an area comes to: stretches of damage, their bytes, and where free space starts.
 pub struct Reading {

@@ -12,6 +12,7 @@ ghost use Rattle.path_find.specs.Parent.{ShortName};
 ghost use Rattle.mount_state.specs.State.{Safe, Holds, SafePlaces, HoldsPlaces};
 ghost use Rattle.call_create.specs.Creating.{notCreated, storedAnswer};
 use calls::Created;
+use calls::DIRECTORY;
 use calls::MOST_INODES;
 use calls::TOO_MANY_IDS;
 use mount_state::Mounted;
@@ -24,9 +25,6 @@ use record_read::InodeHeader;
 use record_read::ROOT;
 use write_ids::unused_id;
 use write_inodes::store_inode;
-
-// The kind of a directory; any other number is a file's.
-const DIRECTORY: u32 = 0;
 
 // The first id of a kind.
 fn first_id(kind: u32) -> u32

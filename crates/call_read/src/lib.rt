@@ -8,6 +8,8 @@ ghost use Rattle.path_walk.specs.Resolved.{meaning, Kinded};
 ghost use Rattle.file_read.specs.Reading.{without};
 ghost use Rattle.mount_state.specs.State.{Safe, Holds};
 ghost use Rattle.call_read.specs.Reads.{Reads};
+use calls::DIRECTORY;
+use calls::FILE;
 use calls::Lookup;
 use calls::NOT_FOUND;
 use calls::Opened;
@@ -22,11 +24,6 @@ use mount_state::Mounted;
 use path_walk::Resolved;
 use path_walk::is_live;
 use record_read::is_directory_id;
-
-// The kinds of inodes.
-const DIRECTORY: u32 = 0;
-
-const FILE: u32 = 1;
 
 // The number of a kind.
 fn kind_number(directory: bool) -> u32

@@ -52,6 +52,11 @@ pub const LAST_SEQUENCE: u32 = 16;
 
 pub const NO_SOURCE: u32 = 17;
 
+// The kinds of inodes: create takes any other number for a file too.
+pub const DIRECTORY: u32 = 0;
+
+pub const FILE: u32 = 1;
+
 // An area descriptor: where an area of flash starts and how long it is.
 #[repr(C)]
 pub struct Descriptor {

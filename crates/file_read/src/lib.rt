@@ -12,6 +12,8 @@ ghost use Rattle.table_rows.specs.Rows.{BlockTable};
 ghost use Rattle.file_blocks.specs.Blocks.{BlocksOf};
 ghost use Rattle.file_read.specs.Reading.{chainOf, Whole, laid, filled, FileRead};
 use byte_store::put;
+use calls::BROKEN;
+use calls::PAST_END;
 use calls::ReadAnswer;
 use file_blocks::Last;
 use file_blocks::Size;
@@ -23,11 +25,6 @@ use file_blocks::owned_count;
 use record_places::previous_at;
 use record_read::BlockHeader;
 use table_rows::Spot;
-
-// Numbers of refusal.
-const BROKEN: u32 = 13;
-
-const AFTER_END: u32 = 14;
 
 // The blocks of a file that is whole: `count` of them, followed back from `last`, with `size` bytes in all.
 struct Chain {
@@ -131,7 +128,7 @@ pub fn read_file(
     };
     let from = position as usize;
     if above(from, size) > 0 {
-        return answer(AFTER_END, 0, 0);
+        return answer(PAST_END, 0, 0);
     }
     let given = least(buffer.len(), size - from);
     if given == 0 {

@@ -14,6 +14,9 @@ ghost use Rattle.file_blocks.specs.Blocks.{firstOf};
 ghost use Rattle.path_walk.specs.Resolved.{InodesOf, onlyOf, meaning, Kinded, refusalOf, stepOf};
 use byte_equal::equal;
 use byte_fields::wide;
+use calls::AMBIGUOUS;
+use calls::NOT_FOUND;
+use calls::WRONG_KIND;
 use inode_fate::fate_of;
 use inode_fate::lives;
 use path_names::after;
@@ -24,13 +27,6 @@ use record_places::link_at;
 use record_read::InodeHeader;
 use record_read::ROOT;
 use record_read::is_directory_id;
-
-// Numbers of refusal.
-const NO_CHILD: u32 = 9;
-
-const MANY_CHILDREN: u32 = 10;
-
-const NO_DIRECTORY: u32 = 11;
 
 // The live children of a directory that have one name.
 pub enum Child {
@@ -158,12 +154,12 @@ pub fn enter(image: &[u8], ids: &[u32], spots: &[u32], directory: u32, name: &[u
     ensures kind { λ r. ⌜ Kinded r ⌝ }
 {
     if is_directory_id(directory) {} else {
-        return Resolved::Absent(NO_DIRECTORY);
+        return Resolved::Absent(WRONG_KIND);
     }
     let child = find_child(image, ids, spots, directory, name);
     match child {
-        Child::Nobody => Resolved::Absent(NO_CHILD),
-        Child::Several => Resolved::Absent(MANY_CHILDREN),
+        Child::Nobody => Resolved::Absent(NOT_FOUND),
+        Child::Several => Resolved::Absent(AMBIGUOUS),
         Child::One(id) => inode(id),
     }
 }

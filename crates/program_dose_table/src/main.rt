@@ -7,9 +7,8 @@ use call_entries::format_of;
 use call_entries::open_of;
 use call_entries::read_of;
 use calls::Descriptor;
+use calls::FILE;
 use calls::Handle;
-
-const FILE: u32 = 1;
 
 // Prints the answer of a call.
 fn show(call: &[u8], number: u32) {

@@ -19,7 +19,7 @@ use Rattle.volume_laws.specs.Once.{Nodup}
 use Rattle.volume_laws.specs.Counting.{counting-mem, counting-some, counting-none, counting-top, ids-of, ids-mem}
 use Rattle.record_places.specs.Place.{byPlace, Lies, AllLie}
 use Rattle.table_words.specs.Position.{positionOf}
-use Rattle.table_words.specs.Occupancy.{bits, capacity, firstZero, total, Low}
+use Rattle.table_words.specs.Occupancy.{bits, capacity, mostWords, firstZero, total, Low}
 use Rattle.table_words.specs.Laws.{
   position-hit,
   position-miss,
@@ -129,7 +129,7 @@ empty-rows F n ids spots e = rw e (record { ids-are = refl; counts = λ i. refl 
 
 -- words that are all zero make a table with no row, whatever the ids and the spots are
 module _ (m : ℕ) (ids spots : List ℕ) where
-  pub fresh-good : (image : Bytes) → m ≤ 1024 → length ids ≡ m * 64 → length spots ≡ m * 64 → Good image (replicate m 0) ids spots
+  pub fresh-good : (image : Bytes) → m ≤ mostWords → length ids ≡ m * 64 → length spots ≡ m * 64 → Good image (replicate m 0) ids spots
   fresh-good image h li ls = record {
     sized = record { few = rw length-replicate h; ids-long = rw length-replicate li; spots-long = rw length-replicate ls };
     low = fresh-low m;

@@ -11,7 +11,7 @@ use Rattle.volume.specs.View.{View}
 use Rattle.volume.specs.Counting.{counting, idsOf}
 use Rattle.record_places.specs.Place.{byPlace, AllLie}
 use Rattle.table_words.specs.Position.{positionOf}
-use Rattle.table_words.specs.Occupancy.{bits, capacity, total, Low}
+use Rattle.table_words.specs.Occupancy.{bits, capacity, mostWords, total, Low}
 use Rattle.table_rows.specs.declared.Updated.{Updated}
 use Rattle.table_rows.specs.declared.Updated.the-variants.{Newer, Older, Full}
 use Rattle.table_rows.specs.declared.Spot.{Spot}
@@ -40,7 +40,7 @@ pub record Rows (F : View ℕ) (ps : List ℕ) (n : ℕ) (ids spots : List ℕ) 
 
 -- a table has an id and a spot for each place of its words
 pub record Sized (words ids spots : List ℕ) : Type 0 where
-  pub few : length words ≤ 1024
+  pub few : length words ≤ mostWords
   pub ids-long : length ids ≡ capacity words
   pub spots-long : length spots ≡ capacity words
 

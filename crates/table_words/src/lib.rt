@@ -7,7 +7,7 @@ ghost use Rattle.table_words.specs.Position.{positionOf};
 ghost use Rattle.table_words.specs.Occupancy.{digits, bits, capacity, mostWords, firstZero, total};
 
 // The places of one word, a bit each: 1 for a taken place.
-const BITS: usize = 64;
+pub const BITS: usize = 64;
 
 // The lowest free place, or the number of places where all are taken.
 pub fn first_free(words: &[u64]) -> usize

@@ -15,11 +15,9 @@ use record_places::id_at;
 use record_places::is_block_at;
 use record_places::link_at;
 use record_places::previous_at;
+use table_words::BITS;
 use table_words::first_free;
 use table_words::occupy;
-
-// The ids of one word, a bit each.
-const BITS: usize = 64;
 
 // Words for more ids than all records name, three at most to each, and one append takes, which may fill the table of blocks.
 pub const ID_WORDS: usize = (MOST_RECORDS * 3 + MOST_BLOCKS) / BITS + 1;
