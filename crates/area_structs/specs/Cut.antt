@@ -15,6 +15,7 @@ use Rattle.calls.specs.Format.{formatNumber, imageFormatted}
 use Rattle.calls.specs.Report.{reportOf, refusedReport}
 use Rattle.calls.specs.Lookup.{resolve, lookupOf, lookupAnswer, openOf, openAnswer}
 use Rattle.calls.specs.Read.{readGiven, refused}
+use Rattle.calls.specs.Attempt.{attemptAt}
 use Rattle.calls.specs.Create.{creating, createOf, imageCreated}
 use Rattle.calls.specs.Append.{appending, appendOf, imageAppended}
 use Rattle.calls.specs.Unlink.{unlinking, unlinkOf, imageUnlinked}
@@ -69,27 +70,27 @@ unfolding readGiven
 read-whole image ds id position room = whole image (λ l. readGiven image l id position room) (refused 1) (λ l e. rw (mount-bad image l e)) ds
 
 pub create-whole : (image : Bytes) (ds : List Descriptor) (base path : Bytes) (kind : ℕ) → createOf image (take mostEntries ds) base path kind ≡ createOf image ds base path kind
-unfolding createOf creating
+unfolding createOf creating attemptAt
 create-whole image ds base path kind = whole image (λ l. createOf image l base path kind) (record { number = 1; id = 0 }) (λ l e. rw (mount-bad image l e)) ds
 
 pub created-whole : (image : Bytes) (ds : List Descriptor) (base path : Bytes) (kind : ℕ) → imageCreated image (take mostEntries ds) base path kind ≡ imageCreated image ds base path kind
-unfolding imageCreated creating
+unfolding imageCreated creating attemptAt
 created-whole image ds base path kind = whole image (λ l. imageCreated image l base path kind) image (λ l e. rw (mount-bad image l e)) ds
 
 pub append-whole : (image : Bytes) (ds : List Descriptor) (base path text : Bytes) → appendOf image (take mostEntries ds) base path text ≡ appendOf image ds base path text
-unfolding appendOf appending
+unfolding appendOf appending attemptAt
 append-whole image ds base path text = whole image (λ l. appendOf image l base path text) 1 (λ l e. rw (mount-bad image l e)) ds
 
 pub appended-whole : (image : Bytes) (ds : List Descriptor) (base path text : Bytes) → imageAppended image (take mostEntries ds) base path text ≡ imageAppended image ds base path text
-unfolding imageAppended appending
+unfolding imageAppended appending attemptAt
 appended-whole image ds base path text = whole image (λ l. imageAppended image l base path text) image (λ l e. rw (mount-bad image l e)) ds
 
 pub unlink-whole : (image : Bytes) (ds : List Descriptor) (base path : Bytes) → unlinkOf image (take mostEntries ds) base path ≡ unlinkOf image ds base path
-unfolding unlinkOf unlinking
+unfolding unlinkOf unlinking attemptAt
 unlink-whole image ds base path = whole image (λ l. unlinkOf image l base path) 1 (λ l e. rw (mount-bad image l e)) ds
 
 pub unlinked-whole : (image : Bytes) (ds : List Descriptor) (base path : Bytes) → imageUnlinked image (take mostEntries ds) base path ≡ imageUnlinked image ds base path
-unfolding imageUnlinked unlinking
+unfolding imageUnlinked unlinking attemptAt
 unlinked-whole image ds base path = whole image (λ l. imageUnlinked image l base path) image (λ l e. rw (mount-bad image l e)) ds
 
 pub collect-whole : (image : Bytes) (ds : List Descriptor) → collectOf image (take mostEntries ds) ≡ collectOf image ds

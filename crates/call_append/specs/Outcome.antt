@@ -25,23 +25,8 @@ use Rattle.calls.specs.Refusal.{firstRefusal}
 use Rattle.calls.specs.Mount.{mostBlocks, volume, mountNumber}
 use Rattle.calls.specs.Storing.{Store, namedIds, spaces, placeAll, noPlace, storedOr}
 use Rattle.calls.specs.Lookup.{resolve}
-use Rattle.calls.specs.Append.{
-  mostAppended,
-  piecesOf,
-  orNone,
-  blockRecords,
-  newBlocks,
-  isBroken,
-  appendTo,
-  Appending,
-  refuses,
-  appendWhere,
-  appending,
-  appendNumber,
-  appendImage,
-  appendOf,
-  imageAppended,
-}
+use Rattle.calls.specs.Attempt.{Attempt, goes, refuses, numberOf, leaves, unless, atFound, attemptAt}
+use Rattle.calls.specs.Append.{mostAppended, piecesOf, orNone, blockRecords, newBlocks, isBroken, appendTo, appending, appendImage, appendOf, imageAppended}
 use Rattle.calls.specs.declared.Descriptor.{Descriptor}
 use Rattle.area_pass.specs.Bridge.{placedVolume, volume-places}
 use Rattle.path_walk.specs.Resolved.{refusalOf}
@@ -55,24 +40,28 @@ use Rattle.call_append.specs.Written.{sizeFor, Written}
 
 module _ (image : Bytes) (ds : List Descriptor) (text : Bytes) where
   -- the number and the image of what becomes of an append
-  abbrev pub Outcome : Appending → ℕ → Bytes → Type 0
-  Outcome a r x = (r ≡ appendNumber a) × (x ≡ appendImage image ds text a)
+  abbrev pub Outcome : Attempt ℕ → ℕ → Bytes → Type 0
+  Outcome a r x = (r ≡ numberOf a) × (x ≡ leaves image (appendImage image ds text) a)
+
+  -- an append to the inode f
+  abbrev pub appendAt : ℕ → Attempt ℕ
+  appendAt f = unless (appendTo image ds f text) (goes f)
 
   -- ---- an append to the inode f, by the checks in their order
 
   module _ (f : ℕ) where
-    pub to-directory : isDirectoryId f ≡ true → Outcome (appendWhere image ds text (found f)) 11 image
+    pub to-directory : isDirectoryId f ≡ true → Outcome (appendAt f) 11 image
     unfolding appendTo firstRefusal
     to-directory e = (rw e, rw e)
 
     module _ (file : isDirectoryId f ≡ false) where
-      to-broken : isBroken (fileBlocks byBytes (volume image ds) f) ≡ true → Outcome (appendWhere image ds text (found f)) 13 image
+      to-broken : isBroken (fileBlocks byBytes (volume image ds) f) ≡ true → Outcome (appendAt f) 13 image
       unfolding appendTo firstRefusal
       to-broken e = (rw (file, e), rw (file, e))
 
       module _ (whole : isBroken (fileBlocks byBytes (volume image ds) f) ≡ false) where
         to-full : ltb mostBlocks (length (blockIds byBytes (volume image ds)) + length (newBlocks image ds f text)) ≡ true
-            → Outcome (appendWhere image ds text (found f)) 5 image
+            → Outcome (appendAt f) 5 image
         unfolding appendTo firstRefusal
         to-full e = (rw (file, whole, e), rw (file, whole, e))
 
@@ -85,11 +74,11 @@ module _ (image : Bytes) (ds : List Descriptor) (text : Bytes) where
           to-last = rw (file, whole, few)
 
           to-written : (r : ℕ) (x : Bytes) → r ≡ cond (noPlace (placeAll (spaces image (fileAreas image ds)) (newBlocks image ds f text))) 15 0
-              → x ≡ storedOr image (placeAll (spaces image (fileAreas image ds)) (newBlocks image ds f text)) → Outcome (appendWhere image ds text (found f)) r x
+              → x ≡ storedOr image (placeAll (spaces image (fileAreas image ds)) (newBlocks image ds f text)) → Outcome (appendAt f) r x
           to-written r x q w = go (placeAll (spaces image (fileAreas image ds)) (newBlocks image ds f text)) refl
             where
               go : (o : Option (List Store)) → placeAll (spaces image (fileAreas image ds)) (newBlocks image ds f text) ≡ o
-                  → Outcome (appendWhere image ds text (found f)) r x
+                  → Outcome (appendAt f) r x
               go none z =
                   let n : appendTo image ds f text ≡ 15 = to-last ∙ rw z in
                   (q ∙ rw (n, z), w ∙ rw (n, z))
@@ -117,7 +106,7 @@ module _ {image : Bytes} {ds : List Descriptor} {m : Mounted} {t : List ℕ} (s 
       ∙ part-long blockIdsAt (m .blocks) t (omega (arith, s .blocks-few, s .long))
 
   -- it is broken
-  pub out-broken : none ≡ lastUnlessBroken image (placedVolume image ds) f → Outcome image ds text (appendWhere image ds text (found f)) 13 image
+  pub out-broken : none ≡ lastUnlessBroken image (placedVolume image ds) f → Outcome image ds text (appendAt image ds text f) 13 image
   out-broken e = to-broken image ds text f file (rw by-bytes (none-broken image (placedVolume image ds) f e))
 
   -- it is not, and has this last block
@@ -139,13 +128,13 @@ module _ {image : Bytes} {ds : List Descriptor} {m : Mounted} {t : List ℕ} (s 
 
     module _ (count : ℕ) (c : count ≡ length (pieces (sizeFor m t) text)) where
       -- there are too many blocks
-      pub out-full : mostBlocks < m .blocks + count → Outcome image ds text (appendWhere image ds text (found f)) 5 image
+      pub out-full : mostBlocks < m .blocks + count → Outcome image ds text (appendAt image ds text f) 5 image
       out-full g = to-full image ds text f file whole (lt-ltb mostBlocks (length (blockIds byBytes (volume image ds)) + length (newBlocks image ds f text)) (omega (arith, blocks-are, new-count)))
 
       -- or the pieces were written
       pub out-written : m .blocks + count ≤ mostBlocks → (r : ℕ) (x : Bytes) (names : List ℕ) → names ≡ namedIds (volume image ds)
           → Written image (spaces image (fileAreas image ds)) names (record { file = f; last = last; size = sizeFor m t; count = count }) text r x
-          → Outcome image ds text (appendWhere image ds text (found f)) r x
+          → Outcome image ds text (appendAt image ds text f) r x
       out-written g r x names q w =
           to-written image ds text f file whole (le-ltb mostBlocks (length (blockIds byBytes (volume image ds)) + length (newBlocks image ds f text)) (omega (arith, blocks-are, new-count))) r x
           (rw (new-are, ← q) (w .number)) (rw (new-are, ← q) (w .stored))
@@ -156,13 +145,13 @@ module _ {image : Bytes} {ds : List Descriptor} {m : Mounted} {t : List ℕ} (h 
   abbrev Done : ℕ → Bytes → Type 0
   Done r x = (r ≡ appendOf image ds base path text) × (x ≡ imageAppended image ds base path text)
 
-  done : (a : Appending) → appending image ds base path text ≡ a → {r : ℕ} {x : Bytes} → Outcome image ds text a r x → Done r x
+  done : (a : Attempt ℕ) → appending image ds base path text ≡ a → {r : ℕ} {x : Bytes} → Outcome image ds text a r x → Done r x
   unfolding appendOf imageAppended
   done a e o = (rw e (o .0), rw e (o .1))
 
   -- too much
   pub append-long : mostAppended < length text → Done 8 image
-  unfolding appending
+  unfolding appending attemptAt
   append-long more = done (refuses 8) long (refl, refl)
     where
       or-true : (b : Bool) → (b || true) ≡ true
@@ -174,19 +163,20 @@ module _ {image : Bytes} {ds : List Descriptor} {m : Mounted} {t : List ℕ} (h 
 
   -- o is what the path leads to
   module _ (short : length text ≤ mostAppended) (o : Found) (e : o ≡ resolve image ds base path) where
-    goes : appending image ds base path text ≡ appendWhere image ds text o
-    unfolding appending resolve
-    goes = rw (e, eq-eqb (mountNumber image ds) 0 (h .number), le-ltb mostAppended (length text) short) (go (goodPath base path))
+    appending-is : appending image ds base path text ≡ atFound (λ f. appendTo image ds f text) o
+    unfolding appending attemptAt resolve
+    appending-is = rw (e, eq-eqb (mountNumber image ds) 0 (h .number), le-ltb mostAppended (length text) short)
+        (ap (atFound (λ f. appendTo image ds f text)) (go (goodPath base path)))
       where
-        go : (b : Bool) → cond (not b || false) (refuses 8) (appendWhere image ds text (lookupNames byBytes (volume image ds) (pathNames base path)))
-            ≡ appendWhere image ds text (cond b (lookupNames byBytes (volume image ds) (pathNames base path)) (absent 8))
+        go : (b : Bool) → cond (not b || false) (absent 8) (lookupNames byBytes (volume image ds) (pathNames base path))
+            ≡ cond b (lookupNames byBytes (volume image ds) (pathNames base path)) (absent 8)
         go true = refl
         go false = refl
 
     -- nothing; k is the number of refusal
     pub append-absent : (n : ℕ) → o ≡ absent n → (k : ℕ) → k ≡ refusalOf o → Done k image
-    append-absent n q k z = done (refuses n) (goes ∙ ap (appendWhere image ds text) q) (z ∙ ap refusalOf q, refl)
+    append-absent n q k z = done (refuses n) (appending-is ∙ ap (atFound (λ f. appendTo image ds f text)) q) (z ∙ ap refusalOf q, refl)
 
     -- the inode f, and what became of the append to it
-    pub append-found : (f : ℕ) → o ≡ found f → {r : ℕ} {x : Bytes} → Outcome image ds text (appendWhere image ds text (found f)) r x → Done r x
-    append-found f q w = done (appendWhere image ds text (found f)) (goes ∙ ap (appendWhere image ds text) q) w
+    pub append-found : (f : ℕ) → o ≡ found f → {r : ℕ} {x : Bytes} → Outcome image ds text (appendAt image ds text f) r x → Done r x
+    append-found f q w = done (appendAt image ds text f) (appending-is ∙ ap (atFound (λ f. appendTo image ds f text)) q) w

@@ -8,11 +8,10 @@ ghost use lib.ListN.{length};
 ghost use Rattle.format.specs.Ids.{isDirectoryId};
 ghost use Rattle.format.specs.Record.{longestData};
 ghost use Rattle.volume.specs.Counting.{Volume};
-ghost use Rattle.volume.specs.Tree.{found};
 ghost use Rattle.calls.specs.Areas.{fileAreas};
 ghost use Rattle.calls.specs.Mount.{mostBlocks, mostRecords};
 ghost use Rattle.calls.specs.Storing.{spaces};
-ghost use Rattle.calls.specs.Append.{mostAppended, appendWhere, appendOf, imageAppended};
+ghost use Rattle.calls.specs.Append.{mostAppended, appendOf, imageAppended};
 ghost use Rattle.calls.specs.declared.Descriptor.{Descriptor};
 ghost use Rattle.record_places.specs.Place.{AllLie};
 ghost use Rattle.table_rows.specs.Rows.{BlockTable};
@@ -21,7 +20,7 @@ ghost use Rattle.write_ids.specs.Window.{namedAt};
 ghost use Rattle.mount_state.specs.State.{Safe, Holds, SafePlaces, HoldsPlaces};
 ghost use Rattle.call_append.specs.Last.{lastUnlessBroken};
 ghost use Rattle.call_append.specs.Written.{sizeFor, Cut, Room, Written};
-ghost use Rattle.call_append.specs.Outcome.{Outcome};
+ghost use Rattle.call_append.specs.Outcome.{Outcome, appendAt};
 use area_pass::SPANS;
 use calls::BAD_PATH;
 use calls::BROKEN;
@@ -152,7 +151,7 @@ fn append_to(
     requires { ⌜ Safe (now image) m (now tables) ⌝ }
     requires { ⌜ SafePlaces (now image) m (now places) ⌝ }
     requires { ⌜ length (now text) ≤ mostAppended ⌝ }
-    ensures { λ r. ⌜ ((ds : List Descriptor) → Holds (now (image .entry)) ds m (now (tables .entry)) → HoldsPlaces (now (image .entry)) ds m (now (places .entry)) → isDirectoryId file ≡ false → Outcome (now (image .entry)) ds (now (text .entry)) (appendWhere (now (image .entry)) ds (now (text .entry)) (found file)) r (now (image .exit))) ⌝ }
+    ensures { λ r. ⌜ ((ds : List Descriptor) → Holds (now (image .entry)) ds m (now (tables .entry)) → HoldsPlaces (now (image .entry)) ds m (now (places .entry)) → isDirectoryId file ≡ false → Outcome (now (image .entry)) ds (now (text .entry)) (appendAt (now (image .entry)) ds (now (text .entry)) file) r (now (image .exit))) ⌝ }
 {
     let ids_end = BLOCK_IDS + m.blocks;
     let spots_end = BLOCK_SPOTS + m.blocks;

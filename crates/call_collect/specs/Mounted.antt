@@ -12,7 +12,8 @@ use Rattle.format.specs.Bytes.{Bytes}
 use Rattle.calls.specs.Areas.{fileAreas, scratchAreas}
 use Rattle.calls.specs.Refusal.{firstRefusal}
 use Rattle.calls.specs.Mount.{mountNumber}
-use Rattle.calls.specs.Collect.{sourceOf, collected, collectFrom, collecting, collectNumber, collectImage, collectOf, imageCollected}
+use Rattle.calls.specs.Attempt.{numberOf, leaves}
+use Rattle.calls.specs.Collect.{sourceOf, collected, collectFrom, collecting, collectOf, imageCollected}
 use Rattle.calls.specs.declared.Descriptor.{Descriptor}
 use Rattle.record_places.specs.Place.{byPlace}
 use Rattle.table_rows.specs.Parts.{lent-front}
@@ -90,7 +91,8 @@ module _ {image : Bytes} {ds : List Descriptor} {m : Mounted} {tables : List ℕ
 
   -- the answers, by the place of the source among the file areas
   from-source : (o : Option Descriptor) → sourceOf image (described (starts m tables) (spans m tables)) (m .scratch) ≡ o
-      → (collectOf image ds ≡ collectNumber (collectFrom (m .scratch) o)) × (imageCollected image ds ≡ collectImage image ds (collectFrom (m .scratch) o))
+      → (collectOf image ds ≡ numberOf (collectFrom (m .scratch) o))
+      × (imageCollected image ds ≡ leaves image (λ areas. collected image ds (areas .0) (areas .1)) (collectFrom (m .scratch) o))
   unfolding collectOf imageCollected collecting
   from-source o e =
       let f : sourceOf image (fileAreas image ds) (m .scratch) ≡ o = rw (h .files) at e in

@@ -2,26 +2,26 @@
 use Prim.Native.Nat.{ℕ, suc, _≤_, _<_}
 use mathlib.Core.Path.{_≡_, refl, sym, ap, _∙_}
 use mathlib.Core.Logic.{_≢_}
-use mathlib.Core.Bool.{Bool, true, false, cond, not, _||_}
+use mathlib.Core.Bool.{Bool, true, false, cond, not}
 use mathlib.Core.Option.{Option, none, some}
 use mathlib.Core.List.{List, [], _∷_}
 use native.Mathlib.Omega.{arith}
 use lib.ListN.{length}
-use lib.Dec.{eqb, ltb}
+use lib.Dec.{ltb}
 use borrow.Author.Tests.{eq-eqb, ne-eqb, lt-ltb, le-ltb}
 use Rattle.format.specs.Bytes.{Bytes}
 use Rattle.format.specs.Ids.{firstFileId, isDirectoryId}
 use Rattle.format.specs.Encoding.{inodeBytes}
 use Rattle.volume.specs.View.{byBytes}
 use Rattle.volume.specs.Counting.{Volume, inodeIds}
-use Rattle.volume.specs.Path.{goodPath, pathNames}
-use Rattle.volume.specs.Tree.{Found, found, absent, children, lookupNames}
+use Rattle.volume.specs.Path.{pathNames}
+use Rattle.volume.specs.Tree.{Found, found, absent, children}
 use Rattle.calls.specs.Refusal.{firstRefusal}
 use Rattle.calls.specs.Areas.{fileAreas}
 use Rattle.calls.specs.Mount.{mostInodes, volume, mountNumber}
 use Rattle.calls.specs.Storing.{Store, Space, spaces, placeAll, noPlace, storedOr, namedIds, unusedId}
-use Rattle.calls.specs.Create.{lastName, namesBefore, isRoot, firstIdOf, newId, newInode, nameChecks, createIn, Creating, creates, refuses, createWhere, creating}
-use Rattle.calls.specs.Create.{createAnswer, createImage, createOf, imageCreated}
+use Rattle.calls.specs.Attempt.{Attempt, goes, refuses, leaves, unless, atFound, attemptAt}
+use Rattle.calls.specs.Create.{lastName, firstIdOf, newId, newInode, nameChecks, createIn, creating, createAnswer, createImage, createOf, imageCreated}
 use Rattle.calls.specs.declared.Descriptor.{Descriptor}
 use Rattle.calls.specs.declared.Created.{Created}
 use Rattle.path_walk.specs.Resolved.{refusalOf}
@@ -103,12 +103,14 @@ module _ (image : Bytes) (ds : List Descriptor) (base path : Bytes) (kind : ℕ)
   abbrev pub Outcome : Created → Bytes → Type 0
   Outcome r x = (r ≡ createOf image ds base path kind) × (x ≡ imageCreated image ds base path kind)
 
-  outcome : (u : Creating) → creating image ds base path kind ≡ u → Outcome (createAnswer (volume image ds) kind u) (createImage image ds kind u)
+  outcome : (u : Attempt ℕ) → creating image ds base path kind ≡ u
+      → Outcome (createAnswer (volume image ds) kind u) (leaves image (createImage image ds kind (lastName (pathNames base path))) u)
   unfolding createOf imageCreated
-  outcome u e = (sym (ap (createAnswer (volume image ds) kind) e), sym (ap (createImage image ds kind) e))
+  outcome u e =
+      (sym (ap (createAnswer (volume image ds) kind) e), sym (ap (leaves image (createImage image ds kind (lastName (pathNames base path)))) e))
 
   not-mounted : mountNumber image ds ≢ 0 → Outcome (notCreated (mountNumber image ds)) image
-  unfolding creating
+  unfolding creating attemptAt
   not-mounted h = outcome (refuses (mountNumber image ds)) (rw (ne-eqb (mountNumber image ds) 0 h))
 
   module _ (mounted : mountNumber image ds ≡ 0) where
@@ -118,26 +120,24 @@ module _ (image : Bytes) (ds : List Descriptor) (base path : Bytes) (kind : ℕ)
     abbrev v : Volume Bytes
     v = volume image ds
 
-    creating-is : creating image ds base path kind ≡ createWhere image ds kind (lastName (pathNames base path)) (parentOf byBytes (volume image ds) base path)
-    unfolding creating
-    creating-is = rw (eq-eqb (mountNumber image ds) 0 mounted) (go (not (goodPath base path) || isRoot (pathNames base path)))
-      where
-        go : (b : Bool)
-            → cond b (refuses 8) (createWhere image ds kind (lastName (pathNames base path)) (lookupNames byBytes (volume image ds) (namesBefore (pathNames base path))))
-            ≡ createWhere image ds kind (lastName (pathNames base path)) (cond b (absent 8) (lookupNames byBytes (volume image ds) (namesBefore (pathNames base path))))
-        go true = refl
-        go false = refl
+    -- the checks at the directory d
+    abbrev checks : ℕ → ℕ
+    checks d = createIn image ds kind d name
+
+    creating-is : creating image ds base path kind ≡ atFound checks (parentOf byBytes (volume image ds) base path)
+    unfolding creating attemptAt
+    creating-is = rw mounted
 
     where-absent : (n : ℕ) → parentOf byBytes (volume image ds) base path ≡ absent n → Outcome (notCreated n) image
-    where-absent n e = outcome (refuses n) (creating-is ∙ ap (createWhere image ds kind name) e)
+    where-absent n e = outcome (refuses n) (creating-is ∙ ap (atFound checks) e)
 
     module _ (d : ℕ) (e : parentOf byBytes (volume image ds) base path ≡ found d) where
       -- where the new inode goes
       abbrev plan : Option (List Store)
       plan = placeAll (spaces image (fileAreas image ds)) (newInode (volume image ds) kind d (lastName (pathNames base path)) ∷ [])
 
-      one-in : (k : ℕ) → createIn image ds kind d name ≡ k → creating image ds base path kind ≡ cond (eqb k 0) (creates d name) (refuses k)
-      one-in k q = creating-is ∙ ap (createWhere image ds kind name) e ∙ rw q
+      one-in : (k : ℕ) → createIn image ds kind d name ≡ k → creating image ds base path kind ≡ unless k (goes d)
+      one-in k q = creating-is ∙ ap (atFound checks) e ∙ rw q
 
       -- the checks of the name, and then those of the table and of the place
       name-first : createIn image ds kind d name
@@ -167,7 +167,7 @@ module _ (image : Bytes) (ds : List Descriptor) (base path : Bytes) (kind : ℕ)
 
             go : (o : Option (List Store)) → plan ≡ o → r ≡ storedAnswer v kind o → x ≡ storedOr image o → Outcome r x
             go none p a b = let u = outcome (refuses 15) (one-in 15 (passes ∙ rw p)) in (a ∙ u .0, b ∙ u .1)
-            go (some l) p a b = let u = outcome (creates d name) (one-in 0 (passes ∙ rw p)) in (a ∙ u .0, b ∙ (sym (ap (storedOr image) p) ∙ u .1))
+            go (some l) p a b = let u = outcome (goes d) (one-in 0 (passes ∙ rw p)) in (a ∙ u .0, b ∙ (sym (ap (storedOr image) p) ∙ u .1))
 
 -- ---- by the tables of a mount
 

@@ -8,6 +8,7 @@ use Rattle.format.specs.Bytes.{Bytes}
 use Rattle.volume.specs.Tree.{Found, absent}
 use Rattle.calls.specs.Mount.{mountNumber}
 use Rattle.calls.specs.Lookup.{resolve, lookupAnswer, lookupOf, fileOnly, openAnswer, openOf}
+use Rattle.calls.specs.Attempt.{attemptAt}
 use Rattle.calls.specs.Append.{appending, appendOf, imageAppended}
 use Rattle.calls.specs.Collect.{collecting, collectOf, imageCollected}
 use Rattle.calls.specs.declared.Descriptor.{Descriptor}
@@ -30,7 +31,7 @@ path-refused {image} {ds} c base path h = rw (c .number, ne-eqb (mountNumber ima
 
 pub append-refused : {image : Bytes} {ds : List Descriptor} {m : Mounted} {t ps : List ℕ} → Mounts image ds m t ps → (base path text : Bytes) → m .number ≢ 0
     → (m .number ≡ appendOf image ds base path text) × (image ≡ imageAppended image ds base path text)
-unfolding appending appendOf imageAppended
+unfolding appending appendOf imageAppended attemptAt
 append-refused {image} {ds} c base path text h = let e = ne-eqb (mountNumber image ds) 0 (λ z. h (c .number ∙ z)) in (rw (c .number, e), rw e)
 
 pub collect-refused : {image : Bytes} {ds : List Descriptor} {m : Mounted} {t ps : List ℕ} → Mounts image ds m t ps → m .number ≢ 0

@@ -2,19 +2,18 @@
 use Prim.Native.Nat.{ℕ}
 use mathlib.Core.Path.{_≡_, refl, sym, ap, _∙_}
 use mathlib.Core.Logic.{_≢_}
-use mathlib.Core.Bool.{Bool, true, false, cond, not, _||_}
+use mathlib.Core.Bool.{Bool, true, false}
 use mathlib.Core.List.{List, []}
 use lib.Dec.{eqb}
-use borrow.Author.Tests.{eq-eqb, ne-eqb, eqb-true}
+use borrow.Author.Tests.{ne-eqb, eqb-true}
 use Rattle.format.specs.Bytes.{Bytes}
 use Rattle.format.specs.Ids.{NONE}
 use Rattle.volume.specs.View.{byBytes}
-use Rattle.volume.specs.Path.{goodPath, pathNames}
-use Rattle.volume.specs.Tree.{Found, found, absent, lookupNames}
+use Rattle.volume.specs.Tree.{Found, found, absent}
 use Rattle.calls.specs.Mount.{volume, mountNumber}
-use Rattle.calls.specs.Create.{isRoot}
-use Rattle.calls.specs.Rewrite.{rewriteNumber}
-use Rattle.calls.specs.Unlink.{unlinkOne, Unlinking, unlinks, refuses, unlinkWhat, unlinking, unlinkNumber, unlinkImage, unlinkOf, imageUnlinked}
+use Rattle.calls.specs.Rewrite.{rewriteNumber, imageRewritten}
+use Rattle.calls.specs.Attempt.{Attempt, goes, refuses, numberOf, leaves, unless, atFound, attemptAt}
+use Rattle.calls.specs.Unlink.{unlinkOne, unlinking, unlinkOf, imageUnlinked}
 use Rattle.calls.specs.declared.Descriptor.{Descriptor}
 use Rattle.path_walk.specs.Resolved.{refusalOf}
 use Rattle.path_find.specs.Tree.{belowRoot}
@@ -29,26 +28,21 @@ module _ (image : Bytes) (ds : List Descriptor) (base path : Bytes) where
   abbrev pub Outcome : ℕ → Bytes → Type 0
   Outcome r x = (r ≡ unlinkOf image ds base path) × (x ≡ imageUnlinked image ds base path)
 
-  outcome : (u : Unlinking) → unlinking image ds base path ≡ u → Outcome (unlinkNumber u) (unlinkImage image ds u)
+  outcome : (u : Attempt ℕ) → unlinking image ds base path ≡ u → Outcome (numberOf u) (leaves image (λ i. imageRewritten image ds i NONE []) u)
   unfolding unlinkOf imageUnlinked
-  outcome u e = (sym (ap unlinkNumber e), sym (ap (unlinkImage image ds) e))
+  outcome u e = (sym (ap numberOf e), sym (ap (leaves image (λ i. imageRewritten image ds i NONE [])) e))
 
   pub not-mounted : mountNumber image ds ≢ 0 → Outcome (mountNumber image ds) image
-  unfolding unlinking
+  unfolding unlinking attemptAt
   not-mounted h = outcome (refuses (mountNumber image ds)) (rw (ne-eqb (mountNumber image ds) 0 h))
 
   module _ (mounted : mountNumber image ds ≡ 0) where
-    unlinking-is : unlinking image ds base path ≡ unlinkWhat image ds (belowRoot byBytes (volume image ds) base path)
-    unfolding unlinking
-    unlinking-is = rw (eq-eqb (mountNumber image ds) 0 mounted) (go (not (goodPath base path) || isRoot (pathNames base path)))
-      where
-        go : (b : Bool) → cond b (refuses 8) (unlinkWhat image ds (lookupNames byBytes (volume image ds) (pathNames base path)))
-            ≡ unlinkWhat image ds (cond b (absent 8) (lookupNames byBytes (volume image ds) (pathNames base path)))
-        go true = refl
-        go false = refl
+    unlinking-is : unlinking image ds base path ≡ atFound (unlinkOne image ds) (belowRoot byBytes (volume image ds) base path)
+    unfolding unlinking attemptAt
+    unlinking-is = rw mounted
 
     pub what-absent : (n : ℕ) → belowRoot byBytes (volume image ds) base path ≡ absent n → Outcome n image
-    what-absent n e = outcome (refuses n) (unlinking-is ∙ ap (unlinkWhat image ds) e)
+    what-absent n e = outcome (refuses n) (unlinking-is ∙ ap (atFound (unlinkOne image ds)) e)
 
     -- the number decides, as the rewriting does
     pub what-found : (i : ℕ) → belowRoot byBytes (volume image ds) base path ≡ found i → (r : ℕ) (x : Bytes)
@@ -56,12 +50,12 @@ module _ (image : Bytes) (ds : List Descriptor) (base path : Bytes) where
     unfolding unlinkOne
     what-found i e r x a b = go (eqb r 0) refl
       where
-        one : unlinking image ds base path ≡ cond (eqb r 0) (unlinks i) (refuses r)
-        one = unlinking-is ∙ ap (unlinkWhat image ds) e ∙ rw (← a)
+        one : unlinking image ds base path ≡ unless r (goes i)
+        one = unlinking-is ∙ ap (atFound (unlinkOne image ds)) e ∙ rw (← a)
 
         go : (t : Bool) → eqb r 0 ≡ t → Outcome r x
         go true q =
-            let u = outcome (unlinks i) (one ∙ rw q) in
+            let u = outcome (goes i) (one ∙ rw q) in
             (eqb-true r 0 q ∙ u .0, b ∙ rw q (u .1))
         go false q =
             let u = outcome (refuses r) (one ∙ rw q) in

@@ -18,6 +18,7 @@ use Rattle.calls.specs.Image.{erased}
 use Rattle.calls.specs.Areas.{areaBytes, fileAreas, scratchAreas}
 use Rattle.calls.specs.Mount.{recordsOf, bytesOf, recordsIn, volume, mountNumber}
 use Rattle.calls.specs.Storing.{Store, storeAll}
+use Rattle.calls.specs.Attempt.{Attempt, goes, refuses, numberOf, leaves, unless}
 use Rattle.calls.specs.declared.Descriptor.{Descriptor}
 
 -- ---- the source area
@@ -130,34 +131,20 @@ collectStores image scratch s records =
 unfoldable pub collected : Bytes → List Descriptor → Descriptor → Descriptor → Bytes
 collected image ds scratch s = storeAll image (collectStores image scratch s (copiedRecords image ds s))
 
--- what becomes of a collect: the scratch and the source area, or a number of refusal
-pub data Collecting : Type 0 where
-  collects : Descriptor → Descriptor → Collecting
-  refuses : ℕ → Collecting
-
--- "17: no file area is as long as the scratch area"
-abbrev pub collectFrom : Descriptor → Option Descriptor → Collecting
+-- a collect goes with the scratch and the source area; 17 is "no file area is as long as the scratch area"
+abbrev pub collectFrom : Descriptor → Option Descriptor → Attempt (Descriptor × Descriptor)
 collectFrom scratch none = refuses 17
-collectFrom scratch (some s) = collects scratch s
+collectFrom scratch (some s) = goes (scratch, s)
 
-abbrev pub collectWith : Bytes → List Descriptor → List Descriptor → Collecting
+abbrev pub collectWith : Bytes → List Descriptor → List Descriptor → Attempt (Descriptor × Descriptor)
 collectWith image fs [] = refuses 3
 collectWith image fs (scratch ∷ ss) = collectFrom scratch (sourceOf image fs scratch)
 
-unfoldable pub collecting : Bytes → List Descriptor → Collecting
-collecting image ds =
-    cond (eqb (mountNumber image ds) 0) (collectWith image (fileAreas image ds) (scratchAreas image ds)) (refuses (mountNumber image ds))
-
-abbrev pub collectNumber : Collecting → ℕ
-collectNumber (collects scratch s) = 0
-collectNumber (refuses r) = r
-
-abbrev pub collectImage : Bytes → List Descriptor → Collecting → Bytes
-collectImage image ds (collects scratch s) = collected image ds scratch s
-collectImage image ds (refuses r) = image
+unfoldable pub collecting : Bytes → List Descriptor → Attempt (Descriptor × Descriptor)
+collecting image ds = unless (mountNumber image ds) (collectWith image (fileAreas image ds) (scratchAreas image ds))
 
 unfoldable pub collectOf : Bytes → List Descriptor → ℕ
-collectOf image ds = collectNumber (collecting image ds)
+collectOf image ds = numberOf (collecting image ds)
 
 unfoldable pub imageCollected : Bytes → List Descriptor → Bytes
-imageCollected image ds = collectImage image ds (collecting image ds)
+imageCollected image ds = leaves image (λ areas. collected image ds (areas .0) (areas .1)) (collecting image ds)

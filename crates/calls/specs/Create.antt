@@ -10,11 +10,12 @@ use Rattle.format.specs.Encoding.{inodeBytes}
 use Rattle.volume.specs.View.{byBytes}
 use Rattle.volume.specs.Counting.{Volume, inodeIds}
 use Rattle.volume.specs.Path.{goodPath, pathNames}
-use Rattle.volume.specs.Tree.{Found, found, absent, children, lookupNames}
+use Rattle.volume.specs.Tree.{children, lookupNames}
 use Rattle.calls.specs.Refusal.{Check, _refused-by_, firstRefusal}
 use Rattle.calls.specs.Areas.{fileAreas}
 use Rattle.calls.specs.Mount.{mostInodes, volume, mountNumber}
 use Rattle.calls.specs.Storing.{spaces, placeAll, noPlace, storedOr, namedIds, unusedId}
+use Rattle.calls.specs.Attempt.{Attempt, numberOf, leaves, attemptAt}
 use Rattle.calls.specs.declared.Descriptor.{Descriptor}
 use Rattle.calls.specs.declared.Created.{Created}
 
@@ -58,36 +59,24 @@ createIn image ds kind d n =
     ∷ (noPlace (placeAll (spaces image (fileAreas image ds)) (newInode v kind d n ∷ [])) refused-by 15)
     ∷ []))
 
--- what becomes of a create: the directory and the name, or a number of refusal
-pub data Creating : Type 0 where
-  creates : ℕ → Bytes → Creating
-  refuses : ℕ → Creating
-
-abbrev pub createWhere : Bytes → List Descriptor → ℕ → Bytes → Found → Creating
-createWhere image ds kind n (absent r) = refuses r
-createWhere image ds kind n (found d) = cond (eqb (createIn image ds kind d n) 0) (creates d n) (refuses (createIn image ds kind d n))
-
--- "create walks all but the last name"
-unfoldable pub creating : Bytes → List Descriptor → Bytes → Bytes → ℕ → Creating
+-- a create goes with the directory above: "create walks all but the last name"
+unfoldable pub creating : Bytes → List Descriptor → Bytes → Bytes → ℕ → Attempt ℕ
 creating image ds base path kind =
     let ns = pathNames base path in
-    cond (eqb (mountNumber image ds) 0)
-    (cond (not (goodPath base path) || isRoot ns)
-    (refuses 8)
-    (createWhere image ds kind (lastName ns) (lookupNames byBytes (volume image ds) (namesBefore ns))))
-    (refuses (mountNumber image ds))
+    attemptAt (mountNumber image ds) (not (goodPath base path) || isRoot ns) (lookupNames byBytes (volume image ds) (namesBefore ns))
+    (λ d. createIn image ds kind d (lastName ns))
 
-abbrev pub createAnswer : Volume Bytes → ℕ → Creating → Created
-createAnswer v kind (creates d n) = record { number = 0; id = newId v kind }
-createAnswer v kind (refuses r) = record { number = r; id = 0 }
-
-abbrev pub createImage : Bytes → List Descriptor → ℕ → Creating → Bytes
-createImage image ds kind (creates d n) =
-    storedOr image (placeAll (spaces image (fileAreas image ds)) (newInode (volume image ds) kind d n ∷ []))
-createImage image ds kind (refuses r) = image
+-- "Create .. answers the new id"
+abbrev pub createAnswer : Volume Bytes → ℕ → Attempt ℕ → Created
+createAnswer v kind t = record { number = numberOf t; id = leaves 0 (λ d. newId v kind) t }
 
 unfoldable pub createOf : Bytes → List Descriptor → Bytes → Bytes → ℕ → Created
 createOf image ds base path kind = createAnswer (volume image ds) kind (creating image ds base path kind)
 
+-- the image with the record of a new inode below the directory d, of the name n
+abbrev pub createImage : Bytes → List Descriptor → ℕ → Bytes → ℕ → Bytes
+createImage image ds kind n d = storedOr image (placeAll (spaces image (fileAreas image ds)) (newInode (volume image ds) kind d n ∷ []))
+
 unfoldable pub imageCreated : Bytes → List Descriptor → Bytes → Bytes → ℕ → Bytes
-imageCreated image ds base path kind = createImage image ds kind (creating image ds base path kind)
+imageCreated image ds base path kind =
+    leaves image (createImage image ds kind (lastName (pathNames base path))) (creating image ds base path kind)

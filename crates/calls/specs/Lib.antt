@@ -8,6 +8,7 @@ pub mod Lookup
 pub mod Read
 pub mod Format
 pub mod Storing
+pub mod Attempt
 pub mod Create
 pub mod Append
 pub mod Rewrite

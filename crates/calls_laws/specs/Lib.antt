@@ -4,3 +4,4 @@ pub mod Records
 pub mod Reads
 pub mod Unused
 pub mod Storing
+pub mod Attempt

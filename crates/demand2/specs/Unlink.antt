@@ -8,7 +8,6 @@ use mathlib.Core.List.{List, [], _∷_, _++_, List·Memᴰ, List·Memᴰ·head, 
 use native.Mathlib.Omega.{arith}
 use lib.ListN.{length}
 use lib.Dec.{T, eqb, ltb, lt→ltb}
-use borrow.Author.Tests.{eqb-true}
 use Rattle.format.specs.Bytes.{Bytes}
 use Rattle.format.specs.Ids.{NONE, firstBlockId, rootId, isInodeId}
 use Rattle.format.specs.Record.{recordId, inodeRule, nameGood}
@@ -32,11 +31,12 @@ use Rattle.calls.specs.Create.{isRoot}
 use Rattle.calls.specs.Lookup.{resolve}
 use Rattle.calls.specs.Read.{refused, give}
 use Rattle.calls.specs.Rewrite.{lastSequence, sequenceOf, rewritten, rewritePlan, rewriteNumber}
-use Rattle.calls.specs.Unlink.{deletion, unlinkOne, Unlinking, unlinks, refuses, unlinkWhat, unlinking, unlinkNumber}
-use Rattle.calls.specs.Unlink.{unlinkOf, imageUnlinked}
+use Rattle.calls.specs.Attempt.{goes}
+use Rattle.calls.specs.Unlink.{deletion, unlinkOne, unlinking, unlinkOf, imageUnlinked}
 use Rattle.calls.specs.declared.Descriptor.{Descriptor}
 use Rattle.calls_laws.specs.Checks.{Passes, passes, mounts}
 use Rattle.calls_laws.specs.Records.{volume-sound}
+use Rattle.calls_laws.specs.Attempt.{attempt-goes}
 use Rattle.demand2.specs.Store.{OneStored}
 use Rattle.demand2.specs.Places.{place-found}
 use Rattle.demand2.specs.Mounted.{agreed-inodes}
@@ -55,7 +55,7 @@ pub record UnlinkGoes (image : Bytes) (ds : List Descriptor) (base path : Bytes)
   pub not-last : sequenceOf (inodeOf byBytes (volume image ds) inode) ≢ lastSequence
   pub stores : List Store
   pub placed : placeAll (spaces image (fileAreas image ds)) (deletion (volume image ds) inode ∷ []) ≡ some stores
-  pub goes : unlinking image ds base path ≡ unlinks inode
+  pub goes : unlinking image ds base path ≡ goes inode
 
 module _ (image : Bytes) (ds : List Descriptor) (base path : Bytes) where
   abbrev before : Volume Bytes
@@ -77,48 +77,22 @@ module _ (image : Bytes) (ds : List Descriptor) (base path : Bytes) where
 
   pub unlink-goes : unlinkOf image ds base path ≡ 0 → UnlinkGoes image ds base path
   unfolding unlinkOf unlinking
-  unlink-goes e = go (eqb (mountNumber image ds) 0) refl e
-    where
-      inside : Unlinking
-      inside = unlinkWhat image ds (lookupNames byBytes before names)
-
-      behind : Unlinking
-      behind = cond (not (goodPath base path) || isRoot names) (refuses 8) inside
-
-      at : (i : ℕ) → mountNumber image ds ≡ 0 → goodPath base path ≡ true → isRoot names ≡ false → lookupNames byBytes before names ≡ found i
-          → (t : Bool) → eqb (unlinkOne image ds i) 0 ≡ t → unlinkNumber (cond t (unlinks i) (refuses (unlinkOne image ds i))) ≡ 0
-          → UnlinkGoes image ds base path
-      at i m g r q true z y =
-          let c = checked i (eqb-true _ 0 z) in
-          record {
-            mounted = m;
-            good = g;
-            named = eqb-false (length names) 0 r;
-            inode = i;
-            found-there = q;
-            not-last = c .0;
-            stores = c .1 .0;
-            placed = c .1 .1;
-            goes = rw (unlinking, m, g, r, q, z);
-          }
-      at i m g r q false z y = absurd (eqb-false _ 0 z y)
-
-      where-found : mountNumber image ds ≡ 0 → goodPath base path ≡ true → isRoot names ≡ false
-          → (o : Found) → lookupNames byBytes before names ≡ o → unlinkNumber (unlinkWhat image ds o) ≡ 0 → UnlinkGoes image ds base path
-      where-found m g r (found i) q z = at i m g r q (eqb (unlinkOne image ds i) 0) refl z
-      where-found m g r (absent k) q z = absurd (omega (arith, lookup-refused byBytes before names k q))
-
-      path-good : mountNumber image ds ≡ 0 → (t : Bool) → (not (goodPath base path) || isRoot names) ≡ t
-          → unlinkNumber (cond t (refuses 8) inside) ≡ 0 → UnlinkGoes image ds base path
-      path-good m true q z = absurd (omega arith)
-      path-good m false q z =
-          let o = or-is-false (not (goodPath base path)) (isRoot names) q in
-          where-found m (not-is-false (goodPath base path) (o .0)) (o .1) (lookupNames byBytes before names) refl z
-
-      go : (t : Bool) → eqb (mountNumber image ds) 0 ≡ t → unlinkNumber (cond t behind (refuses (mountNumber image ds))) ≡ 0
-          → UnlinkGoes image ds base path
-      go true q z = path-good (eqb-true _ 0 q) (not (goodPath base path) || isRoot names) refl z
-      go false q z = absurd (eqb-false _ 0 q z)
+  unlink-goes e =
+      let w = attempt-goes (mountNumber image ds) (unlinkOne image ds) (not (goodPath base path) || isRoot names)
+      (lookupNames byBytes before names) (lookup-refused byBytes before names) e in
+      let o = or-is-false (not (goodPath base path)) (isRoot names) (w .good) in
+      let c = checked (w .inode) (w .checked) in
+      record {
+        mounted = w .mounted;
+        good = not-is-false (goodPath base path) (o .0);
+        named = eqb-false (length names) 0 (o .1);
+        inode = w .inode;
+        found-there = w .found-there;
+        not-last = c .0;
+        stores = c .1 .0;
+        placed = c .1 .1;
+        goes = w .goes-on;
+      }
 
 -- ---- the theorem
 

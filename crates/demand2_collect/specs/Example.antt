@@ -24,6 +24,7 @@ use Rattle.calls.specs.Mount.{recordsIn, acceptedRecords, volume, badDescriptio
 use Rattle.calls.specs.Mount.{mountChecks, mountNumber}
 use Rattle.calls.specs.Storing.{spaces, firstFit, placeAll, storeAll, namedByInodes, namedByBlocks, namedIds, isAmong, unusedFrom, unusedId}
 use Rattle.calls.specs.Format.{emptyArea, formatNumber, longestLength, numbered, labelled, blanked, rooted, formatted, imageFormatted}
+use Rattle.calls.specs.Attempt.{attemptAt}
 use Rattle.calls.specs.Create.{lastName, namesBefore, firstIdOf, newId, newInode, createIn, creating, createOf, imageCreated}
 use Rattle.calls.specs.Append.{shortestLength, cutInto, piecesOf, blockRecords, newBlocks, appendTo, appending, appendOf, imageAppended}
 use Rattle.calls.specs.Rewrite.{rewritten, rewritePlan, rewriteNumber, imageRewritten}
@@ -81,9 +82,9 @@ unfolding
     goodPath pathNames isEntry isChild children walk lookupNames owns owned unnamed lastBlock chainBack fileBlocks put goodArea disjoint
     allDisjoint goodAreas fileAreas scratchAreas firstRefusal recordsIn acceptedRecords volume badDescription sharedAreaId wrongAreas
     shortScratch tooManyIds noRoot mountChecks mountNumber spaces firstFit placeAll storeAll namedByInodes namedByBlocks namedIds isAmong
-    unusedFrom unusedId emptyArea formatNumber longestLength numbered labelled blanked rooted formatted imageFormatted lastName namesBefore
-    firstIdOf newId newInode createIn creating createOf imageCreated shortestLength cutInto piecesOf blockRecords newBlocks appendTo
-    appending appendOf imageAppended deletion rewritten rewritePlan rewriteNumber imageRewritten unlinkOne unlinking unlinkOf imageUnlinked eligible precedes firstLowest sourceOf isOther
-    recordsElsewhere counts firstPlaces dropsBlock namesInode dropsInode drops copies isBlank resetStores readyStores recordStores
-    nextCount collectStores collected collecting collectOf imageCollected
+    unusedFrom unusedId emptyArea formatNumber longestLength numbered labelled blanked rooted formatted imageFormatted attemptAt lastName
+    namesBefore firstIdOf newId newInode createIn creating createOf imageCreated shortestLength cutInto piecesOf blockRecords newBlocks
+    appendTo appending appendOf imageAppended deletion rewritten rewritePlan rewriteNumber imageRewritten unlinkOne unlinking unlinkOf
+    imageUnlinked eligible precedes firstLowest sourceOf isOther recordsElsewhere counts firstPlaces dropsBlock namesInode dropsInode drops
+    copies isBlank resetStores readyStores recordStores nextCount collectStores collected collecting collectOf imageCollected
 accepted = refl

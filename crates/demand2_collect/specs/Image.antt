@@ -2,7 +2,7 @@
 use Prim.Native.Nat.{ℕ, _+_, _-_, _^_, _≤_, _<_}
 use mathlib.Core.Path.{_≡_, refl, sym, ap, _∙_}
 use mathlib.Core.Logic.{_⊎_, inl, inr, _≢_}
-use mathlib.Core.Bool.{Bool, true, false, cond, not}
+use mathlib.Core.Bool.{true, false, not}
 use mathlib.Core.Option.{Option, none, some}
 use mathlib.Core.List.{List, [], _∷_, List·Memᴰ, List·Memᴰ·eq-of-singleton, Memᴰ·cast, Memᴰ·map, Memᴰ·of-map}
 use native.Mathlib.Omega.{arith}
@@ -16,16 +16,18 @@ use Rattle.format.specs.Record.{recordSize}
 use Rattle.format.specs.Reading.{Placed, areaClean}
 use Rattle.format_laws.specs.Reading.{records-lawful}
 use Rattle.volume.specs.Lists.{keep}
-use Rattle.volume_laws.specs.Tests.{true→T, T→true, not-T→false, and-T, not-is-false, or-is-false, eqb-false, T-other}
+use Rattle.volume_laws.specs.Tests.{true→T, T→true, not-T→false, and-T, not-is-false, or-is-false, T-other}
 use Rattle.volume_laws.specs.Lists.{keep-mem, mem-keep}
 use Rattle.calls.specs.Image.{put}
 use Rattle.calls.specs.Areas.{areaEnd, areaBytes, fileAreas, scratchAreas}
 use Rattle.calls.specs.Mount.{recordsOf, bytesOf, recordsIn, acceptedRecords, volume, wrongAreas, mountNumber}
 use Rattle.calls.specs.Format.{emptyArea}
 use Rattle.calls.specs.Collect.{countOf, precedes, sourceOf, isOther, recordsElsewhere, copies, copiedRecords, nextCount, collected}
-use Rattle.calls.specs.Collect.{collects, refuses, collectFrom, collectWith, collecting, collectNumber, collectOf}
+use Rattle.calls.specs.Attempt.{goes, numberOf}
+use Rattle.calls.specs.Collect.{collectFrom, collectWith, collecting, collectOf}
 use Rattle.calls.specs.declared.Descriptor.{Descriptor}
 use Rattle.calls_laws.specs.Checks.{Passes, passes, InArea, area-fits, areas-apart}
+use Rattle.calls_laws.specs.Attempt.{unless-goes}
 use Rattle.calls_laws.specs.Records.{Stored, stored, stored-mem}
 use Rattle.image_laws.specs.Apart.{Apart}
 use Rattle.image_laws.specs.Laws.{length-put, part-put, part-outside, byte-outside}
@@ -49,21 +51,23 @@ pub record CollectGoes (image : Bytes) (ds : List Descriptor) : Type 0 where
   pub source : Descriptor
   pub one-scratch : scratchAreas image ds ≡ scratch ∷ []
   pub source-is : sourceOf image (fileAreas image ds) scratch ≡ some source
-  pub goes : collecting image ds ≡ collects scratch source
+  pub goes : collecting image ds ≡ goes (scratch, source)
 
 pub collect-goes : (image : Bytes) (ds : List Descriptor) → collectOf image ds ≡ 0 → CollectGoes image ds
 unfolding collectOf collecting wrongAreas
-collect-goes image ds e = go (eqb (mountNumber image ds) 0) refl e
+collect-goes image ds e =
+    let u = unless-goes (mountNumber image ds) (collectWith image (fileAreas image ds) (scratchAreas image ds)) e in
+    alone (scratchAreas image ds) refl (u .0) (u .1)
   where
     from : (t : Descriptor) → mountNumber image ds ≡ 0 → scratchAreas image ds ≡ t ∷ [] → (o : Option Descriptor)
         → sourceOf image (fileAreas image ds) t ≡ o
-        → collectNumber (collectFrom t o) ≡ 0 → CollectGoes image ds
+        → numberOf (collectFrom t o) ≡ 0 → CollectGoes image ds
     from t m w none q z = absurd (omega arith)
     from t m w (some s) q z = record { mounted = m; scratch = t; source = s; one-scratch = w; source-is = q; goes = rw (collecting, m, w, q) }
 
     -- check 3: exactly one
     alone : (ss : List Descriptor) → scratchAreas image ds ≡ ss → mountNumber image ds ≡ 0
-        → collectNumber (collectWith image (fileAreas image ds) ss) ≡ 0
+        → numberOf (collectWith image (fileAreas image ds) ss) ≡ 0
         → CollectGoes image ds
     alone [] w m z = absurd (omega arith)
     alone (t ∷ []) w m z = from t m w (sourceOf image (fileAreas image ds) t) refl z
@@ -72,12 +76,6 @@ collect-goes image ds e = go (eqb (mountNumber image ds) 0) refl e
         let c = not-is-false (eqb (length (scratchAreas image ds)) 1) (o .1) in
         let n = eqb-true (length (scratchAreas image ds)) 1 c in
         absurd (omega (arith, n, ap length w))
-
-    go : (b : Bool) → eqb (mountNumber image ds) 0 ≡ b
-        → collectNumber (cond b (collectWith image (fileAreas image ds) (scratchAreas image ds)) (refuses (mountNumber image ds))) ≡ 0
-        → CollectGoes image ds
-    go true q z = alone (scratchAreas image ds) refl (eqb-true _ 0 q) z
-    go false q z = absurd (eqb-false _ 0 q z)
 
 -- ---- headers
 
