@@ -7,10 +7,10 @@ use Rattle.volume.specs.Lists.{keep}
 use Rattle.volume.specs.View.{View}
 use Rattle.volume.specs.Fate.{Fate, live, dead, orphan, isLive, fateWithin}
 use Rattle.table_rows.specs.Table.{found}
-use Rattle.inode_fate.specs.declared.Fate.{Fate as Resolved}
+use Rattle.inode_fate.specs.declared.Fate.{Fate as Told}
 use Rattle.inode_fate.specs.declared.Fate.the-variants.{Live, Dead, Orphan}
 
-abbrev pub meaning : Resolved → Fate
+abbrev pub meaning : Told → Fate
 meaning Live = live
 meaning Dead = dead
 meaning Orphan = orphan

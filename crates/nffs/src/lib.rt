@@ -1,5 +1,5 @@
 // The calls of the file system, for C and Rust to link. Each takes the areas as a lent slice of structs, which C sees as a pointer and a count,
-// copies the list by `areas_of`, and goes on with the copy: one shared walk (the crate `entry_walk`) proves them.
+// copies the list by `areas_of`, and goes on with the copy: one shared walk (the crate `nffs_walk`) proves them.
 ghost use mathlib.Core.Path.{_≡_};
 ghost use lib.ListN.{length};
 ghost use Rattle.calls.specs.Format.{formatNumber, imageFormatted};
