@@ -45,7 +45,8 @@ typedef struct nffs_handle {
     uint32_t position;
 } nffs_handle;
 
-/* The number in an answer: 0, or why the call was refused. The checks are made in this order, and the first that fails is answered. */
+/* The number in an answer: 0, or why the call was refused. The checks are made in this order, and the first that fails is answered, but
+   that create and append ask 5 again just before 15, with the new records counted in, and unlink asks 16 before 15. */
 enum {
     NFFS_OK = 0,
     NFFS_BAD_AREAS = 1,           /* image over 65,536 bytes, or areas not good */
@@ -150,8 +151,8 @@ uint32_t nffs_append(uint8_t *image, size_t image_length, const nffs_area *areas
 uint32_t nffs_unlink(uint8_t *image, size_t image_length, const nffs_area *areas, size_t areas_count,
                      const uint8_t *base, size_t base_length, const uint8_t *path, size_t path_length);
 
-/* Copies what counts in one file area into scratch and erases that area, which becomes scratch: superseded and deleted records leave room
-   and damage goes. One call collects one area. */
+/* Copies what counts in one file area into scratch and erases that area, which becomes scratch: superseded records leave room,
+   deleted ones as soon as nothing else names them, and the damage of that area goes. One call collects one area. */
 uint32_t nffs_collect(uint8_t *image, size_t image_length, const nffs_area *areas, size_t areas_count);
 
 #ifdef __cplusplus

@@ -15,7 +15,8 @@ use Rattle.volume.specs.Lists.{keep, all, once}
 use Rattle.volume_laws.specs.Tests.{T→true, true→T, not-is-false}
 use Rattle.volume_laws.specs.Lists.{keep-mem, keep-whole, all-mem, mem-all, not-all, all-map}
 use Rattle.volume_laws.specs.Once.{once-nodup, once-mem, mem-once, pigeons}
-use Rattle.calls.specs.Areas.{paired, mostAreas, goodArea, fileAreas, scratchAreas}
+use Rattle.calls.specs.Areas.{mostAreas, goodArea, fileAreas, scratchAreas}
+use Rattle.area_list.specs.Numbers.{paired}
 use Rattle.calls.specs.Mount.{sharedAreaId}
 use Rattle.calls.specs.declared.Descriptor.{Descriptor}
 use Rattle.area_list.specs.Described.{areaOf, described, described-more}

@@ -12,7 +12,7 @@ use Rattle.format.specs.AreaHeader.{areaId, scratchId, validHeader, isFileArea,
 use Rattle.volume.specs.Lists.{all}
 use Rattle.volume_laws.specs.Tests.{true→T, T→true, and-T, not-is-false}
 use Rattle.volume_laws.specs.Lists.{keep-mem, all-mem, mem-all}
-use Rattle.calls.specs.Areas.{mostAreas, goodArea, allDisjoint, areaBytes, fileAreas, scratchAreas}
+use Rattle.calls.specs.Areas.{mostAreas, largestImage, goodArea, allDisjoint, areaBytes, fileAreas, scratchAreas}
 use Rattle.calls.specs.Refusal.{firstRefusal}
 use Rattle.calls.specs.Mount.{badDescription, shortScratch}
 use Rattle.calls.specs.declared.Descriptor.{Descriptor}
@@ -110,11 +110,13 @@ module _ (image : Bytes) (ds : List Descriptor) (p : AreasPass image ds) (r : Ch
   total : totalLength (described starts spans) ≤ length image
   total = rw (s .files) (files-total image ds p)
 
+  pub files-apart : totalLength (described (part 0 (r .files) rows) (part spansAt (r .files) rows)) ≤ largestImage
+  files-apart = omega (arith, total, p .description .small)
+
   pub files-lie : AreasFit image (part 0 (r .files) rows) (part spansAt (r .files) rows)
   files-lie = record {
     small = p .description .small;
     pairs = spans-long ∙ sym starts-long;
     long = λ i h. file-fits i h .long;
     inside = λ i h. file-fits i h .inside;
-    apart = omega (arith, total, p .description .small);
   }

@@ -11,7 +11,8 @@ use Rattle.format.specs.Bytes.{Bytes}
 use Rattle.volume.specs.Lists.{all}
 use Rattle.format_laws.specs.Record.{and-left, and-right}
 use Rattle.volume_laws.specs.Tests.{or-is-false, not-is-false}
-use Rattle.calls.specs.Areas.{paired, areaList, mostAreas, largestImage, goodArea, allDisjoint, goodAreas}
+use Rattle.calls.specs.Areas.{mostAreas, largestImage, goodArea, allDisjoint, goodAreas}
+use Rattle.area_list.specs.Numbers.{paired, areaList}
 use Rattle.calls.specs.Mount.{badDescription}
 use Rattle.calls.specs.declared.Descriptor.{Descriptor}
 use Rattle.area_list.specs.Listing.{Counted, counted-length}

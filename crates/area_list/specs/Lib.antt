@@ -1,4 +1,5 @@
 -- Lists of area descriptors as slices of numbers, and what check 1 finds of them.
+pub mod Numbers
 pub mod Described
 pub mod Steps
 pub mod Listing

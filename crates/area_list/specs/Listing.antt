@@ -1,4 +1,4 @@
--- The list of areas as it is lent, offset and length in turn: its entries one after the other, and where it ends.
+-- An area list as numbers, offset and length in turn: its entries one after the other, and where it ends.
 use Prim.Native.Nat.{ℕ, zero, suc, _+_, _*_, _≤_, _<_}
 use mathlib.Core.Path.{_≡_, refl, sym, ap, _∙_}
 use mathlib.Core.Bool.{Bool, true}
@@ -10,7 +10,8 @@ use lib.Seq.{drop-cons, length-take-le, take-add}
 use borrow.Author.Tests.{eq-eqb, ne-eqb}
 use Rattle.format_laws.specs.Record.{and-left, and-right}
 use Rattle.volume.specs.Lists.{all}
-use Rattle.calls.specs.Areas.{listed, paired}
+use Rattle.calls.specs.Areas.{listed}
+use Rattle.area_list.specs.Numbers.{paired}
 use Rattle.calls.specs.declared.Descriptor.{Descriptor}
 use Rattle.area_list.specs.Described.{areaOf}
 

@@ -1,11 +1,12 @@
-// Check 1: the area list as it is lent, offset and length in turn, and whether its areas are good.
+// Check 1: an area list as numbers, offset and length in turn, and whether its areas are good.
 // Behind check 1 a list of areas is two lists of one length, starts and spans; `described` is the list that they stand for.
 ghost use mathlib.Core.Path.{_≡_};
 ghost use mathlib.Core.Bool.{_&&_};
 ghost use Prim.Native.Nat.{_+_};
 ghost use lib.ListN.{length};
 ghost use Rattle.volume.specs.Lists.{all};
-ghost use Rattle.calls.specs.Areas.{paired, goodArea, disjoint, allDisjoint};
+ghost use Rattle.calls.specs.Areas.{goodArea, disjoint, allDisjoint};
+ghost use Rattle.area_list.specs.Numbers.{paired};
 ghost use Rattle.area_list.specs.Described.{areaOf};
 ghost use Rattle.area_list.specs.Listing.{Counted};
 ghost use Rattle.area_list.specs.Description.{GoodList};

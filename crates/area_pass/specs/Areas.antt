@@ -51,7 +51,7 @@ module _ (image : Bytes) (starts spans ps₀ ps : List ℕ) (k i : ℕ) (f : Fil
     area-room = record {
       header = omega (arith, area-length, f .fit .long i h);
       inside = omega (arith, area-length, f .fit .inside i h, f .fit .small);
-      room = omega (arith, area-length, total-more, t .few, t .long, f .fit .apart, f .room);
+      room = omega (arith, area-length, total-more, t .few, t .long, f .apart, f .room);
     }
 
     pub through-on : (ps′ : List ℕ) (r : ℕ) → length ps′ ≡ length ps → Listed area start ps k r ps′ → Through image starts spans ps₀ ps′ r (i + 1)
@@ -60,7 +60,7 @@ module _ (image : Bytes) (starts spans ps₀ ps : List ℕ) (k i : ℕ) (f : Fil
       within = omega arith;
       long = l ∙ t .long;
       few = omega (arith, g .few, area-length, total-more, t .few);
-      fits = omega (arith, g .few, area-length, total-more, t .few, t .long, f .fit .apart, f .room, l);
+      fits = omega (arith, g .few, area-length, total-more, t .few, t .long, f .apart, f .room, l);
       is = rw (g .is) (append-assoc (take k ps) (recordPlaces start (areaRecords recordSize area)) (placesIn image (described (drop (i + 1) starts) (drop (i + 1) spans)))
           ∙ sym (ap (λ x. take k ps ++ placesIn image x) more)) ∙ t .is;
     }

@@ -13,7 +13,7 @@ use Rattle.area_list.specs.Described.{described}
 use Rattle.area_list.specs.Places.{totalLength}
 use Rattle.calls.specs.declared.Descriptor.{Descriptor}
 
--- the places in the image of records of an area that recordPlaces at base
+-- the places in the image of the records of an area that starts at base
 unfoldable pub recordPlaces : ℕ → List Placed → List ℕ
 recordPlaces base [] = []
 recordPlaces base (r ∷ l) = (base + r .place) ∷ recordPlaces base l
@@ -33,15 +33,15 @@ pub record Listed (area : Bytes) (base : ℕ) (ps : List ℕ) (n r : ℕ) (ps′
   pub is : take r ps′ ≡ take n ps ++ recordPlaces base (areaRecords recordSize area)
   pub few : 20 * r + areaHeaderSize ≤ 20 * n + length area
 
--- file areas that lie in the image and are together no longer than it
+-- file areas that lie in the image
 pub record AreasFit (image : Bytes) (starts spans : List ℕ) : Type 0 where
   pub small : length image ≤ largestImage
   pub pairs : length spans ≡ length starts
   pub long : (i : ℕ) → i < length starts → shortestArea ≤ getD spans i 0
   pub inside : (i : ℕ) → i < length starts → getD starts i 0 + getD spans i 0 ≤ length image
-  pub apart : totalLength (described starts spans) ≤ largestImage
 
--- and a place for each record that they can hold
+-- and lie apart, so that together they are no longer than an image; and a place for each record that they can hold
 pub record Files (image : Bytes) (starts spans ps : List ℕ) : Type 0 where
   pub fit : AreasFit image starts spans
+  pub apart : totalLength (described starts spans) ≤ largestImage
   pub room : mostRecords ≤ length ps

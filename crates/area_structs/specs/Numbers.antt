@@ -8,7 +8,8 @@ use native.Mathlib.Omega.{arith}
 use lib.ListN.{length, take, replicate, set, length-append}
 use lib.Dec.{eqb, ltb}
 use borrow.Author.Tests.{eqb-false, ltb-true, ltb-false, ne-eqb}
-use Rattle.calls.specs.Areas.{listed, paired, areaList}
+use Rattle.calls.specs.Areas.{listed}
+use Rattle.area_list.specs.Numbers.{paired, areaList}
 use Rattle.calls.specs.declared.Descriptor.{Descriptor}
 use Rattle.area_structs.specs.declared.Areas.{Areas}
 use Rattle.area_structs.specs.Entries.{mostEntries, pickA, noAreas, added, goOn, areasOf, mostNumbers}

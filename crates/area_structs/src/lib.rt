@@ -3,7 +3,8 @@
 ghost use mathlib.Core.Path.{_≡_};
 ghost use Prim.Native.Nat.{_<_};
 ghost use lib.ListN.{take};
-ghost use Rattle.calls.specs.Areas.{listed, areaList};
+ghost use Rattle.calls.specs.Areas.{listed};
+ghost use Rattle.area_list.specs.Numbers.{areaList};
 ghost use Rattle.area_structs.specs.Entries.{mostEntries, noAreas, areasOf, stepOf};
 use calls::Descriptor;
 use calls::MOST_AREAS;

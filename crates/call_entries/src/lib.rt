@@ -1,4 +1,4 @@
-// The calls, each entered with its two local arrays: the image is mounted anew, and the call over the mounted volume answers.
+// The calls from image and areas. All but format mount the image anew, into two local arrays, and go on with the mounted volume.
 // The area list comes by value, as numbers; programs in Rattle call these, and the exports lend them what C lends.
 ghost use mathlib.Core.Path.{_≡_};
 ghost use lib.ListN.{length};
@@ -10,7 +10,7 @@ ghost use Rattle.calls.specs.Create.{createOf, imageCreated};
 ghost use Rattle.calls.specs.Append.{appendOf, imageAppended};
 ghost use Rattle.calls.specs.Unlink.{unlinkOf, imageUnlinked};
 ghost use Rattle.calls.specs.Collect.{collectOf, imageCollected};
-ghost use Rattle.calls.specs.Areas.{areaList};
+ghost use Rattle.area_list.specs.Numbers.{areaList};
 ghost use Rattle.path_walk.specs.Resolved.{meaning, Kinded};
 use area_structs::Areas;
 use call_append::append_mounted;

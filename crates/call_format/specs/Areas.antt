@@ -15,7 +15,8 @@ use Rattle.format.specs.AreaHeader.{areaHeaderSize, scratchId}
 use Rattle.format.specs.Encoding.{areaHeader}
 use Rattle.format_laws.specs.Encoding.{header-size}
 use Rattle.volume.specs.Lists.{all}
-use Rattle.calls.specs.Areas.{paired, mostAreas, largestImage, goodArea}
+use Rattle.calls.specs.Areas.{mostAreas, largestImage, goodArea}
+use Rattle.area_list.specs.Numbers.{paired}
 use Rattle.calls.specs.Image.{put, erased}
 use Rattle.calls.specs.Format.{emptyArea, longestLength, Labelled, numbered, labelled, blanked, rooted, rootBytes}
 use Rattle.calls.specs.declared.Descriptor.{Descriptor}

@@ -9,7 +9,7 @@ use lib.Seq.{length-take-le}
 use lib.Dec.{ltb}
 use borrow.Author.Tests.{lt-ltb, le-ltb}
 use Rattle.format.specs.Bytes.{Bytes}
-use Rattle.calls.specs.Areas.{paired, areaList}
+use Rattle.area_list.specs.Numbers.{paired, areaList}
 use Rattle.calls.specs.Refusal.{firstRefusal}
 use Rattle.calls.specs.Mount.{badDescription}
 use Rattle.calls.specs.Format.{formatNumber, formatted, imageFormatted}

@@ -1,8 +1,8 @@
-// Format: every described area erased and headed, and the root in the first file area. The areas are pairs of numbers, as they are lent.
+// Format: every described area erased and headed, and the root in the first file area. The areas are numbers, offset and length in turn.
 ghost use mathlib.Core.Path.{_≡_};
 ghost use Prim.Native.Nat.{_≤_};
 ghost use lib.ListN.{length};
-ghost use Rattle.calls.specs.Areas.{paired, areaList};
+ghost use Rattle.area_list.specs.Numbers.{paired, areaList};
 ghost use Rattle.calls.specs.Format.{longestLength, labelled, blanked, rooted, formatted, formatNumber, imageFormatted};
 ghost use Rattle.call_format.specs.Areas.{Lent, scratchHere, firstFile};
 use area_list::count_good_areas;

@@ -60,7 +60,7 @@ abbrev pub isBroken : Option (List Bytes) → Bool
 isBroken none = true
 isBroken (some bs) = false
 
--- a live file: 13, then 5 again with the new blocks counted in, then 15
+-- what a path led to: 11 for a directory, 13, then 5 again with the new blocks counted in, then 15
 unfoldable pub appendTo : Bytes → List Descriptor → ℕ → Bytes → ℕ
 appendTo image ds f text =
     let v = volume image ds in

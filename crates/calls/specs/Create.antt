@@ -38,10 +38,11 @@ isRoot ns = eqb (length ns) 0
 unfoldable pub firstIdOf : ℕ → ℕ
 firstIdOf kind = cond (eqb kind 0) rootId firstFileId
 
--- the record of a new inode of a kind, below the directory d, of the name n: "sequence 0 and the smallest id of their range"
+-- "the smallest id of their range that no accepted record names"
 unfoldable pub newId : Volume Bytes → ℕ → ℕ
 newId v kind = unusedId (firstIdOf kind) (namedIds v)
 
+-- the record of a new inode, "sequence 0", below the directory d, of the name n
 unfoldable pub newInode : Volume Bytes → ℕ → ℕ → Bytes → Bytes
 newInode v kind d n = inodeBytes (newId v kind) 0 d n
 

@@ -43,7 +43,7 @@ mostInodes = 64
 abbrev pub mostBlocks : ℕ
 mostBlocks = 256
 
--- the most records that fit in the largest image: none is shorter than an inode's header
+-- no more records than this fit in the largest image: none is shorter than an inode's header
 abbrev pub mostRecords : ℕ
 mostRecords = largestImage / inode .headerSize
 

@@ -1,4 +1,4 @@
--- An inode rewritten: what unlink stores, and document 02's rename (T-01). Document 01, refusals 16 and 15.
+-- An inode rewritten with any parent and name; unlink stores one. Document 01, refusals 16 and 15: "16 comes before 15".
 use Prim.Native.Nat.{ℕ, suc}
 use mathlib.Core.List.{List, [], _∷_}
 use mathlib.Core.Option.{Option, none, some}

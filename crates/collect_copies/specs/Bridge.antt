@@ -31,7 +31,7 @@ use Rattle.collect_copies.specs.Tests.{copies-are}
 -- ---- one area
 
 module _ (image : Bytes) where
-  -- a record recordPlaces in the area that it is read in
+  -- a record starts in the area that it is read in
   starts-in : (d : Descriptor) (r : Placed) → List·Memᴰ r (recordsOf image d) → r .place < d .length
   starts-in d r m =
       let k = from-each recordSize records-lawful (areaBytes image d) areaHeaderSize r (rw (records-from recordSize (areaBytes image d)) at m) in

@@ -33,6 +33,7 @@ use Rattle.calls_laws.specs.Unused.{Smallest, unused-smallest}
 use Rattle.demand2.specs.Added.{Same, Added, added-ids, same-count}
 use Rattle.demand2.specs.Mounted.{agreed-blocks, agreed-inodes, accepted-kind, few-ids, ids-few, blocks-added, inodes-same, still-passes}
 use Rattle.demand2.specs.NewRecord.{IsBlock, block-made}
+use Rattle.demand2.specs.Unused.{mostNamed}
 use Rattle.demand2.specs.NewBlock.{other-blocks, new-last, new-blocks}
 use Rattle.demand2.specs.Cut.{GoodPiece}
 
@@ -54,9 +55,9 @@ previous-rule id previous (inr h) = rw (
   T→true {b = ltb previous NONE} (lt→ltb previous NONE (h .1)),
 )
 
--- names leave ids enough
+-- the names of a volume and of what one append adds; they leave ids enough
 abbrev pub mostNames : ℕ
-mostNames = 3000000
+mostNames = mostNamed + mostBlocks
 
 abbrev next : List ℕ → ℕ
 next names = unusedId firstBlockId names

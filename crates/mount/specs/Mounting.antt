@@ -20,7 +20,7 @@ use Rattle.calls.specs.declared.Descriptor.{Descriptor}
 use Rattle.calls_laws.specs.Records.{records-sound}
 use Rattle.area_list.specs.Described.{described, described-length}
 use Rattle.area_kinds.specs.Checks.{recordChecks, mount-refused, mount-goes-on, Checked, Split}
-use Rattle.area_kinds.specs.Places.{AreasPass, checked-pass, files-lie}
+use Rattle.area_kinds.specs.Places.{AreasPass, checked-pass, files-apart, files-lie}
 use Rattle.area_kinds.specs.declared.CheckedAreas.{CheckedAreas}
 use Rattle.area_pass.specs.Listing.{placesIn, AreasFit}
 use Rattle.area_pass.specs.Reading.{readingOf}
@@ -71,7 +71,7 @@ module _ (image : Bytes) (ds : List Descriptor) (a : CheckedAreas) (t : List ℕ
     some-file = omega (arith, passed .kinds .some, ap length (split .files), described-length (part 0 (a .files) t) (part spansAt (a .files) t) (sym (fits .pairs)), length-take (a .files) t)
 
     pub pass-lent : (places : List ℕ) → length places ≡ mostRecords → PassLent image t (a .files) places
-    pass-lent places h = record { long = omega (arith, long); few = split .few; files-are = record { fit = fits; room = omega arith } }
+    pass-lent places h = record { long = omega (arith, long); few = split .few; files-are = record { fit = fits; apart = files-apart image ds passed a t split (omega (arith, long)); room = omega arith } }
 
     -- n places are listed, and the tables u have the readings of the areas
     module _ (n : ℕ) (ps u : List ℕ) (l : take n ps ≡ placesIn image (described (part 0 (a .files) t) (part spansAt (a .files) t)))

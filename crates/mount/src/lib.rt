@@ -1,6 +1,6 @@
 // Mounting: checks 1 to 7, the places of all records, and the tables of the inodes and of the blocks that count.
 ghost use mathlib.Core.Path.{_≡_};
-ghost use Rattle.calls.specs.Areas.{areaList};
+ghost use Rattle.area_list.specs.Numbers.{areaList};
 ghost use Rattle.mount_state.specs.State.{Lent, Mounts, refusedMount};
 ghost use Rattle.mount.specs.Filling.{Ready, Fills};
 use area_kinds::check_areas;

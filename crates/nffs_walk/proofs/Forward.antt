@@ -47,7 +47,8 @@ use denote.Triple.Statement.{Contract, Triple}
 use denote.Triple.Call.{calls-at}
 use denote.Triple.Table.{entered, cited}
 use denote.Triple.Clauses.{Ended, Clauses, Lasts, ensured, closing, lasts}
-use Rattle.calls.specs.Areas.{listed, areaList}
+use Rattle.calls.specs.Areas.{listed}
+use Rattle.area_list.specs.Numbers.{areaList}
 use Rattle.calls.specs.declared.Descriptor.{Descriptor}
 use Rattle.calls.proofs.Descriptor as D
 use Rattle.area_structs.specs.Entries.{mostEntries, areasOf}

@@ -1,4 +1,4 @@
-// What reads and writes of a mounted volume ask first: what a path leads to, the parent and the last name of a path, the sequence of an inode.
+// What lookup, open and the writes of a mounted volume ask first: what a path leads to, the parent and the last name of a path, the sequence of an inode.
 ghost use mathlib.Core.Path.{_≡_};
 ghost use mathlib.Core.List.{List};
 ghost use mathlib.Core.Bool.{true};

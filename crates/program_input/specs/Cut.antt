@@ -7,7 +7,8 @@ use native.Mathlib.Numerals.{add-one}
 use lib.ListN.{length, set, replicate}
 use borrow.Author.Tests.{eq-eqb, ne-eqb, le-leb, lt-leb}
 use Rattle.format.specs.Bytes.{Bytes}
-use Rattle.calls.specs.Areas.{listed, paired, areaList, mostAreas}
+use Rattle.calls.specs.Areas.{listed, mostAreas}
+use Rattle.area_list.specs.Numbers.{paired, areaList}
 use Rattle.calls.specs.Report.{refusedReport, reportOf}
 use Rattle.calls.specs.declared.Descriptor.{Descriptor}
 use Rattle.area_structs.specs.Entries.{mostNumbers}

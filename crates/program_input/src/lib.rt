@@ -1,7 +1,8 @@
 // The report of document 01's program: its input cut into areas of 4,096 bytes.
 ghost use mathlib.Core.Path.{_≡_};
 ghost use Prim.Native.Nat.{_≤_};
-ghost use Rattle.calls.specs.Areas.{areaList, mostAreas};
+ghost use Rattle.calls.specs.Areas.{mostAreas};
+ghost use Rattle.area_list.specs.Numbers.{areaList};
 ghost use Rattle.calls.specs.Program.{cutAreas, programReport};
 use area_structs::Areas;
 use area_structs::NUMBERS;

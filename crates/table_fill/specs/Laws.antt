@@ -17,7 +17,7 @@ use Rattle.volume.specs.Counting.{Volume, volumeOf, allAgree, idsOf}
 use Rattle.volume_laws.specs.Lists.{keep-append, keep-mem, mem-keep}
 use Rattle.volume_laws.specs.Counting.{fewer-ids}
 use Rattle.record_places.specs.Place.{blockAt, byPlace, Lies, AllLie}
-use Rattle.table_words.specs.Occupancy.{capacity}
+use Rattle.table_words.specs.Occupancy.{capacity, mostWords}
 use Rattle.table_words.specs.Laws.{total-within, fresh-total}
 use Rattle.table_rows.specs.Table.{taken, Updates}
 use Rattle.table_rows.specs.Laws.{ids-room, getD-mem, rows-number, empty-rows, fresh-good, updates-good, updates-rows, updates-newer, updates-full}
@@ -107,7 +107,7 @@ module _ (F : View ℕ) where
 -- ---- tables whose words are all zero
 
 -- they are ready for the places of whole records, whatever their ids and spots are
-pub fresh-ready : (image : Bytes) (places : List ℕ) (n a b : ℕ) (ii is bi bs : List ℕ) → a ≤ 1024 → b ≤ 1024
+pub fresh-ready : (image : Bytes) (places : List ℕ) (n a b : ℕ) (ii is bi bs : List ℕ) → a ≤ mostWords → b ≤ mostWords
     → length ii ≡ a * 64 → length is ≡ a * 64 → length bi ≡ b * 64 → length bs ≡ b * 64
     → n ≤ length places → AllLie image places n → SameKind (byPlace image) (take n places)
     → Ready image places n (tables (replicate a 0) ii is (replicate b 0) bi bs)

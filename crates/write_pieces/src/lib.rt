@@ -64,7 +64,7 @@ fn smaller(a: usize, b: usize) -> usize
     b
 }
 
-// The greatest block size of writers, by the shortest file area's length: the one function that knows this rule.
+// The greatest block size of writers, by the shortest file area's length; `LEAST_BLOCK` is its value beside the shortest area that there may be.
 pub fn greatest_block(shortest: u32) -> usize
     requires { ⌜ shortestArea ≤ shortest ⌝ }
     ensures { λ r. ⌜ r ≡ greatestBlock shortest ⌝ }

@@ -3,7 +3,8 @@ use Prim.Native.Nat.{_+_, _*_, _-_, _≤_}
 use mathlib.Core.Path.{_≡_, sym, ap₂, _∙_}
 use mathlib.Core.Bool.{false}
 use lib.ListN.{length, take, length-take}
-use Rattle.calls.specs.Areas.{areaList, mostAreas}
+use Rattle.calls.specs.Areas.{mostAreas}
+use Rattle.area_list.specs.Numbers.{areaList}
 use Rattle.calls.specs.Mount.{badDescription}
 use Rattle.area_list.specs.Described.{described}
 use Rattle.area_list.specs.Description.{listed-good, description-good}

@@ -3,7 +3,8 @@ use Prim.Native.Nat.{_+_, _*_, _-_}
 use mathlib.Core.Path.{_≡_, sym, _∙_}
 use native.Mathlib.Omega.{arith}
 use lib.ListN.{length, drop}
-use Rattle.calls.specs.Areas.{paired, disjoint, allDisjoint}
+use Rattle.calls.specs.Areas.{disjoint, allDisjoint}
+use Rattle.area_list.specs.Numbers.{paired}
 use Rattle.format_laws.specs.Bytes.{rest-part}
 use Rattle.format_laws.specs.Tests.{via}
 use Rattle.area_list.specs.Listing.{pair-step, paired-end}

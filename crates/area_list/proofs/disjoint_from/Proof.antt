@@ -4,7 +4,8 @@ use native.Mathlib.Omega.{arith}
 use mathlib.Core.Path.{_≡_, refl, sym, _∙_}
 use lib.ListN.{length, drop}
 use Rattle.volume.specs.Lists.{all}
-use Rattle.calls.specs.Areas.{paired, disjoint}
+use Rattle.calls.specs.Areas.{disjoint}
+use Rattle.area_list.specs.Numbers.{paired}
 use Rattle.format_laws.specs.Tests.{via}
 use Rattle.area_list.specs.Described.{areaOf}
 use Rattle.area_list.specs.Listing.{pair-step, paired-end}

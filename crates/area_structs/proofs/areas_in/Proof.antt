@@ -42,7 +42,8 @@ use denote.Triple.Clauses.{ensured, lasts}
 use denote.Triple.Table.{entered, cited}
 use denote.Triple.Walked.{says, Stays, stay-dropped, walkOf, goes-dropped, Walks, ends-at, walked, walk-meets}
 use denote.Exit.{yes}
-use Rattle.calls.specs.Areas.{listed, areaList}
+use Rattle.calls.specs.Areas.{listed}
+use Rattle.area_list.specs.Numbers.{areaList}
 use Rattle.area_structs.specs.Entries.{mostEntries, areasOf}
 use Rattle.calls.specs.declared.Descriptor.{Descriptor}
 use Rattle.area_structs.specs.declared.Areas.{Areas}

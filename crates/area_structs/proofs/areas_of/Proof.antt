@@ -49,7 +49,7 @@ use denote.Triple.Clauses.{ensured, lasts}
 use denote.Triple.Table.{entered, cited}
 use denote.Triple.Walked.{says, Stays, stay-none-slice, walkOf, goes-none-slice, Walks, ends-at, walked, walk-meets}
 use denote.Exit.{yes}
-use Rattle.calls.specs.Areas.{areaList}
+use Rattle.area_list.specs.Numbers.{areaList}
 use Rattle.area_structs.specs.Entries.{noAreas, goOn, areasOf, stepOf}
 use Rattle.area_structs.specs.Numbers.{areas-listed}
 use Rattle.calls.specs.declared.Descriptor.{Descriptor}

@@ -1,5 +1,5 @@
 -- `call_entries::append_of` meets its contract.
-use Rattle.calls.specs.Areas.{areaList}
+use Rattle.area_list.specs.Numbers.{areaList}
 use Rattle.call_entries.specs.Calls.{append-refused}
 use borrow.Author.Needs.{needs}
 use Rattle.call_entries.proofs.append_of.Statement.{statement}

@@ -1,5 +1,5 @@
 -- `call_entries::collect_of` meets its contract.
-use Rattle.calls.specs.Areas.{areaList}
+use Rattle.area_list.specs.Numbers.{areaList}
 use Rattle.call_entries.specs.Calls.{collect-refused}
 use borrow.Author.Needs.{needs}
 use Rattle.call_entries.proofs.collect_of.Statement.{statement}

@@ -1,5 +1,5 @@
 -- `call_entries::create_of` meets its contract.
-use Rattle.calls.specs.Areas.{areaList}
+use Rattle.area_list.specs.Numbers.{areaList}
 use Rattle.call_create.specs.Creating.{create-refused}
 use borrow.Author.Needs.{needs}
 use Rattle.call_entries.proofs.create_of.Statement.{statement}

@@ -1,6 +1,6 @@
 -- `call_entries::lookup_of` meets its contract.
 use mathlib.Core.Path.{_∙_}
-use Rattle.calls.specs.Areas.{areaList}
+use Rattle.area_list.specs.Numbers.{areaList}
 use Rattle.path_walk.specs.Resolved.{meaning}
 use Rattle.call_entries.specs.Calls.{lookup-is}
 use borrow.Author.Needs.{needs}

@@ -1,5 +1,5 @@
 -- `call_entries::read_at_of` meets its contract.
-use Rattle.calls.specs.Areas.{areaList}
+use Rattle.area_list.specs.Numbers.{areaList}
 use Rattle.call_read.specs.Reads.{read-refused}
 use borrow.Author.Needs.{needs}
 use Rattle.call_entries.proofs.read_at_of.Statement.{statement}

@@ -4,7 +4,7 @@ use mathlib.Core.Path.{_≡_}
 use native.Mathlib.Omega.{arith}
 use borrow.Author.Needs.{needs}
 use lib.ListN.{length}
-use Rattle.calls.specs.Areas.{areaList}
+use Rattle.area_list.specs.Numbers.{areaList}
 use Rattle.calls.specs.Read.{Given, given, refused, readGiven, readAnswer, handleAfter}
 use Rattle.calls.specs.declared.Handle.{Handle}
 use Rattle.calls.specs.declared.ReadAnswer.{ReadAnswer}

@@ -1,5 +1,5 @@
 -- `call_entries::report_of` meets its contract.
-use Rattle.calls.specs.Areas.{areaList}
+use Rattle.area_list.specs.Numbers.{areaList}
 use Rattle.call_report.specs.Counts.{report-refused}
 use borrow.Author.Needs.{needs}
 use Rattle.call_entries.proofs.report_of.Statement.{statement}

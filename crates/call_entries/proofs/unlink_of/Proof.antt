@@ -1,5 +1,5 @@
 -- `call_entries::unlink_of` meets its contract.
-use Rattle.calls.specs.Areas.{areaList}
+use Rattle.area_list.specs.Numbers.{areaList}
 use Rattle.call_unlink.specs.Unlinking.{unlink-refused}
 use borrow.Author.Needs.{needs}
 use Rattle.call_entries.proofs.unlink_of.Statement.{statement}

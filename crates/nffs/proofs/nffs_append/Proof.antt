@@ -9,7 +9,8 @@ use types.Kit.{ !, _$_}
 use denote.Builtin.{u8}
 use denote.Plain.{uint-lawful}
 use denote.Triple.Clauses.{ensured}
-use Rattle.calls.specs.Areas.{listed, areaList}
+use Rattle.calls.specs.Areas.{listed}
+use Rattle.area_list.specs.Numbers.{areaList}
 use Rattle.calls.specs.Append.{appendOf, imageAppended}
 use Rattle.calls.specs.declared.Descriptor.{Descriptor}
 use Rattle.area_structs.specs.Cut.{append-whole, appended-whole}

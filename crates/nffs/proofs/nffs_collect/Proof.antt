@@ -9,7 +9,8 @@ use types.Kit.{ !, _$_}
 use denote.Builtin.{u8}
 use denote.Plain.{uint-lawful}
 use denote.Triple.Clauses.{ensured}
-use Rattle.calls.specs.Areas.{listed, areaList}
+use Rattle.calls.specs.Areas.{listed}
+use Rattle.area_list.specs.Numbers.{areaList}
 use Rattle.calls.specs.Collect.{collectOf, imageCollected}
 use Rattle.area_structs.specs.Cut.{collect-whole, collected-whole}
 use Rattle.nffs_walk.proofs.Frame.{start, holding}

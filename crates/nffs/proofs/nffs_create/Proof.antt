@@ -8,7 +8,8 @@ use types.Kit.{ !, _$_}
 use denote.Builtin.{u8}
 use denote.Struct.Laws as LL
 use denote.Triple.Clauses.{ensured}
-use Rattle.calls.specs.Areas.{listed, areaList}
+use Rattle.calls.specs.Areas.{listed}
+use Rattle.area_list.specs.Numbers.{areaList}
 use Rattle.calls.specs.Create.{createOf, imageCreated}
 use Rattle.calls.specs.declared.Descriptor.{Descriptor}
 use Rattle.calls.proofs.Created as Q

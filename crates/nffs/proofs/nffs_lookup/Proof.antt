@@ -7,7 +7,8 @@ use types.Kit.{ ! }
 use denote.Builtin.{u8}
 use denote.Struct.Laws as LL
 use denote.Triple.Clauses.{ensured}
-use Rattle.calls.specs.Areas.{listed, areaList}
+use Rattle.calls.specs.Areas.{listed}
+use Rattle.area_list.specs.Numbers.{areaList}
 use Rattle.calls.specs.Lookup.{lookupOf}
 use Rattle.calls.specs.declared.Descriptor.{Descriptor}
 use Rattle.calls.proofs.Lookup as Q

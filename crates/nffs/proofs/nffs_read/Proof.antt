@@ -31,7 +31,8 @@ use denote.Triple.Spec.{tripleOf}
 use denote.Triple.Statement.{Contract}
 use denote.Triple.Call.{calls-at}
 use denote.Triple.Clauses.{ensured, Lasts, lasts, atExit}
-use Rattle.calls.specs.Areas.{listed, areaList}
+use Rattle.calls.specs.Areas.{listed}
+use Rattle.area_list.specs.Numbers.{areaList}
 use Rattle.calls.specs.Read.{Given as Gives, readGiven, readAnswer, bufferAfter, handleAfter}
 use Rattle.calls.specs.declared.Descriptor.{Descriptor}
 use Rattle.calls.specs.declared.Handle.{Handle}

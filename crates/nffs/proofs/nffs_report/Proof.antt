@@ -7,7 +7,8 @@ use types.Kit.{ ! }
 use denote.Builtin.{u8}
 use denote.Struct.Laws as LL
 use denote.Triple.Clauses.{ensured}
-use Rattle.calls.specs.Areas.{listed, areaList}
+use Rattle.calls.specs.Areas.{listed}
+use Rattle.area_list.specs.Numbers.{areaList}
 use Rattle.calls.specs.Report.{reportOf}
 use Rattle.calls.proofs.Report as Q
 use Rattle.calls.proofs.Report.Laws as Q′

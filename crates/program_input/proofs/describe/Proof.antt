@@ -5,7 +5,7 @@ use mathlib.Core.List.{List}
 use native.Mathlib.Omega.{arith}
 use lib.ListN.{set}
 use borrow.Author.Needs.{needs}
-use Rattle.calls.specs.Areas.{areaList}
+use Rattle.area_list.specs.Numbers.{areaList}
 use Rattle.program_input.specs.Cut.{flat, described, describe-more, describe-done}
 use Rattle.program_input.proofs.describe.Statement.{statement}
 use Rattle.program_input.proofs.describe.Tie as tie
