@@ -5,9 +5,8 @@
  * No call allocates, panics or runs for ever, for any bytes. A refused call changes no byte of image, buffer or handle.
  *
  *   image   0 to 65,536 bytes, the flash.
- *   areas   offset and length of each area in turn, 32 bits each: the layout of an array of nffs_area. The list ends at the first length 0
- *           or at its end; an odd last number is not looked at. Good are 1 to 8 areas of 128 to 65,536 bytes, inside the image, none
- *           overlapping.
+ *   areas   offset and length of each area. The list ends at the first length 0 or at its end; what stands behind is not looked at. Good
+ *           are 1 to 8 areas of 128 to 65,536 bytes, inside the image, none overlapping.
  *   base    what a path without a leading slash is taken below: a good absolute path. Otherwise it is not looked at and may be empty.
  *   path    1 to 1,024 bytes: "/", or names of 1 to 255 bytes parted by single slashes, none at the end, no NUL. Nothing has to stand
  *           behind it.
@@ -18,7 +17,7 @@
  * compiler does with the prototypes below.
  *
  * What the caller owes, because the proofs take it for granted:
- *   - a pointer is never null, for an empty slice neither, and those to uint32_t and nffs_handle are aligned for it;
+ *   - a pointer is never null, for an empty slice neither, and those to nffs_area and nffs_handle are aligned for it;
  *   - so many elements are there, and nobody else writes them while the call runs;
  *   - what a call may write (image of a write, buffer, handle) overlaps no other argument.
  * The functions nffs_volume_* at the end see to the pointers of empty slices, and take paths as C strings.
@@ -46,7 +45,8 @@ typedef struct nffs_handle {
     uint32_t position;
 } nffs_handle;
 
-/* The number in an answer: 0, or why the call was refused. The checks are made in this order, and the first that fails is answered. */
+/* The number in an answer: 0, or why the call was refused. The checks are made in this order, and the first that fails is answered, but
+   that create and append ask 5 again just before 15, with the new records counted in, and unlink asks 16 before 15. */
 enum {
     NFFS_OK = 0,
     NFFS_BAD_AREAS = 1,           /* image over 65,536 bytes, or areas not good */
@@ -112,50 +112,48 @@ typedef struct nffs_create_answer {
     uint32_t id;
 } nffs_create_answer;
 
-/*
- * The calls of the archive. Each length stands behind its pointer and counts elements: bytes, or for areas 32-bit numbers, two an area.
- */
+/* The calls of the archive. Behind each pointer to more than one element stands how many there are: bytes, or areas. */
 
 /* Erases the areas and makes an empty volume of them: the longest, first among equals, is scratch, and the others are file areas. Needs two
    areas. */
-uint32_t nffs_format(uint8_t *image, size_t image_length, const uint32_t *areas, size_t areas_length);
+uint32_t nffs_format(uint8_t *image, size_t image_length, const nffs_area *areas, size_t areas_count);
 
 /* The state of a volume: whether it mounts, and what is in it. */
-nffs_report_answer nffs_report(const uint8_t *image, size_t image_length, const uint32_t *areas, size_t areas_length);
+nffs_report_answer nffs_report(const uint8_t *image, size_t image_length, const nffs_area *areas, size_t areas_count);
 
 /* What a path leads to: id and kind. */
-nffs_lookup_answer nffs_lookup(const uint8_t *image, size_t image_length, const uint32_t *areas, size_t areas_length,
+nffs_lookup_answer nffs_lookup(const uint8_t *image, size_t image_length, const nffs_area *areas, size_t areas_count,
                                const uint8_t *base, size_t base_length, const uint8_t *path, size_t path_length);
 
 /* Opens the file of a path, at position 0. */
-nffs_open_answer nffs_open(const uint8_t *image, size_t image_length, const uint32_t *areas, size_t areas_length,
+nffs_open_answer nffs_open(const uint8_t *image, size_t image_length, const nffs_area *areas, size_t areas_count,
                            const uint8_t *base, size_t base_length, const uint8_t *path, size_t path_length);
 
 /* Reads from the handle's position on into the front of the buffer, as much as buffer and file allow, and moves the position behind what
    was given. At the end of the file it gives 0 bytes. */
-nffs_read_answer nffs_read(const uint8_t *image, size_t image_length, const uint32_t *areas, size_t areas_length,
+nffs_read_answer nffs_read(const uint8_t *image, size_t image_length, const nffs_area *areas, size_t areas_count,
                            nffs_handle *handle, uint8_t *buffer, size_t buffer_length);
 
 /* The same with id and position by value. */
-nffs_read_answer nffs_read_at(const uint8_t *image, size_t image_length, const uint32_t *areas, size_t areas_length,
+nffs_read_answer nffs_read_at(const uint8_t *image, size_t image_length, const nffs_area *areas, size_t areas_count,
                               uint32_t id, uint32_t position, uint8_t *buffer, size_t buffer_length);
 
 /* Creates an empty directory or file. */
-nffs_create_answer nffs_create(uint8_t *image, size_t image_length, const uint32_t *areas, size_t areas_length,
+nffs_create_answer nffs_create(uint8_t *image, size_t image_length, const nffs_area *areas, size_t areas_count,
                                const uint8_t *base, size_t base_length, const uint8_t *path, size_t path_length, uint32_t kind);
 
 /* Appends data to a file, all of it or nothing; at most NFFS_APPEND_MOST bytes. */
-uint32_t nffs_append(uint8_t *image, size_t image_length, const uint32_t *areas, size_t areas_length,
+uint32_t nffs_append(uint8_t *image, size_t image_length, const nffs_area *areas, size_t areas_count,
                      const uint8_t *base, size_t base_length, const uint8_t *path, size_t path_length,
                      const uint8_t *data, size_t data_length);
 
 /* Deletes a file, or a directory with what lies below it. */
-uint32_t nffs_unlink(uint8_t *image, size_t image_length, const uint32_t *areas, size_t areas_length,
+uint32_t nffs_unlink(uint8_t *image, size_t image_length, const nffs_area *areas, size_t areas_count,
                      const uint8_t *base, size_t base_length, const uint8_t *path, size_t path_length);
 
-/* Copies what counts in one file area into scratch and erases that area, which becomes scratch: superseded and deleted records leave room
-   and damage goes. One call collects one area. */
-uint32_t nffs_collect(uint8_t *image, size_t image_length, const uint32_t *areas, size_t areas_length);
+/* Copies what counts in one file area into scratch and erases that area, which becomes scratch: superseded records leave room,
+   deleted ones as soon as nothing else names them, and the damage of that area goes. One call collects one area. */
+uint32_t nffs_collect(uint8_t *image, size_t image_length, const nffs_area *areas, size_t areas_count);
 
 #ifdef __cplusplus
 #define NFFS_HOLDS(what, words) static_assert(what, words)
@@ -202,7 +200,7 @@ typedef struct nffs_volume {
     uint8_t *image;
     size_t image_length;
     const nffs_area *areas;
-    size_t area_count;
+    size_t areas_count;
 } nffs_volume;
 
 /* A pointer that may be handed over: that of an empty slice must not be null, and is never followed. */
@@ -215,9 +213,9 @@ static inline uint8_t *nffs_bytes_to_write(void *bytes, size_t length) {
     return length == 0 ? &none : (uint8_t *)bytes;
 }
 
-static inline const uint32_t *nffs_numbers(const nffs_area *areas, size_t area_count) {
-    static const uint32_t none = 0;
-    return area_count == 0 ? &none : (const uint32_t *)areas;
+static inline const nffs_area *nffs_areas(const nffs_area *areas, size_t areas_count) {
+    static const nffs_area none = {0, 0};
+    return areas_count == 0 ? &none : areas;
 }
 
 static inline size_t nffs_text_length(const char *text) {
@@ -226,7 +224,7 @@ static inline size_t nffs_text_length(const char *text) {
 
 /* The four arguments that every call begins with, and the two of a C string. */
 #define NFFS_IMAGE_(v) \
-    nffs_bytes_to_write((v)->image, (v)->image_length), (v)->image_length, nffs_numbers((v)->areas, (v)->area_count), 2 * (v)->area_count
+    nffs_bytes_to_write((v)->image, (v)->image_length), (v)->image_length, nffs_areas((v)->areas, (v)->areas_count), (v)->areas_count
 #define NFFS_TEXT_(t) nffs_bytes(t, nffs_text_length(t)), nffs_text_length(t)
 
 /* The calls on a volume. base and path are C strings; a null base is an empty one. */

@@ -50,25 +50,75 @@ static void layouts(void) {
         uint32_t after[4];
     } report;
     memset(&report, 0xa5, sizeof report);
-    report.answer = nffs_report(image, sizeof image, nffs_numbers(areas, 2), 4);
+    report.answer = nffs_report(image, sizeof image, areas, 2);
     CHECK(report.answer.number == NFFS_OK && report.answer.inodes == 1 && report.answer.live == 1);
     CHECK(report.answer.stretches == 0 && report.answer.skipped == 0);
     CHECK(all((const uint8_t *)report.before, sizeof report.before, 0xa5));
     CHECK(all((const uint8_t *)report.after, sizeof report.after, 0xa5));
 
     const nffs_lookup_answer root =
-        nffs_lookup(image, sizeof image, nffs_numbers(areas, 2), 4, (const uint8_t *)"", 0, (const uint8_t *)"/", 1);
+        nffs_lookup(image, sizeof image, areas, 2, (const uint8_t *)"", 0, (const uint8_t *)"/", 1);
     CHECK(root.number == NFFS_OK && root.id == 0 && root.kind == NFFS_DIRECTORY);
 }
 
+/* What a list of areas is: up to its end mark or its end, of any length. Every call is asked, and none changes what it refuses. */
+static uint32_t number_of(int call, const nffs_area *list, size_t count) {
+    nffs_handle handle = {0, 0};
+    uint8_t byte = 0;
+    const uint8_t *const path = (const uint8_t *)"/";
+    switch (call) {
+    case 0: return nffs_report(image, sizeof image, list, count).number;
+    case 1: return nffs_lookup(image, sizeof image, list, count, path, 0, path, 1).number;
+    case 2: return nffs_open(image, sizeof image, list, count, path, 0, path, 1).number;
+    case 3: return nffs_read(image, sizeof image, list, count, &handle, &byte, 1).number;
+    case 4: return nffs_read_at(image, sizeof image, list, count, 0, 0, &byte, 1).number;
+    case 5: return nffs_create(image, sizeof image, list, count, path, 0, path, 1, NFFS_FILE).number;
+    case 6: return nffs_append(image, sizeof image, list, count, path, 0, path, 1, &byte, 0);
+    case 7: return nffs_unlink(image, sizeof image, list, count, path, 0, path, 1);
+    case 8: return nffs_collect(image, sizeof image, list, count);
+    default: return nffs_format(image, sizeof image, list, count);
+    }
+}
+
 static void area_lists(void) {
-    static const uint32_t odd[] = {0, SIZE, SIZE, SIZE, 77};
-    static const uint32_t ended[] = {0, SIZE, SIZE, SIZE, 5, 0, 1, 1};
-    CHECK(nffs_report(image, sizeof image, odd, 5).number == NFFS_OK);
-    CHECK(nffs_report(image, sizeof image, ended, 8).number == NFFS_OK);
-    CHECK(nffs_report(image, sizeof image, odd, 3).number == NFFS_NO_FILE_OR_SCRATCH);
-    CHECK(nffs_report(image, sizeof image - 1, odd, 4).number == NFFS_BAD_AREAS);
-    CHECK(nffs_report(image, sizeof image, ended + 5, 2).number == NFFS_BAD_AREAS);
+    /* what each call answers about the root of a good volume, and whether it leaves the image as it is */
+    static const uint32_t of_root[] = {NFFS_OK, NFFS_OK, NFFS_WRONG_KIND, NFFS_WRONG_KIND, NFFS_WRONG_KIND, NFFS_BAD_PATH, NFFS_WRONG_KIND, NFFS_BAD_PATH};
+    enum { MOST = 12 };
+    nffs_area list[MOST];
+    keep();
+    for (size_t end = 0; end < MOST; end++) {
+        for (size_t i = 0; i < MOST; i++) {
+            list[i] = i < 2 ? areas[i] : (nffs_area){9, 9};
+        }
+        /* the mark at each place, and behind it what would be bad; then the same list with its end there */
+        list[end].length = 0;
+        const uint32_t expected = end == 0 ? NFFS_BAD_AREAS : end == 1 ? NFFS_NO_FILE_OR_SCRATCH : end == 2 ? NFFS_OK : NFFS_BAD_AREAS;
+        for (int call = 0; call < 8; call++) {
+            const uint32_t number = expected == NFFS_OK ? of_root[call] : expected;
+            CHECK(number_of(call, list, MOST) == number);
+            CHECK(number_of(call, list, end + 1) == number);
+            CHECK(number_of(call, list, end) == number);
+        }
+        if (expected != NFFS_OK) {
+            CHECK(number_of(8, list, MOST) == expected && number_of(8, list, end) == expected);
+            CHECK(number_of(9, list, MOST) == expected && number_of(9, list, end) == expected);
+        }
+        CHECK(same());
+    }
+    CHECK(nffs_report(image, sizeof image - 1, areas, 2).number == NFFS_BAD_AREAS);
+
+    /* good entries: eight are taken, nine or more are refused, and no call looks at a ninth behind the mark */
+    static uint8_t wide[MOST * 128];
+    for (uint32_t i = 0; i < MOST; i++) {
+        list[i] = (nffs_area){i * 128, 128};
+    }
+    for (size_t count = 2; count <= MOST; count++) {
+        CHECK(nffs_format(wide, sizeof wide, list, count) == (count <= 8 ? NFFS_OK : NFFS_BAD_AREAS));
+        CHECK(nffs_report(wide, sizeof wide, list, count).number == (count <= 8 ? NFFS_OK : NFFS_BAD_AREAS));
+    }
+    CHECK(nffs_report(wide, sizeof wide, list, 8).number == NFFS_OK && nffs_collect(wide, sizeof wide, list, 9) == NFFS_BAD_AREAS);
+    list[8].length = 0;
+    CHECK(nffs_report(wide, sizeof wide, list, MOST).number == NFFS_OK && nffs_collect(wide, sizeof wide, list, MOST) == NFFS_OK);
 }
 
 static void empty_slices(void) {

@@ -12,10 +12,11 @@ raw = (top / "bindings/rust/src/raw.rs").read_text()
 crate = (top / "bindings/rust/src/lib.rs").read_text()
 refusal = (top / "bindings/rust/src/refusal.rs").read_text()
 
-POINTER_C = {"&[u8]": "const uint8_t *", "&mut [u8]": "uint8_t *", "&[u32]": "const uint32_t *"}
-POINTER_RUST = {"&[u8]": "*const u8", "&mut [u8]": "*mut u8", "&[u32]": "*const u32"}
+POINTER_C = {"&[u8]": "const uint8_t *", "&mut [u8]": "uint8_t *", "&[Descriptor]": "const nffs_area *"}
+POINTER_RUST = {"&[u8]": "*const u8", "&mut [u8]": "*mut u8", "&[Descriptor]": "*const Area"}
 # what a struct of Rattle is called in C and in the Rust crate
 STRUCTS = {
+    "Descriptor": ("nffs_area", "Area"),
     "Handle": ("nffs_handle", "Handle"),
     "Report": ("nffs_report_answer", "ReportAnswer"),
     "Lookup": ("nffs_lookup_answer", "LookupAnswer"),
@@ -90,7 +91,7 @@ def fields(text, form, name):
 
 RUST_STRUCT = r"#\[repr\(C\)\](?:\s*#\[[^\]]*\])*\s*pub struct %s \{(.*?)\n\}"
 C_STRUCT = r"typedef struct %s \{(.*?)\}"
-for name, (c, rust) in [*STRUCTS.items(), ("Descriptor", ("nffs_area", "Area"))]:
+for name, (c, rust) in STRUCTS.items():
     known = fields(answers, RUST_STRUCT, name)
     check(f"{name}, C", known, fields(bare, C_STRUCT, c))
     check(f"{name}, Rust", known, fields(crate if rust in ("Area", "Handle") else raw, RUST_STRUCT, rust))

@@ -28,7 +28,7 @@
 #![no_std]
 #![deny(missing_docs)]
 
-mod raw;
+pub mod raw;
 mod refusal;
 
 pub use refusal::Refusal;

@@ -1,15 +1,20 @@
-//! The exported calls behind safe functions, and the layouts of their answers.
-//!
-//! The archive takes a slice as two arguments, pointer and number of elements, also where the
-//! registers run out between the two.
-//!
-//! What the calls need is what a borrow gives: pointers that are not null and are aligned (those
-//! of empty slices too), elements that are there, and nothing else that reads or writes what is
-//! lent by `&mut`. That they stay inside the slices is proved.
+//! The same calls with the answers as the archive gives them, of refused calls too: `number` is 0
+//! or why the call was refused, and in a refused answer every other number is 0. They are safe as
+//! well; the functions of the crate itself put their answers into a `Result`.
+// The archive takes a slice as two arguments, pointer and number of elements, also where the
+// registers run out between the two.
+//
+// What the calls need is what a borrow gives: pointers that are not null and are aligned (those of
+// empty slices too), elements that are there, and nothing else that reads or writes what is lent
+// by `&mut`. That they stay inside the slices is proved.
+
+// what the functions and fields mean is said in the crate's root, and in include/nffs.h
+#![allow(missing_docs)]
 
 use crate::{Area, Handle};
 
 #[repr(C)]
+#[derive(Clone, Copy, Debug, PartialEq, Eq)]
 pub struct ReportAnswer {
     pub number: u32,
     pub inodes: u32,
@@ -19,6 +24,7 @@ pub struct ReportAnswer {
 }
 
 #[repr(C)]
+#[derive(Clone, Copy, Debug, PartialEq, Eq)]
 pub struct LookupAnswer {
     pub number: u32,
     pub id: u32,
@@ -26,6 +32,7 @@ pub struct LookupAnswer {
 }
 
 #[repr(C)]
+#[derive(Clone, Copy, Debug, PartialEq, Eq)]
 pub struct OpenAnswer {
     pub number: u32,
     pub id: u32,
@@ -33,6 +40,7 @@ pub struct OpenAnswer {
 }
 
 #[repr(C)]
+#[derive(Clone, Copy, Debug, PartialEq, Eq)]
 pub struct ReadAnswer {
     pub number: u32,
     pub given: u32,
@@ -40,6 +48,7 @@ pub struct ReadAnswer {
 }
 
 #[repr(C)]
+#[derive(Clone, Copy, Debug, PartialEq, Eq)]
 pub struct CreateAnswer {
     pub number: u32,
     pub id: u32,
@@ -49,18 +58,23 @@ mod exports {
     use super::*;
 
     extern "C" {
-        pub fn nffs_format(image: *mut u8, size: usize, areas: *const u32, numbers: usize) -> u32;
+        pub fn nffs_format(
+            image: *mut u8,
+            size: usize,
+            areas: *const Area,
+            areas_count: usize,
+        ) -> u32;
         pub fn nffs_report(
             image: *const u8,
             size: usize,
-            areas: *const u32,
-            numbers: usize,
+            areas: *const Area,
+            areas_count: usize,
         ) -> ReportAnswer;
         pub fn nffs_lookup(
             image: *const u8,
             size: usize,
-            areas: *const u32,
-            numbers: usize,
+            areas: *const Area,
+            areas_count: usize,
             base: *const u8,
             base_length: usize,
             path: *const u8,
@@ -69,8 +83,8 @@ mod exports {
         pub fn nffs_open(
             image: *const u8,
             size: usize,
-            areas: *const u32,
-            numbers: usize,
+            areas: *const Area,
+            areas_count: usize,
             base: *const u8,
             base_length: usize,
             path: *const u8,
@@ -79,8 +93,8 @@ mod exports {
         pub fn nffs_read(
             image: *const u8,
             size: usize,
-            areas: *const u32,
-            numbers: usize,
+            areas: *const Area,
+            areas_count: usize,
             handle: *mut Handle,
             buffer: *mut u8,
             buffer_length: usize,
@@ -88,8 +102,8 @@ mod exports {
         pub fn nffs_read_at(
             image: *const u8,
             size: usize,
-            areas: *const u32,
-            numbers: usize,
+            areas: *const Area,
+            areas_count: usize,
             id: u32,
             position: u32,
             buffer: *mut u8,
@@ -98,8 +112,8 @@ mod exports {
         pub fn nffs_create(
             image: *mut u8,
             size: usize,
-            areas: *const u32,
-            numbers: usize,
+            areas: *const Area,
+            areas_count: usize,
             base: *const u8,
             base_length: usize,
             path: *const u8,
@@ -109,8 +123,8 @@ mod exports {
         pub fn nffs_append(
             image: *mut u8,
             size: usize,
-            areas: *const u32,
-            numbers: usize,
+            areas: *const Area,
+            areas_count: usize,
             base: *const u8,
             base_length: usize,
             path: *const u8,
@@ -121,19 +135,23 @@ mod exports {
         pub fn nffs_unlink(
             image: *mut u8,
             size: usize,
-            areas: *const u32,
-            numbers: usize,
+            areas: *const Area,
+            areas_count: usize,
             base: *const u8,
             base_length: usize,
             path: *const u8,
             path_length: usize,
         ) -> u32;
-        pub fn nffs_collect(image: *mut u8, size: usize, areas: *const u32, numbers: usize) -> u32;
+        pub fn nffs_collect(
+            image: *mut u8,
+            size: usize,
+            areas: *const Area,
+            areas_count: usize,
+        ) -> u32;
     }
 }
 
-// An area is two numbers, one after the other, as the calls take them.
-const _: () = assert!(size_of::<Area>() == 8 && align_of::<Area>() == align_of::<u32>());
+const _: () = assert!(size_of::<Area>() == 8);
 const _: () = assert!(size_of::<Handle>() == 8);
 const _: () = assert!(size_of::<ReportAnswer>() == 20);
 const _: () = assert!(size_of::<LookupAnswer>() == 12);
@@ -143,21 +161,12 @@ const _: () = assert!(size_of::<CreateAnswer>() == 8);
 
 pub fn format(image: &mut [u8], areas: &[Area]) -> u32 {
     // SAFETY: slices as the call needs them, see above.
-    unsafe {
-        exports::nffs_format(
-            image.as_mut_ptr(),
-            image.len(),
-            areas.as_ptr().cast(),
-            2 * areas.len(),
-        )
-    }
+    unsafe { exports::nffs_format(image.as_mut_ptr(), image.len(), areas.as_ptr(), areas.len()) }
 }
 
 pub fn report(image: &[u8], areas: &[Area]) -> ReportAnswer {
     // SAFETY: slices as the call needs them, see above.
-    unsafe {
-        exports::nffs_report(image.as_ptr(), image.len(), areas.as_ptr().cast(), 2 * areas.len())
-    }
+    unsafe { exports::nffs_report(image.as_ptr(), image.len(), areas.as_ptr(), areas.len()) }
 }
 
 pub fn lookup(image: &[u8], areas: &[Area], base: &[u8], path: &[u8]) -> LookupAnswer {
@@ -166,8 +175,8 @@ pub fn lookup(image: &[u8], areas: &[Area], base: &[u8], path: &[u8]) -> LookupA
         exports::nffs_lookup(
             image.as_ptr(),
             image.len(),
-            areas.as_ptr().cast(),
-            2 * areas.len(),
+            areas.as_ptr(),
+            areas.len(),
             base.as_ptr(),
             base.len(),
             path.as_ptr(),
@@ -182,8 +191,8 @@ pub fn open(image: &[u8], areas: &[Area], base: &[u8], path: &[u8]) -> OpenAnswe
         exports::nffs_open(
             image.as_ptr(),
             image.len(),
-            areas.as_ptr().cast(),
-            2 * areas.len(),
+            areas.as_ptr(),
+            areas.len(),
             base.as_ptr(),
             base.len(),
             path.as_ptr(),
@@ -198,8 +207,8 @@ pub fn read(image: &[u8], areas: &[Area], handle: &mut Handle, buffer: &mut [u8]
         exports::nffs_read(
             image.as_ptr(),
             image.len(),
-            areas.as_ptr().cast(),
-            2 * areas.len(),
+            areas.as_ptr(),
+            areas.len(),
             handle,
             buffer.as_mut_ptr(),
             buffer.len(),
@@ -219,8 +228,8 @@ pub fn read_at(
         exports::nffs_read_at(
             image.as_ptr(),
             image.len(),
-            areas.as_ptr().cast(),
-            2 * areas.len(),
+            areas.as_ptr(),
+            areas.len(),
             id,
             position,
             buffer.as_mut_ptr(),
@@ -241,8 +250,8 @@ pub fn create(
         exports::nffs_create(
             image.as_mut_ptr(),
             image.len(),
-            areas.as_ptr().cast(),
-            2 * areas.len(),
+            areas.as_ptr(),
+            areas.len(),
             base.as_ptr(),
             base.len(),
             path.as_ptr(),
@@ -258,8 +267,8 @@ pub fn append(image: &mut [u8], areas: &[Area], base: &[u8], path: &[u8], data: 
         exports::nffs_append(
             image.as_mut_ptr(),
             image.len(),
-            areas.as_ptr().cast(),
-            2 * areas.len(),
+            areas.as_ptr(),
+            areas.len(),
             base.as_ptr(),
             base.len(),
             path.as_ptr(),
@@ -276,8 +285,8 @@ pub fn unlink(image: &mut [u8], areas: &[Area], base: &[u8], path: &[u8]) -> u32
         exports::nffs_unlink(
             image.as_mut_ptr(),
             image.len(),
-            areas.as_ptr().cast(),
-            2 * areas.len(),
+            areas.as_ptr(),
+            areas.len(),
             base.as_ptr(),
             base.len(),
             path.as_ptr(),
@@ -288,12 +297,5 @@ pub fn unlink(image: &mut [u8], areas: &[Area], base: &[u8], path: &[u8]) -> u32
 
 pub fn collect(image: &mut [u8], areas: &[Area]) -> u32 {
     // SAFETY: slices as the call needs them, see above.
-    unsafe {
-        exports::nffs_collect(
-            image.as_mut_ptr(),
-            image.len(),
-            areas.as_ptr().cast(),
-            2 * areas.len(),
-        )
-    }
+    unsafe { exports::nffs_collect(image.as_mut_ptr(), image.len(), areas.as_ptr(), areas.len()) }
 }

@@ -4,7 +4,8 @@ use core::fmt;
 use core::num::NonZeroU32;
 
 /// Why a call was refused: a number, with a name and a meaning. The checks are made in the order
-/// of the numbers, and the first that fails is answered.
+/// of the numbers, and the first that fails is answered, but that create and append ask 5 again
+/// just before 15, with the new records counted in, and unlink asks 16 before 15.
 ///
 /// ```
 /// use nffs::Refusal;

@@ -17,10 +17,11 @@ use Rattle.calls.specs.Refusal.{Check, _refused-by_, firstRefusal}
 use Rattle.calls.specs.Mount.{acceptedRecords, volume, badDescription, sharedAreaId, wrongAreas, shortScratch, tooManyIds, noRoot}
 use Rattle.calls.specs.Mount.{mountChecks, mountNumber}
 use Rattle.calls.specs.declared.Descriptor.{Descriptor}
-use Rattle.area_kinds.specs.declared.Scratch.{Scratch}
-use Rattle.area_kinds.specs.declared.Areas.{Areas}
-use Rattle.descriptors.specs.Described.{areaOf, described, described-length}
-use Rattle.area_kinds.specs.Kinds.{Stored, scratchOf, scratch-count, scratch-is, all-lengths}
+use Rattle.area_kinds.specs.declared.LastScratch.{LastScratch}
+use Rattle.area_kinds.specs.declared.Kinds.{Kinds}
+use Rattle.area_kinds.specs.declared.CheckedAreas.{CheckedAreas}
+use Rattle.area_list.specs.Described.{areaOf, described, described-length}
+use Rattle.area_kinds.specs.Kinds.{scratchOf, scratch-count, scratch-is, all-spans, rowsOf, Sorted}
 
 -- checks 2 to 4, of the file areas and the scratch areas
 unfoldable pub kindChecks : Bytes → List Descriptor → List Descriptor → List Check
@@ -89,39 +90,39 @@ module _ (image : Bytes) (fs ss : List Descriptor) where
     kinds-pass e = rw (own, one, ne-eqb (length fs) 0 some, e)
 
 -- r is what checks 2 to 4 answer for file areas, where s is found of the scratch areas
-pub record KindsAnswer (image : Bytes) (fs : List Descriptor) (s : Scratch) (r : ℕ) : Type 0 where
+pub record KindsAnswer (image : Bytes) (fs : List Descriptor) (s : LastScratch) (r : ℕ) : Type 0 where
   pub is : (ss : List Descriptor) → s ≡ scratchOf ss → r ≡ firstRefusal (kindChecks image fs ss)
 
-module _ (image : Bytes) (os ls : List ℕ) (pairs : length os ≡ length ls) (s : Scratch) where
-  pub answer-shared : sharedAreaId image (described os ls) ≡ true → KindsAnswer image (described os ls) s 2
-  answer-shared e = record { is = λ ss q. sym (kinds-shared image (described os ls) ss e) }
+module _ (image : Bytes) (starts spans : List ℕ) (pairs : length starts ≡ length spans) (s : LastScratch) where
+  pub answer-shared : sharedAreaId image (described starts spans) ≡ true → KindsAnswer image (described starts spans) s 2
+  answer-shared e = record { is = λ ss q. sym (kinds-shared image (described starts spans) ss e) }
 
-  module _ (own : sharedAreaId image (described os ls) ≡ false) where
-    pub answer-no-file : length os ≡ 0 → KindsAnswer image (described os ls) s 3
-    answer-no-file h = record { is = λ ss q. sym (kinds-no-file image (described os ls) ss own (described-length os ls pairs ∙ h)) }
+  module _ (own : sharedAreaId image (described starts spans) ≡ false) where
+    pub answer-no-file : length starts ≡ 0 → KindsAnswer image (described starts spans) s 3
+    answer-no-file h = record { is = λ ss q. sym (kinds-no-file image (described starts spans) ss own (described-length starts spans pairs ∙ h)) }
 
-    pub answer-scratch : (s .count ≡ 1 → ⊥) → KindsAnswer image (described os ls) s 3
+    pub answer-scratch : (s .count ≡ 1 → ⊥) → KindsAnswer image (described starts spans) s 3
     answer-scratch h = record {
-      is = λ ss q. sym (kinds-scratch image (described os ls) ss own (λ z. h (ap (λ (x : Scratch). x .count) q ∙ scratch-count ss ∙ z)));
+      is = λ ss q. sym (kinds-scratch image (described starts spans) ss own (λ z. h (ap (λ (x : LastScratch). x .count) q ∙ scratch-count ss ∙ z)));
     }
 
-    module _ (some : length os ≡ 0 → ⊥) (one : s .count ≡ 1) where
+    module _ (some : length starts ≡ 0 → ⊥) (one : s .count ≡ 1) where
       abbrev longest : ℕ
       longest = s .area .length
 
       only : (ss : List Descriptor) → s ≡ scratchOf ss → ss ≡ s .area ∷ []
-      only ss q = scratch-is s ss q (sym (scratch-count ss) ∙ sym (ap (λ (x : Scratch). x .count) q) ∙ one)
+      only ss q = scratch-is s ss q (sym (scratch-count ss) ∙ sym (ap (λ (x : LastScratch). x .count) q) ∙ one)
 
-      pub answer-short : all (λ n. leb n longest) ls ≡ false → KindsAnswer image (described os ls) s 4
+      pub answer-short : all (λ n. leb n longest) spans ≡ false → KindsAnswer image (described starts spans) s 4
       answer-short e = record {
-        is = λ ss q. sym (kinds-short image (described os ls) ss own (λ z. some (sym (described-length os ls pairs) ∙ z)) (s .area) (only ss q)
-            (all-lengths (λ n. leb n longest) os ls pairs ∙ e));
+        is = λ ss q. sym (kinds-short image (described starts spans) ss own (λ z. some (sym (described-length starts spans pairs) ∙ z)) (s .area) (only ss q)
+            (all-spans (λ n. leb n longest) starts spans pairs ∙ e));
       }
 
-      pub answer-pass : all (λ n. leb n longest) ls ≡ true → KindsAnswer image (described os ls) s 0
+      pub answer-pass : all (λ n. leb n longest) spans ≡ true → KindsAnswer image (described starts spans) s 0
       answer-pass e = record {
-        is = λ ss q. sym (kinds-pass image (described os ls) ss own (λ z. some (sym (described-length os ls pairs) ∙ z)) (s .area) (only ss q)
-            (all-lengths (λ n. leb n longest) os ls pairs ∙ e));
+        is = λ ss q. sym (kinds-pass image (described starts spans) ss own (λ z. some (sym (described-length starts spans pairs) ∙ z)) (s .area) (only ss q)
+            (all-spans (λ n. leb n longest) starts spans pairs ∙ e));
       }
 
 -- what checks 2 to 4 give where they pass
@@ -157,69 +158,44 @@ kinds-passed image fs ss e =
 -- ---- the answer
 
 -- a refused answer's other numbers are 0
-abbrev pub refusedAreas : ℕ → Areas
+abbrev pub refusedAreas : ℕ → CheckedAreas
 refusedAreas n = record { number = n; files = 0; scratch = areaOf 0 0 }
 
--- the areas of a volume: slices that begin with its file areas, and its scratch area
-pub record Split (image : Bytes) (ds : List Descriptor) (r : Areas) (os ls : List ℕ) : Type 0 where
-  pub files : described (take (r .files) os) (take (r .files) ls) ≡ fileAreas image ds
+-- the areas of a volume: rows that begin with its file areas, and its scratch area
+pub record Split (image : Bytes) (ds : List Descriptor) (r : CheckedAreas) (rows : List ℕ) : Type 0 where
+  pub files : rowsOf (r .files) rows ≡ fileAreas image ds
+  pub few : r .files ≤ mostAreas
   pub scratch : scratchAreas image ds ≡ r .scratch ∷ []
-  pub few : r .files ≤ length ds
-
--- the answer of checks 2 to 4, which come after check 1
-pub record Sorted (image : Bytes) (ds : List Descriptor) (r : Areas) (os ls : List ℕ) : Type 0 where
-  pub refusal : r .number ≡ firstRefusal (kindChecks image (fileAreas image ds) (scratchAreas image ds))
-  pub refused : (r .number ≡ 0 → ⊥) → r ≡ refusedAreas (r .number)
-  pub split : r .number ≡ 0 → Split image ds r os ls
 
 -- the answer of checks 1 to 4
-pub record Checked (image : Bytes) (ds : List Descriptor) (r : Areas) (os ls : List ℕ) : Type 0 where
+pub record Checked (image : Bytes) (ds : List Descriptor) (r : CheckedAreas) (rows : List ℕ) : Type 0 where
   pub refusal : r .number ≡ firstRefusal (areaChecks image ds)
-  pub refused : (r .number ≡ 0 → ⊥) → r ≡ refusedAreas (r .number)
-  pub split : r .number ≡ 0 → Split image ds r os ls
+  pub split : r .number ≡ 0 → Split image ds r rows
 
--- slices for the described areas and for the file areas
-pub record Lent (os ls ss ps : List ℕ) : Type 0 where
-  pub offsets : length os ≡ mostAreas
-  pub lengths : length ls ≡ mostAreas
-  pub starts : mostAreas ≤ length ss
-  pub spans : mostAreas ≤ length ps
+pub bad-checked : (image : Bytes) (ds : List Descriptor) (r : CheckedAreas) (rows : List ℕ) → badDescription image ds ≡ true → r ≡ refusedAreas 1
+    → Checked image ds r rows
+unfolding areaChecks firstRefusal
+bad-checked image ds r rows e q = record {
+  refusal = rw (e, q);
+  split = λ z. let one = ap (λ (x : CheckedAreas). x .number) q in absurd (omega arith);
+}
 
--- k file areas are stored, and s is found of the scratch areas
-module _ (image : Bytes) (ds : List Descriptor) (m k : ℕ) (os ls : List ℕ) (f : Stored (fileAreas image ds) m k os ls)
-    (s : Scratch) (found : s ≡ scratchOf (scratchAreas image ds)) (n : ℕ) (answer : KindsAnswer image (described (take k os) (take k ls)) s n) where
-  answered : n ≡ firstRefusal (kindChecks image (fileAreas image ds) (scratchAreas image ds))
-  answered = rw (f .is) at (answer .is (scratchAreas image ds) found)
+-- the kinds are checked, after check 1
+module _ (image : Bytes) (ds : List Descriptor) (good : badDescription image ds ≡ false) (k : Kinds) (rows : List ℕ) (s : Sorted image ds k rows)
+    (n : ℕ) (answer : KindsAnswer image (rowsOf (k .files) rows) (k .scratch) n) where
+  answered : n ≡ firstRefusal (areaChecks image ds)
+  unfolding areaChecks firstRefusal
+  answered = rw good (rw (s .files) at (answer .is (scratchAreas image ds) (s .scratch)))
 
-  pub sorted-refused : (r : Areas) → (n ≡ 0 → ⊥) → r ≡ refusedAreas n → Sorted image ds r os ls
-  sorted-refused r h e =
-      let number : r .number ≡ n = ap (λ (x : Areas). x .number) e in
-      record {
-        refusal = number ∙ answered;
-        refused = λ z. e ∙ ap refusedAreas (sym number);
-        split = λ z. absurd (h (sym number ∙ z));
-      }
+  pub checked-refused : (r : CheckedAreas) → (n ≡ 0 → ⊥) → r ≡ refusedAreas n → Checked image ds r rows
+  checked-refused r h e =
+      let number : r .number ≡ n = ap (λ (x : CheckedAreas). x .number) e in
+      record { refusal = number ∙ answered; split = λ z. absurd (h (sym number ∙ z)) }
 
-  pub sorted-passes : n ≡ 0 → m ≡ length ds → Sorted image ds (record { number = 0; files = k; scratch = s .area }) os ls
-  sorted-passes h l =
-      let p = kinds-passed image _ _ (sym answered ∙ h) in
+  pub checked-passes : n ≡ 0 → Checked image ds (record { number = 0; files = k .files; scratch = k .scratch .area }) rows
+  checked-passes h =
+      let p = kinds-passed image _ _ (sym (rw (s .files) at (answer .is (scratchAreas image ds) (s .scratch))) ∙ h) in
       record {
         refusal = sym h ∙ answered;
-        refused = λ z. absurd (z refl);
-        split = λ z. record { files = f .is; scratch = scratch-is s _ found (p .one); few = rw l at (f .few) };
+        split = λ z. record { files = s .files; few = s .few; scratch = scratch-is (k .scratch) _ (s .scratch) (p .one) };
       }
-
--- the kinds are checked, or the list is refused before
-pub sorted-checked : (image : Bytes) (ds : List Descriptor) (r : Areas) (os ls : List ℕ) → badDescription image ds ≡ false → Sorted image ds r os ls
-    → Checked image ds r os ls
-unfolding areaChecks firstRefusal
-sorted-checked image ds r os ls e s = record { refusal = rw e (s .refusal); refused = s .refused; split = s .split }
-
-pub bad-checked : (image : Bytes) (ds : List Descriptor) (r : Areas) (os ls : List ℕ) → badDescription image ds ≡ true → r ≡ refusedAreas 1
-    → Checked image ds r os ls
-unfolding areaChecks firstRefusal
-bad-checked image ds r os ls e q = record {
-  refusal = rw (e, q);
-  refused = λ h. rw q;
-  split = λ z. let one = ap (λ x. x .number) q in absurd (omega arith);
-}

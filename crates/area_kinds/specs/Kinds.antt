@@ -1,40 +1,36 @@
 -- The file areas and the scratch areas among good descriptors, and whether file areas share an id.
-use Prim.Native.Nat.{ℕ, suc, _+_, _≤_, _<_}
-use mathlib.Core.Path.{_≡_, refl, sym, ap, _∙_}
-use mathlib.Core.Bool.{Bool, true, false, cond, not, _&&_}
+use Prim.Native.Nat.{ℕ, suc, _+_, _*_, _≤_, _<_}
+use mathlib.Core.Path.{_≡_, refl, sym, ap, ap₂, _∙_}
+use mathlib.Core.Bool.{Bool, true, false, not, _&&_}
 use mathlib.Core.Logic.{⊎-elim}
 use mathlib.Core.List.{List, [], _∷_, _++_, map, append-assoc, append-nil, List·Memᴰ·cases-cons, Memᴰ·cast}
 use native.Mathlib.Omega.{arith}
-use lib.ListN.{length, take, drop, getD, set, length-set, length-take}
-use lib.Seq.{getD-take, getD-drop}
+use lib.ListN.{length, take, drop, getD, set, length-set, length-drop}
+use lib.Seq.{drop-set-lt, drop-set-add}
 use lib.Dec.{T, ltb, eqb, eqb→eq, leb·suc-suc}
 use borrow.Author.Tests.{lt-ltb, eq-eqb, ne-eqb}
-use Rattle.format.specs.Bytes.{Bytes, byteAt}
-use Rattle.format.specs.AreaHeader.{areaId, isScratch, isFileArea, areaHeaderSize}
+use Rattle.format.specs.Bytes.{Bytes}
+use Rattle.format.specs.AreaHeader.{areaHeaderSize}
 use Rattle.volume.specs.Lists.{keep, all, once}
 use Rattle.volume_laws.specs.Tests.{T→true, true→T, not-is-false}
-use Rattle.volume_laws.specs.Lists.{keep-mem, all-mem, mem-all, not-all, all-map}
+use Rattle.volume_laws.specs.Lists.{keep-mem, keep-whole, all-mem, mem-all, not-all, all-map}
 use Rattle.volume_laws.specs.Once.{once-nodup, once-mem, mem-once, pigeons}
-use Rattle.calls.specs.Areas.{goodArea, areaBytes, fileAreas, scratchAreas}
+use Rattle.calls.specs.Areas.{mostAreas, goodArea, fileAreas, scratchAreas}
+use Rattle.area_list.specs.Numbers.{paired}
 use Rattle.calls.specs.Mount.{sharedAreaId}
 use Rattle.calls.specs.declared.Descriptor.{Descriptor}
-use Rattle.area_kinds.specs.declared.Scratch.{Scratch}
-use Rattle.descriptors.specs.Described.{areaOf, described, described-step, described-end, described-more}
-use Rattle.descriptors.specs.Good.{Good}
-use Rattle.descriptors.specs.Steps.{pairwise, keep-takes, keep-leaves, keep-ends}
+use Rattle.area_list.specs.Described.{areaOf, described, described-more}
+use Rattle.area_list.specs.Listing.{pair-step, pair-holds, paired-end}
+use Rattle.area_list.specs.Good.{Good}
+use Rattle.area_list.specs.Steps.{pairwise, keep-takes, keep-leaves, keep-ends}
+use Rattle.area_read.specs.Kinds.{fileTest, scratchTest, kindOf, idOf, HasId, file-tests, scratch-tests, invalid-tests}
+use Rattle.area_read.specs.declared.AreaKind.the-variants.{File, Scratch, Invalid}
+use Rattle.table_rows.specs.Parts.{part, part-long, part-set-behind}
+use Rattle.area_pass.specs.Rows.{spansAt}
+use Rattle.area_kinds.specs.declared.LastScratch.{LastScratch}
+use Rattle.area_kinds.specs.declared.Kinds.{Kinds}
 
 -- ---- ids
-
-abbrev pub idOf : Bytes → Descriptor → ℕ
-idOf image d = areaId (areaBytes image d)
-
--- r is the id of the area at o, whatever its length
-pub record HasId (image : Bytes) (o r : ℕ) : Type 0 where
-  pub is : (n : ℕ) → areaHeaderSize ≤ n → r ≡ idOf image (areaOf o n)
-
--- the id byte of an area is one of the image's
-pub id-byte : (image : Bytes) (o n : ℕ) → areaHeaderSize ≤ n → byteAt image (o + 23) ≡ idOf image (areaOf o n)
-id-byte image o n h = sym (getD-take n (drop o image) 23 0 (omega arith) ∙ getD-drop o image 23 0)
 
 abbrev pub otherId : Bytes → ℕ → Descriptor → Bool
 otherId image id d = not (eqb (idOf image d) id)
@@ -53,20 +49,11 @@ distinct = pairwise (λ x y. not (eqb y x))
 once-short : (l : List ℕ) → length (once l) ≤ length l
 once-short l = pigeons (once l) l (once-nodup l) (λ x m. once-mem l m)
 
-keep-whole : (p : ℕ → Bool) (l : List ℕ) → T (all p l) → keep p l ≡ l
-unfolding keep all
-keep-whole p [] t = refl
-keep-whole p (a ∷ l) t = go (p a) t (keep-whole p l)
-  where
-    go : (b : Bool) → T (b && all p l) → (T (all p l) → keep p l ≡ l) → cond b (a ∷ keep p l) (keep p l) ≡ a ∷ l
-    go true t ih = ap (λ x. a ∷ x) (ih t)
-    go false t ih = absurd t
-
 -- a number that does not come again, and one that does
 once-new : (x : ℕ) (l : List ℕ) → all (λ y. not (eqb y x)) l ≡ true → length (once (x ∷ l)) ≡ suc (length (once l))
 unfolding once
 once-new x l e =
-    ap (λ m. suc (length m)) (keep-whole _ (once l) (mem-all _ (once l) (λ y m. all-mem (λ z. not (eqb z x)) l (true→T e) (once-mem l m))))
+    ap (λ m. suc (length m)) (keep-whole _ (once l) (λ y m. T→true (all-mem (λ z. not (eqb z x)) l (true→T e) (once-mem l m))))
 
 once-again : (x : ℕ) (l : List ℕ) → all (λ y. not (eqb y x)) l ≡ false → length (once (x ∷ l)) ≤ length (once l)
 once-again x l e =
@@ -98,113 +85,17 @@ pub shared-pairs : (image : Bytes) (fs : List Descriptor) → sharedAreaId image
 unfolding sharedAreaId
 shared-pairs image fs = shorter-once (map (idOf image) fs) ∙ ap not (pairs-map (idOf image) (λ x y. not (eqb y x)) fs)
 
--- ---- file areas
-
-abbrev fileTest : Bytes → Descriptor → Bool
-fileTest image d = isFileArea (d .length) (areaBytes image d)
-
-abbrev scratchTest : Bytes → Descriptor → Bool
-scratchTest image d = isScratch (d .length) (areaBytes image d)
-
--- slices with room for all of the areas
-pub record Room (size : ℕ) (os ls ss ps : List ℕ) : Type 0 where
-  pub good : Good size os ls
-  pub starts : length os ≤ length ss
-  pub spans : length os ≤ length ps
-
--- the first r places of two slices stand for l
-pub record Stored (l : List Descriptor) (m r : ℕ) (ss ps : List ℕ) : Type 0 where
-  pub is : described (take r ss) (take r ps) ≡ l
-  pub few : r ≤ m
-
--- those are good areas too, where l is a part of good areas
-pub stored-good : (size : ℕ) (f : Descriptor → Bool) (ds : List Descriptor) (m r : ℕ) (ss ps : List ℕ) → Stored (keep f ds) m r ss ps
-    → m ≤ length ss → m ≤ length ps → all (goodArea size) ds ≡ true → Good size (take r ss) (take r ps)
-stored-good size f ds m r ss ps s h g e =
-    let k = s .few in
-    record {
-      pairs = omega (arith, length-take r ss, length-take r ps);
-      good = ap (all (goodArea size)) (s .is)
-          ∙ T→true (mem-all (goodArea size) (keep f ds) (λ a n. all-mem (goodArea size) ds (true→T e) (keep-mem f ds n .0)));
-    }
-
-pub files-good : (image : Bytes) (ds : List Descriptor) (m r : ℕ) (ss ps : List ℕ) → Stored (fileAreas image ds) m r ss ps
-    → m ≤ length ss → m ≤ length ps → all (goodArea (length image)) ds ≡ true → Good (length image) (take r ss) (take r ps)
-unfolding fileAreas
-files-good image ds = stored-good (length image) (fileTest image) ds
-
--- the areas before i are sorted out, n of them stored
-pub record Sorting (image : Bytes) (os ls ss₀ ps₀ ss ps : List ℕ) (n i : ℕ) : Type 0 where
-  pub inside : i ≤ length os
-  pub few : n ≤ i
-  pub starts-long : length ss ≡ length ss₀
-  pub spans-long : length ps ≡ length ps₀
-  pub whole : described (take n ss) (take n ps) ++ fileAreas image (described (drop i os) (drop i ls)) ≡ fileAreas image (described os ls)
-
-pub sorting-begins : (image : Bytes) (os ls ss ps : List ℕ) → Sorting image os ls ss ps ss ps 0 0
-unfolding described
-sorting-begins image os ls ss ps = record { inside = omega arith; few = omega arith; starts-long = refl; spans-long = refl; whole = refl }
-
-module _ (image : Bytes) (os ls ss₀ ps₀ ss ps : List ℕ) (n i : ℕ) (s : Sorting image os ls ss₀ ps₀ ss ps n i)
-    (room : Room (length image) os ls ss₀ ps₀) where
-  abbrev area : Descriptor
-  area = areaOf (getD os i 0) (getD ls i 0)
-
-  pub sorting-takes : i < length os → isFileArea (getD ls i 0) (areaBytes image area) ≡ true
-      → Sorting image os ls ss₀ ps₀ (set ss n (getD os i 0)) (set ps n (getD ls i 0)) (n + 1) (i + 1)
-  unfolding fileAreas
-  sorting-takes h e =
-      let f = s .few in
-      let a = s .starts-long in
-      let b = s .spans-long in
-      let u = room .starts in
-      let v = room .spans in
-      record {
-        inside = omega arith;
-        few = omega arith;
-        starts-long = simp length-set a;
-        spans-long = simp length-set b;
-        whole = rw (described-more ss ps n (getD os i 0) (getD ls i 0) (omega arith) (omega arith))
-            (append-assoc (described (take n ss) (take n ps)) (area ∷ []) _
-            ∙ ap (λ x. described (take n ss) (take n ps) ++ x)
-            (sym (keep-takes (described-step os ls i (room .good .pairs) h) (fileTest image) e)) ∙ s .whole);
-      }
-
-  pub sorting-leaves : i < length os → isFileArea (getD ls i 0) (areaBytes image area) ≡ false → Sorting image os ls ss₀ ps₀ ss ps n (i + 1)
-  unfolding fileAreas
-  sorting-leaves h e =
-      let f = s .few in
-      record {
-        inside = omega arith;
-        few = omega arith;
-        starts-long = s .starts-long;
-        spans-long = s .spans-long;
-        whole = ap (λ x. described (take n ss) (take n ps) ++ x)
-            (sym (keep-leaves (described-step os ls i (room .good .pairs) h) (fileTest image) e)) ∙ s .whole;
-      }
-
-  pub sorting-ends : length os ≤ i → Stored (fileAreas image (described os ls)) (length os) n ss ps
-  unfolding fileAreas
-  sorting-ends h =
-      let f = s .few in
-      let g = s .inside in
-      record {
-        is = sym (append-nil _)
-            ∙ ap (λ x. described (take n ss) (take n ps) ++ x) (sym (keep-ends (described-end os ls i h) (fileTest image))) ∙ s .whole;
-        few = omega arith;
-      }
-
 -- ---- scratch areas
 
 -- how many there are, and the last of them
-unfoldable pub gathered : Scratch → List Descriptor → Scratch
+unfoldable pub gathered : LastScratch → List Descriptor → LastScratch
 gathered s [] = s
 gathered s (d ∷ l) = gathered (record { count = s .count + 1; area = d }) l
 
-abbrev pub scratchOf : List Descriptor → Scratch
+abbrev pub scratchOf : List Descriptor → LastScratch
 scratchOf = gathered (record { count = 0; area = areaOf 0 0 })
 
-gathered-count : (s : Scratch) (l : List Descriptor) → gathered s l .count ≡ s .count + length l
+gathered-count : (s : LastScratch) (l : List Descriptor) → gathered s l .count ≡ s .count + length l
 unfolding gathered
 gathered-count s [] = omega arith
 gathered-count s (d ∷ l) = gathered-count _ l ∙ omega arith
@@ -218,44 +109,115 @@ scratch-one [] e = absurd (omega arith)
 scratch-one (d ∷ []) e = refl
 scratch-one (d ∷ f ∷ l) e = absurd (omega arith)
 
-pub scratch-is : (s : Scratch) (l : List Descriptor) → s ≡ scratchOf l → length l ≡ 1 → l ≡ s .area ∷ []
-scratch-is s l e h = scratch-one l h ∙ ap (λ (x : Scratch). x .area ∷ []) (sym e)
+pub scratch-is : (s : LastScratch) (l : List Descriptor) → s ≡ scratchOf l → length l ≡ 1 → l ≡ s .area ∷ []
+scratch-is s l e h = scratch-one l h ∙ ap (λ (x : LastScratch). x .area ∷ []) (sym e)
 
--- the scratch areas before i are gathered
-pub record Gathering (image : Bytes) (os ls : List ℕ) (s : Scratch) (i : ℕ) : Type 0 where
-  pub few : s .count ≤ i
-  pub whole : gathered s (scratchAreas image (described (drop i os) (drop i ls))) ≡ scratchOf (scratchAreas image (described os ls))
+-- ---- the areas, sorted out in one pass
 
-module _ (image : Bytes) (os ls : List ℕ) (s : Scratch) (i : ℕ) (g : Gathering image os ls s i) where
-  pub gathering-takes : length os ≡ length ls → i < length os → isScratch (getD ls i 0) (areaBytes image (areaOf (getD os i 0) (getD ls i 0))) ≡ true
-      → Gathering image os ls (record { count = s .count + 1; area = areaOf (getD os i 0) (getD ls i 0) }) (i + 1)
-  unfolding scratchAreas gathered
-  gathering-takes p h e =
-      let f = g .few in
-      record {
-        few = omega arith;
-        whole = sym (ap (gathered s) (keep-takes (described-step os ls i p h) (scratchTest image) e)) ∙ g .whole;
-      }
+-- good areas as pairs, and rows with room for all of them
+pub record Room (size : ℕ) (pairs rows : List ℕ) : Type 0 where
+  pub good : all (goodArea size) (paired pairs) ≡ true
+  pub few : length pairs ≤ mostAreas * 2
+  pub long : spansAt + mostAreas ≤ length rows
 
-  pub gathering-leaves : length os ≡ length ls → i < length os → isScratch (getD ls i 0) (areaBytes image (areaOf (getD os i 0) (getD ls i 0))) ≡ false
-      → Gathering image os ls s (i + 1)
-  unfolding scratchAreas
-  gathering-leaves p h e =
-      let f = g .few in
-      record {
-        few = omega arith;
-        whole = sym (ap (gathered s) (keep-leaves (described-step os ls i p h) (scratchTest image) e)) ∙ g .whole;
-      }
+-- the file areas in the first n rows
+abbrev pub rowsOf : ℕ → List ℕ → List Descriptor
+rowsOf n rows = described (part 0 n rows) (part spansAt n rows)
 
-  pub gathering-ends : length os ≤ i → s ≡ scratchOf (scratchAreas image (described os ls))
-  unfolding scratchAreas gathered
-  gathering-ends h = sym (ap (gathered s) (keep-ends (described-end os ls i h) (scratchTest image))) ∙ g .whole
+-- what is found: so many file areas, which stand in the rows, and of the scratch areas how many there are and the last of them
+pub record Sorted (image : Bytes) (ds : List Descriptor) (r : Kinds) (rows : List ℕ) : Type 0 where
+  pub files : rowsOf (r .files) rows ≡ fileAreas image ds
+  pub few : r .files ≤ mostAreas
+  pub scratch : r .scratch ≡ scratchOf (scratchAreas image ds)
 
--- ---- lengths
+-- the areas before i are sorted out
+pub record Sorting (image : Bytes) (pairs rows₀ rows : List ℕ) (files count : ℕ) (area : Descriptor) (i : ℕ) : Type 0 where
+  pub within : i * 2 ≤ length pairs
+  pub few : files + count ≤ i
+  pub long : length rows ≡ length rows₀
+  pub files-are : rowsOf files rows ++ fileAreas image (paired (drop (i * 2) pairs)) ≡ fileAreas image (paired pairs)
+  pub scratch-is : gathered (record { count = count; area = area }) (scratchAreas image (paired (drop (i * 2) pairs)))
+      ≡ scratchOf (scratchAreas image (paired pairs))
 
-pub all-lengths : (p : ℕ → Bool) (os ls : List ℕ) → length os ≡ length ls → all (λ d. p (d .length)) (described os ls) ≡ all p ls
+pub sorting-begins : (image : Bytes) (pairs rows : List ℕ) → Sorting image pairs rows rows 0 0 (areaOf 0 0) 0
+unfolding described
+sorting-begins image pairs rows = record { within = omega arith; few = omega arith; long = refl; files-are = refl; scratch-is = refl }
+
+-- one more stored
+rows-more : (n o l : ℕ) (rows : List ℕ) → n < mostAreas → spansAt + mostAreas ≤ length rows
+    → rowsOf (n + 1) (set (set rows n o) (spansAt + n) l) ≡ rowsOf n rows ++ (areaOf o l ∷ [])
+rows-more n o l rows h long =
+    ap₂ described
+    (part-set-behind 0 (n + 1) (spansAt + n) l (set rows n o) (omega arith))
+    (ap (take (n + 1)) (drop-set-add spansAt (set rows n o) n l ∙ ap (λ (x : List ℕ). set x n l) (drop-set-lt spansAt rows n o h)))
+    ∙ described-more rows (drop spansAt rows) n o l (omega arith) (omega (arith, length-drop spansAt rows))
+
+module _ (image : Bytes) (pairs rows₀ rows : List ℕ) (files count : ℕ) (a : Descriptor) (i : ℕ)
+    (s : Sorting image pairs rows₀ rows files count a i) (room : Room (length image) pairs rows₀) where
+  module _ (h : i * 2 + 1 < length pairs) where
+    abbrev area : Descriptor
+    area = areaOf (getD pairs (i * 2) 0) (getD pairs (i * 2 + 1) 0)
+
+    pub area-good : goodArea (length image) area ≡ true
+    area-good = pair-holds (goodArea (length image)) pairs i (room .good) h
+
+    pub sorting-file : kindOf image area ≡ File
+        → Sorting image pairs rows₀ (set (set rows files (getD pairs (i * 2) 0)) (spansAt + files) (getD pairs (i * 2 + 1) 0)) (files + 1) count a (i + 1)
+    unfolding fileAreas scratchAreas
+    sorting-file e = let t = file-tests image area e in record {
+      within = omega arith;
+      few = omega (arith, s .few);
+      long = length-set (set rows files (getD pairs (i * 2) 0)) (spansAt + files) (getD pairs (i * 2 + 1) 0) ∙ length-set rows files (getD pairs (i * 2) 0) ∙ s .long;
+      files-are = rw (rows-more files (getD pairs (i * 2) 0) (getD pairs (i * 2 + 1) 0) rows (omega (arith, s .few, room .few)) (omega (arith, s .long, room .long)))
+          (append-assoc (rowsOf files rows) (area ∷ []) _
+          ∙ ap (λ (x : List Descriptor). rowsOf files rows ++ x) (sym (keep-takes (pair-step pairs i h) (fileTest image) (t .0))) ∙ s .files-are);
+      scratch-is = sym (ap (gathered (record { count = count; area = a })) (keep-leaves (pair-step pairs i h) (scratchTest image) (t .1))) ∙ s .scratch-is;
+    }
+
+    pub sorting-scratch : kindOf image area ≡ Scratch → Sorting image pairs rows₀ rows files (count + 1) area (i + 1)
+    unfolding fileAreas scratchAreas gathered
+    sorting-scratch e = let t = scratch-tests image area e in record {
+      within = omega arith;
+      few = omega (arith, s .few);
+      long = s .long;
+      files-are = ap (λ (x : List Descriptor). rowsOf files rows ++ x) (sym (keep-leaves (pair-step pairs i h) (fileTest image) (t .0))) ∙ s .files-are;
+      scratch-is = sym (ap (gathered (record { count = count; area = a })) (keep-takes (pair-step pairs i h) (scratchTest image) (t .1))) ∙ s .scratch-is;
+    }
+
+    pub sorting-passes : kindOf image area ≡ Invalid → Sorting image pairs rows₀ rows files count a (i + 1)
+    unfolding fileAreas scratchAreas
+    sorting-passes e = let t = invalid-tests image area e in record {
+      within = omega arith;
+      few = omega (arith, s .few);
+      long = s .long;
+      files-are = ap (λ (x : List Descriptor). rowsOf files rows ++ x) (sym (keep-leaves (pair-step pairs i h) (fileTest image) (t .0))) ∙ s .files-are;
+      scratch-is = sym (ap (gathered (record { count = count; area = a })) (keep-leaves (pair-step pairs i h) (scratchTest image) (t .1))) ∙ s .scratch-is;
+    }
+
+  pub sorting-ends : length pairs ≤ i * 2 + 1 → Sorted image (paired pairs) (record { files = files; scratch = record { count = count; area = a } }) rows
+  unfolding fileAreas scratchAreas gathered
+  sorting-ends h = record {
+    files = sym (append-nil _)
+        ∙ ap (λ (x : List Descriptor). rowsOf files rows ++ x) (sym (keep-ends (paired-end pairs (i * 2) h) (fileTest image))) ∙ s .files-are;
+    few = omega (arith, s .few, s .within, room .few);
+    scratch = sym (ap (gathered (record { count = count; area = a })) (keep-ends (paired-end pairs (i * 2) h) (scratchTest image))) ∙ s .scratch-is;
+  }
+
+-- the file areas are good too
+pub files-good : (image : Bytes) (ds : List Descriptor) (r : Kinds) (rows : List ℕ) → Sorted image ds r rows → spansAt + mostAreas ≤ length rows
+    → all (goodArea (length image)) ds ≡ true → Good (length image) (part 0 (r .files) rows) (part spansAt (r .files) rows)
+unfolding fileAreas
+files-good image ds r rows s long e = record {
+  pairs = part-long 0 (r .files) rows (omega (arith, s .few)) ∙ sym (part-long spansAt (r .files) rows (omega (arith, s .few)));
+  good = ap (all (goodArea (length image))) (s .files)
+      ∙ T→true (mem-all (goodArea (length image)) (keep (fileTest image) ds) (λ a n. all-mem (goodArea (length image)) ds (true→T e) (keep-mem (fileTest image) ds n .0)));
+}
+
+-- ---- spans
+
+pub all-spans : (p : ℕ → Bool) (starts spans : List ℕ) → length starts ≡ length spans → all (λ d. p (d .length)) (described starts spans) ≡ all p spans
 unfolding described all
-all-lengths p [] [] e = refl
-all-lengths p [] (n ∷ ls) e = absurd (omega arith)
-all-lengths p (o ∷ os) [] e = absurd (omega arith)
-all-lengths p (o ∷ os) (n ∷ ls) e = rw (all-lengths p os ls (omega arith))
+all-spans p [] [] e = refl
+all-spans p [] (n ∷ spans) e = absurd (omega arith)
+all-spans p (o ∷ starts) [] e = absurd (omega arith)
+all-spans p (o ∷ starts) (n ∷ spans) e = rw (all-spans p starts spans (omega arith))

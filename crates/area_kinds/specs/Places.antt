@@ -1,27 +1,29 @@
 -- Where the areas of a volume lie, for callers of `check_areas`: inside the image, apart, together no longer than it.
-use Prim.Native.Nat.{ℕ, _≤_, _<_}
-use mathlib.Core.Path.{_≡_, refl, sym, subst, _∙_}
+use Prim.Native.Nat.{ℕ, _+_, _≤_, _<_}
+use mathlib.Core.Path.{_≡_, sym, _∙_}
 use mathlib.Core.Logic.{_≢_}
 use mathlib.Core.Bool.{Bool, true, not}
-use mathlib.Core.List.{List, List·Memᴰ, List·Memᴰ·head}
+use mathlib.Core.List.{List, List·Memᴰ}
 use native.Mathlib.Omega.{arith}
-use lib.ListN.{length, take, getD}
-use lib.Seq.{getD-take, length-take-le}
+use lib.ListN.{length, getD}
 use lib.Dec.{leb, eqb, leb→le, T-not}
 use Rattle.format.specs.Bytes.{Bytes}
 use Rattle.format.specs.AreaHeader.{areaId, scratchId, validHeader, isFileArea, isScratch}
 use Rattle.volume.specs.Lists.{all}
 use Rattle.volume_laws.specs.Tests.{true→T, T→true, and-T, not-is-false}
 use Rattle.volume_laws.specs.Lists.{keep-mem, all-mem, mem-all}
-use Rattle.calls.specs.Areas.{mostAreas, goodArea, allDisjoint, areaBytes, fileAreas, scratchAreas}
+use Rattle.calls.specs.Areas.{mostAreas, largestImage, goodArea, allDisjoint, areaBytes, fileAreas, scratchAreas}
 use Rattle.calls.specs.Refusal.{firstRefusal}
 use Rattle.calls.specs.Mount.{badDescription, shortScratch}
 use Rattle.calls.specs.declared.Descriptor.{Descriptor}
-use Rattle.area_kinds.specs.declared.Areas.{Areas}
-use Rattle.descriptors.specs.Described.{areaOf, described, described-at}
-use Rattle.descriptors.specs.Good.{Fits, fits}
-use Rattle.descriptors.specs.Description.{GoodDescription, description-good}
-use Rattle.descriptors.specs.Places.{Clear, apart-members, apart-places, keep-disjoint, totalLength, total-within}
+use Rattle.table_rows.specs.Parts.{part, part-long}
+use Rattle.area_pass.specs.Listing.{AreasFit}
+use Rattle.area_pass.specs.Rows.{spansAt}
+use Rattle.area_kinds.specs.declared.CheckedAreas.{CheckedAreas}
+use Rattle.area_list.specs.Described.{areaOf, described, described-at}
+use Rattle.area_list.specs.Good.{AreaFits, fits}
+use Rattle.area_list.specs.Description.{GoodDescription, description-good}
+use Rattle.area_list.specs.Places.{Clear, apart-members, keep-disjoint, totalLength, total-within}
 use Rattle.area_kinds.specs.Checks.{areaChecks, KindsPass, kinds-passed, Split, Checked, passed-first}
 
 -- ---- what checks 1 to 4 give where they pass
@@ -37,7 +39,7 @@ areas-pass image ds e =
     record { description = description-good image ds (a .0); kinds = kinds-passed image _ _ (a .1) }
 
 module _ (image : Bytes) (ds : List Descriptor) (p : AreasPass image ds) where
-  pub member-fits : (d : Descriptor) → List·Memᴰ d ds → Fits (length image) d
+  pub member-fits : (d : Descriptor) → List·Memᴰ d ds → AreaFits (length image) d
   member-fits d m = fits (length image) d (T→true (all-mem (goodArea (length image)) ds (true→T (p .description .each)) m))
 
   pub file-member : (d : Descriptor) → List·Memᴰ d (fileAreas image ds) → List·Memᴰ d ds
@@ -81,53 +83,40 @@ module _ (image : Bytes) (ds : List Descriptor) (p : AreasPass image ds) where
       leb→le (d .length) (s .length) (all-mem _ (fileAreas image ds) (all-mem _ (scratchAreas image ds) t n) m)
 
 -- where `check_areas` does not refuse
-pub checked-pass : (image : Bytes) (ds : List Descriptor) (r : Areas) (os ls : List ℕ) → Checked image ds r os ls → r .number ≡ 0 → AreasPass image ds
-checked-pass image ds r os ls c e = areas-pass image ds (sym (c .refusal) ∙ e)
+pub checked-pass : (image : Bytes) (ds : List Descriptor) (r : CheckedAreas) (rows : List ℕ) → Checked image ds r rows → r .number ≡ 0 → AreasPass image ds
+checked-pass image ds r rows c e = areas-pass image ds (sym (c .refusal) ∙ e)
 
--- ---- the same by the places of the slices that `check_areas` stored the file areas in
+-- ---- the file areas by the rows that `check_areas` stored them in
 
-module _ (image : Bytes) (ds : List Descriptor) (p : AreasPass image ds) (r : Areas) (os ls : List ℕ) (s : Split image ds r os ls)
-    (offsets : mostAreas ≤ length os) (lengths : mostAreas ≤ length ls) where
-  pub files-few : r .files ≤ mostAreas
-  files-few = let f = s .few in let g = p .description .few in omega arith
+module _ (image : Bytes) (ds : List Descriptor) (p : AreasPass image ds) (r : CheckedAreas) (rows : List ℕ) (s : Split image ds r rows)
+    (long : spansAt + mostAreas ≤ length rows) where
+  abbrev starts : List ℕ
+  starts = part 0 (r .files) rows
 
-  abbrev fileAt : ℕ → Descriptor
-  fileAt i = areaOf (getD os i 0) (getD ls i 0)
+  abbrev spans : List ℕ
+  spans = part spansAt (r .files) rows
 
-  stored-at : (i : ℕ) → i < r .files → areaOf (getD (take (r .files) os) i 0) (getD (take (r .files) ls) i 0) ≡ fileAt i
-  stored-at i h = rw (getD-take (r .files) os i 0 h, getD-take (r .files) ls i 0 h)
+  starts-long : length starts ≡ r .files
+  starts-long = part-long 0 (r .files) rows (omega (arith, s .few))
 
-  took : (length (take (r .files) os) ≡ r .files) × (length (take (r .files) ls) ≡ r .files)
-  took = let f = files-few in (length-take-le (r .files) os (omega arith), length-take-le (r .files) ls (omega arith))
+  spans-long : length spans ≡ r .files
+  spans-long = part-long spansAt (r .files) rows (omega (arith, s .few))
 
-  pub file-at : (i : ℕ) → i < r .files → List·Memᴰ (fileAt i) (fileAreas image ds)
-  file-at i h =
-      let t = took in
-      rw (stored-at i h, s .files) at (described-at (take (r .files) os) (take (r .files) ls) i (omega arith) (omega arith))
+  file-fits : (i : ℕ) → i < length starts → AreaFits (length image) (areaOf (getD starts i 0) (getD spans i 0))
+  file-fits i h =
+      let m = rw (s .files) at (described-at starts spans i h (omega (arith, starts-long, spans-long))) in
+      member-fits image ds p (areaOf (getD starts i 0) (getD spans i 0)) (file-member image ds p (areaOf (getD starts i 0) (getD spans i 0)) m)
 
-  pub file-fits : (i : ℕ) → i < r .files → Fits (length image) (fileAt i)
-  file-fits i h = member-fits image ds p (fileAt i) (file-member image ds p (fileAt i) (file-at i h))
+  total : totalLength (described starts spans) ≤ length image
+  total = rw (s .files) (files-total image ds p)
 
-  pub scratch-in : List·Memᴰ (r .scratch) (scratchAreas image ds)
-  scratch-in = rw (s .scratch) (List·Memᴰ·head refl)
+  pub files-apart : totalLength (described (part 0 (r .files) rows) (part spansAt (r .files) rows)) ≤ largestImage
+  files-apart = omega (arith, total, p .description .small)
 
-  pub scratch-fits : Fits (length image) (r .scratch)
-  scratch-fits = member-fits image ds p (r .scratch) (scratch-member image ds p (r .scratch) scratch-in)
-
-  pub files-apart : (i j : ℕ) → i < j → j < r .files → Clear (fileAt i) (fileAt j)
-  files-apart i j h g =
-      let t = took in
-      let d = rw (sym (s .files)) at (files-disjoint image ds p) in
-      let k : i < r .files = omega arith in
-      subst (λ x. Clear x (fileAt j)) (stored-at i k)
-      (subst (λ x. Clear (areaOf (getD (take (r .files) os) i 0) (getD (take (r .files) ls) i 0)) x) (stored-at j g)
-      (apart-places (take (r .files) os) (take (r .files) ls) d i j h (omega arith) (omega arith)))
-
-  pub scratch-apart : (i : ℕ) → i < r .files → Clear (fileAt i) (r .scratch)
-  scratch-apart i h = file-scratch-apart image ds p (fileAt i) (r .scratch) (file-at i h) scratch-in
-
-  pub file-shorter : (i : ℕ) → i < r .files → getD ls i 0 ≤ r .scratch .length
-  file-shorter i h = scratch-longest image ds p (fileAt i) (r .scratch) (file-at i h) scratch-in
-
-  pub files-room : totalLength (described (take (r .files) os) (take (r .files) ls)) ≤ length image
-  files-room = rw (s .files) (files-total image ds p)
+  pub files-lie : AreasFit image (part 0 (r .files) rows) (part spansAt (r .files) rows)
+  files-lie = record {
+    small = p .description .small;
+    pairs = spans-long ∙ sym starts-long;
+    long = λ i h. file-fits i h .long;
+    inside = λ i h. file-fits i h .inside;
+  }

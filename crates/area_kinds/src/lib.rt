@@ -1,150 +1,90 @@
-// Checks 1 to 4 in order, and the areas that a volume is made of: its file areas and its scratch area.
+// Checks 1 to 4 in order, and the areas that a volume is made of: its file areas, in the first columns of the rows of areas, and its scratch area.
 ghost use mathlib.Core.Path.{_≡_};
-ghost use mathlib.Core.Bool.{true};
 ghost use Prim.Native.Nat.{_+_, _≤_};
 ghost use lib.ListN.{length};
 ghost use lib.Dec.{leb};
 ghost use Rattle.volume.specs.Lists.{all};
-ghost use Rattle.format.specs.AreaHeader.{areaHeaderSize, validHeader, isFileArea, isScratch};
-ghost use Rattle.calls.specs.Areas.{listed, paired, mostAreas, goodArea, areaBytes, fileAreas, scratchAreas};
+ghost use Rattle.calls.specs.Areas.{mostAreas};
+ghost use Rattle.area_list.specs.Numbers.{paired, areaList};
 ghost use Rattle.calls.specs.Mount.{sharedAreaId};
-ghost use Rattle.descriptors.specs.Described.{areaOf, described};
-ghost use Rattle.descriptors.specs.Good.{Good};
-ghost use Rattle.area_kinds.specs.Checks.{KindsAnswer, Sorted, Checked, Lent, refusedAreas};
-ghost use Rattle.area_kinds.specs.Kinds.{Room, Stored, HasId, otherId, scratchOf};
-use areas::SCRATCH_ID;
-use areas::valid_header;
+ghost use Rattle.area_list.specs.Described.{described};
+ghost use Rattle.area_list.specs.Good.{Good};
+ghost use Rattle.area_pass.specs.Rows.{spansAt};
+ghost use Rattle.area_kinds.specs.Checks.{KindsAnswer, Checked, refusedAreas};
+ghost use Rattle.area_kinds.specs.Kinds.{Room, Sorted, otherId};
+use area_list::count_good_areas;
+use area_pass::SPANS;
+use area_read::AreaKind;
+use area_read::area_id;
+use area_read::area_kind;
+use calls::BAD_AREAS;
 use calls::Descriptor;
-use descriptors::MOST_AREAS;
-use descriptors::area_end;
-use descriptors::list_good_areas;
-
-// Where an area's header holds its id.
-const ID_AT: usize = 23;
-
-// The numbers of refusal: a bad image or list, two file areas of one id, no file area or not one scratch area, scratch too short.
-const BAD_DESCRIPTION: u32 = 1;
-
-const SHARED_ID: u32 = 2;
-
-const WRONG_AREAS: u32 = 3;
-
-const SHORT_SCRATCH: u32 = 4;
+use calls::NO_FILE_OR_SCRATCH;
+use calls::SAME_AREA_ID;
+use calls::SHORT_SCRATCH;
 
 // The scratch areas found: how many, and the last of them.
-pub struct Scratch {
+pub struct LastScratch {
     pub count: usize,
     pub area: Descriptor,
 }
 
+// The areas by their kinds: the number of file areas, and the scratch areas.
+pub struct Kinds {
+    pub files: usize,
+    pub scratch: LastScratch,
+}
+
 // The answer of checks 1 to 4: the number of refusal, or 0 with the number of file areas and the scratch area.
-pub struct Areas {
+pub struct CheckedAreas {
     pub number: u32,
     pub files: usize,
     pub scratch: Descriptor,
 }
 
-// Whether a good area has a valid header.
-fn valid_area(image: &[u8], offset: u32, span: u32) -> bool
-    requires { ⌜ goodArea (length (now image)) (areaOf offset span) ≡ true ⌝ }
-    ensures { λ r. ⌜ r ≡ validHeader span (areaBytes (now (image .entry)) (areaOf offset span)) ⌝ }
+// Sorts good areas by their kinds, each header looked at once; the file areas are stored in the rows, in descriptor order.
+fn sort_areas(image: &[u8], pairs: &[u32], rows: &mut [u32]) -> Kinds
+    requires { ⌜ Room (length (now image)) (now pairs) (now rows) ⌝ }
+    ensures { λ r. ⌜ Sorted (now (image .entry)) (paired (now (pairs .entry))) r (now (rows .exit)) ⌝ }
 {
-    let at = offset as usize;
-    let end = area_end(offset, span);
-    valid_header(&image[at..end], span)
-}
-
-// The id of the area at `offset`, whatever its length.
-fn area_id(image: &[u8], offset: u32) -> u8
-    requires { ⌜ offset + areaHeaderSize ≤ length (now image) ⌝ }
-    ensures { λ r. ⌜ HasId (now (image .entry)) offset r ⌝ }
-{
-    image[offset as usize + ID_AT]
-}
-
-// Whether a good area is a file area.
-fn is_file_area(image: &[u8], offset: u32, span: u32) -> bool
-    requires { ⌜ goodArea (length (now image)) (areaOf offset span) ≡ true ⌝ }
-    ensures { λ r. ⌜ r ≡ isFileArea span (areaBytes (now (image .entry)) (areaOf offset span)) ⌝ }
-{
-    if valid_area(image, offset, span) {} else {
-        return false;
-    }
-    area_id(image, offset) != SCRATCH_ID
-}
-
-// Whether a good area is a scratch area.
-fn is_scratch_area(image: &[u8], offset: u32, span: u32) -> bool
-    requires { ⌜ goodArea (length (now image)) (areaOf offset span) ≡ true ⌝ }
-    ensures { λ r. ⌜ r ≡ isScratch span (areaBytes (now (image .entry)) (areaOf offset span)) ⌝ }
-{
-    if valid_area(image, offset, span) {} else {
-        return false;
-    }
-    area_id(image, offset) == SCRATCH_ID
-}
-
-// Stores the file areas, in descriptor order, in the first places of `starts` and `spans`; answers how many there are.
-fn file_areas(
-    image: &[u8],
-    offsets: &[u32],
-    lengths: &[u32],
-    starts: &mut [u32],
-    spans: &mut [u32],
-) -> usize
-    requires { ⌜ Room (length (now image)) (now offsets) (now lengths) (now starts) (now spans) ⌝ }
-    ensures { λ r. ⌜ Stored (fileAreas (now (image .entry)) (described (now (offsets .entry)) (now (lengths .entry))))
-        (length (now (offsets .entry))) r (now (starts .exit)) (now (spans .exit)) ⌝ }
-{
-    let mut n = 0;
-    let mut i = 0;
-    while i < offsets.len() {
-        if is_file_area(image, offsets[i], lengths[i]) {
-            starts[n] = offsets[i];
-            spans[n] = lengths[i];
-            n += 1;
-            i += 1;
-        } else {
-            i += 1;
-        }
-    }
-    n
-}
-
-// Finds the scratch areas.
-fn scratch_areas(image: &[u8], offsets: &[u32], lengths: &[u32]) -> Scratch
-    requires { ⌜ Good (length (now image)) (now offsets) (now lengths) ⌝ }
-    ensures { λ r. ⌜ r ≡ scratchOf (scratchAreas (now (image .entry)) (described (now (offsets .entry)) (now (lengths .entry)))) ⌝ }
-{
+    let mut files = 0;
     let mut count = 0;
     let mut area = Descriptor {
         offset: 0,
         length: 0,
     };
     let mut i = 0;
-    while i < offsets.len() {
-        if is_scratch_area(image, offsets[i], lengths[i]) {
-            count += 1;
-            area = Descriptor {
-                offset: offsets[i],
-                length: lengths[i],
-            };
-            i += 1;
-        } else {
-            i += 1;
+    while i < pairs.len() / 2 {
+        let offset = pairs[i * 2];
+        let length = pairs[i * 2 + 1];
+        let kind = area_kind(image, offset, length);
+        match kind {
+            AreaKind::File => {
+                rows[files] = offset;
+                rows[SPANS + files] = length;
+                files += 1;
+                i += 1;
+            }
+            AreaKind::Scratch => {
+                count += 1;
+                area = Descriptor { offset, length };
+                i += 1;
+            }
+            AreaKind::Invalid => i += 1,
         }
     }
-    Scratch { count, area }
+    let scratch = LastScratch { count, area };
+    Kinds { files, scratch }
 }
 
 // Whether no area has this id.
-fn no_id(image: &[u8], id: u8, offsets: &[u32], lengths: &[u32]) -> bool
-    requires { ⌜ Good (length (now image)) (now offsets) (now lengths) ⌝ }
-    ensures { λ r. ⌜ r ≡ all (otherId (now (image .entry)) id) (described (now (offsets .entry)) (now (lengths .entry))) ⌝ }
+fn no_id(image: &[u8], id: u8, starts: &[u32], spans: &[u32]) -> bool
+    requires { ⌜ Good (length (now image)) (now starts) (now spans) ⌝ }
+    ensures { λ r. ⌜ r ≡ all (otherId (now (image .entry)) id) (described (now (starts .entry)) (now (spans .entry))) ⌝ }
 {
     let mut i = 0;
-    while i < offsets.len() {
-        if area_id(image, offsets[i]) == id {
+    while i < starts.len() {
+        if area_id(image, starts[i]) == id {
             return false;
         }
         i += 1;
@@ -153,18 +93,18 @@ fn no_id(image: &[u8], id: u8, offsets: &[u32], lengths: &[u32]) -> bool
 }
 
 // Whether two areas have one id.
-fn shared_id(image: &[u8], offsets: &[u32], lengths: &[u32]) -> bool
-    requires { ⌜ Good (length (now image)) (now offsets) (now lengths) ⌝ }
-    ensures { λ r. ⌜ r ≡ sharedAreaId (now (image .entry)) (described (now (offsets .entry)) (now (lengths .entry))) ⌝ }
+fn shared_id(image: &[u8], starts: &[u32], spans: &[u32]) -> bool
+    requires { ⌜ Good (length (now image)) (now starts) (now spans) ⌝ }
+    ensures { λ r. ⌜ r ≡ sharedAreaId (now (image .entry)) (described (now (starts .entry)) (now (spans .entry))) ⌝ }
 {
     let mut i = 0;
-    while i < offsets.len() {
+    while i < starts.len() {
         let next = i + 1;
         if no_id(
             image,
-            area_id(image, offsets[i]),
-            &offsets[next..],
-            &lengths[next..],
+            area_id(image, starts[i]),
+            &starts[next..],
+            &spans[next..],
         ) {} else {
             return true;
         }
@@ -174,12 +114,12 @@ fn shared_id(image: &[u8], offsets: &[u32], lengths: &[u32]) -> bool
 }
 
 // Whether no length is greater than `most`.
-fn none_longer(lengths: &[u32], most: u32) -> bool
-    ensures { λ r. ⌜ r ≡ all (λ n. leb n most) (now (lengths .entry)) ⌝ }
+fn none_longer(spans: &[u32], most: u32) -> bool
+    ensures { λ r. ⌜ r ≡ all (λ n. leb n most) (now (spans .entry)) ⌝ }
 {
     let mut i = 0;
-    while i < lengths.len() {
-        if lengths[i] > most {
+    while i < spans.len() {
+        if spans[i] > most {
             return false;
         }
         i += 1;
@@ -188,18 +128,18 @@ fn none_longer(lengths: &[u32], most: u32) -> bool
 }
 
 // The first of refusals 2 to 4, or 0, by the file areas and what was found of the scratch areas.
-fn kinds_refusal(image: &[u8], starts: &[u32], spans: &[u32], scratch: Scratch) -> u32
+fn kinds_refusal(image: &[u8], starts: &[u32], spans: &[u32], scratch: LastScratch) -> u32
     requires { ⌜ Good (length (now image)) (now starts) (now spans) ⌝ }
     ensures { λ r. ⌜ KindsAnswer (now (image .entry)) (described (now (starts .entry)) (now (spans .entry))) scratch r ⌝ }
 {
     if shared_id(image, starts, spans) {
-        return SHARED_ID;
+        return SAME_AREA_ID;
     }
     if starts.len() == 0 {
-        return WRONG_AREAS;
+        return NO_FILE_OR_SCRATCH;
     }
     if scratch.count != 1 {
-        return WRONG_AREAS;
+        return NO_FILE_OR_SCRATCH;
     }
     let area = scratch.area;
     if none_longer(spans, area.length) {} else {
@@ -209,10 +149,10 @@ fn kinds_refusal(image: &[u8], starts: &[u32], spans: &[u32], scratch: Scratch) 
 }
 
 // A refused answer.
-fn refused(number: u32) -> Areas
+fn refused(number: u32) -> CheckedAreas
     ensures { λ r. ⌜ r ≡ refusedAreas number ⌝ }
 {
-    Areas {
+    CheckedAreas {
         number,
         files: 0,
         scratch: Descriptor {
@@ -222,69 +162,28 @@ fn refused(number: u32) -> Areas
     }
 }
 
-// Checks 2 to 4 of good areas. The kinds are told apart in two short passes: there are at most a few areas.
-fn check_kinds(
-    image: &[u8],
-    offsets: &[u32],
-    lengths: &[u32],
-    starts: &mut [u32],
-    spans: &mut [u32],
-) -> Areas
-    requires { ⌜ Room (length (now image)) (now offsets) (now lengths) (now starts) (now spans) ⌝ }
-    ensures { λ r. ⌜ Sorted (now (image .entry)) (described (now (offsets .entry)) (now (lengths .entry))) r (now (starts .exit)) (now (spans .exit)) ⌝ }
+// Checks 1 to 4 of an image and a list of areas. Where none refuses, the file areas stand in the first two columns of `rows`.
+pub fn check_areas(image: &[u8], areas: &[u32], rows: &mut [u32]) -> CheckedAreas
+    requires { ⌜ spansAt + mostAreas ≤ length (now rows) ⌝ }
+    ensures { λ r. ⌜ Checked (now (image .entry)) (areaList (now (areas .entry))) r (now (rows .exit)) ⌝ }
 {
-    let files = file_areas(image, offsets, lengths, &mut *starts, &mut *spans);
-    let scratch = scratch_areas(image, offsets, lengths);
-    let number = kinds_refusal(image, &starts[..files], &spans[..files], scratch);
+    let n = count_good_areas(image, areas);
+    if n == 0 {
+        return refused(BAD_AREAS);
+    }
+    let pairs_end = n * 2;
+    let kinds = sort_areas(image, &areas[0..pairs_end], &mut *rows);
+    let files = kinds.files;
+    let scratch = kinds.scratch;
+    let end = SPANS + files;
+    let number = kinds_refusal(image, &rows[0..files], &rows[SPANS..end], scratch);
     if number != 0 {
         return refused(number);
     }
     let area = scratch.area;
-    Areas {
+    CheckedAreas {
         number: 0,
         files,
         scratch: area,
     }
-}
-
-// Checks 1 to 4, with slices lent for the described areas.
-fn check_listed(
-    image: &[u8],
-    areas: &[u32],
-    offsets: &mut [u32],
-    lengths: &mut [u32],
-    starts: &mut [u32],
-    spans: &mut [u32],
-) -> Areas
-    requires { ⌜ Lent (now offsets) (now lengths) (now starts) (now spans) ⌝ }
-    ensures { λ r. ⌜ Checked (now (image .entry)) (listed (paired (now (areas .entry)))) r (now (starts .exit)) (now (spans .exit)) ⌝ }
-{
-    let n = list_good_areas(image, areas, &mut *offsets, &mut *lengths);
-    if n == 0 {
-        return refused(BAD_DESCRIPTION);
-    }
-    check_kinds(
-        image,
-        &offsets[..n],
-        &lengths[..n],
-        &mut *starts,
-        &mut *spans,
-    )
-}
-
-// Checks 1 to 4 of an image and a list of areas. Where none refuses, the file areas stand in the first places of `starts` and `spans`.
-pub fn check_areas(image: &[u8], areas: &[u32], starts: &mut [u32], spans: &mut [u32]) -> Areas
-    requires { ⌜ (mostAreas ≤ length (now starts)) × (mostAreas ≤ length (now spans)) ⌝ }
-    ensures { λ r. ⌜ Checked (now (image .entry)) (listed (paired (now (areas .entry)))) r (now (starts .exit)) (now (spans .exit)) ⌝ }
-{
-    let mut offsets = [0u32; MOST_AREAS];
-    let mut lengths = [0u32; MOST_AREAS];
-    check_listed(
-        image,
-        areas,
-        &mut offsets[..],
-        &mut lengths[..],
-        &mut *starts,
-        &mut *spans,
-    )
 }

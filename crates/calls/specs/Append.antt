@@ -1,10 +1,10 @@
 -- Append. Document 01, "Create, append, unlink" and refusals 8 to 11, 13, 5 and 15.
 use Prim.Native.Nat.{ℕ, zero, suc, min, _+_}
 use mathlib.Core.List.{List, [], _∷_}
-use mathlib.Core.Bool.{Bool, true, false, cond, not, _||_}
+use mathlib.Core.Bool.{Bool, true, false, not, _||_}
 use mathlib.Core.Option.{Option, none, some}
 use lib.ListN.{length, take, drop}
-use lib.Dec.{eqb, ltb}
+use lib.Dec.{ltb}
 use Rattle.format.specs.Bytes.{Bytes}
 use Rattle.format.specs.Ids.{NONE, firstBlockId, isDirectoryId}
 use Rattle.format.specs.BlockSize.{greatestBlock}
@@ -13,11 +13,12 @@ use Rattle.volume.specs.View.{byBytes}
 use Rattle.volume.specs.Counting.{blockIds}
 use Rattle.volume.specs.Contents.{lastBlock, fileBlocks}
 use Rattle.volume.specs.Path.{goodPath, pathNames}
-use Rattle.volume.specs.Tree.{Found, found, absent, lookupNames}
+use Rattle.volume.specs.Tree.{lookupNames}
 use Rattle.calls.specs.Refusal.{_refused-by_, firstRefusal}
 use Rattle.calls.specs.Areas.{fileAreas}
 use Rattle.calls.specs.Mount.{mostBlocks, volume, mountNumber}
 use Rattle.calls.specs.Storing.{spaces, placeAll, noPlace, storedOr, namedIds, unusedId}
+use Rattle.calls.specs.Attempt.{Attempt, numberOf, leaves, attemptAt}
 use Rattle.calls.specs.declared.Descriptor.{Descriptor}
 
 -- "over 8,192 bytes to append" is 8
@@ -59,7 +60,7 @@ abbrev pub isBroken : Option (List Bytes) → Bool
 isBroken none = true
 isBroken (some bs) = false
 
--- a live file: 13, then 5 again with the new blocks counted in, then 15
+-- what a path led to: 11 for a directory, 13, then 5 again with the new blocks counted in, then 15
 unfoldable pub appendTo : Bytes → List Descriptor → ℕ → Bytes → ℕ
 appendTo image ds f text =
     let v = volume image ds in
@@ -71,34 +72,18 @@ appendTo image ds f text =
     ∷ (noPlace (placeAll (spaces image (fileAreas image ds)) bs) refused-by 15)
     ∷ [])
 
--- what becomes of an append: the file, or a number of refusal
-pub data Appending : Type 0 where
-  appends : ℕ → Appending
-  refuses : ℕ → Appending
-
-abbrev pub appendWhere : Bytes → List Descriptor → Bytes → Found → Appending
-appendWhere image ds text (absent r) = refuses r
-appendWhere image ds text (found f) = cond (eqb (appendTo image ds f text) 0) (appends f) (refuses (appendTo image ds f text))
-
-unfoldable pub appending : Bytes → List Descriptor → Bytes → Bytes → Bytes → Appending
+-- an append goes with its file; 8 is "bad path or name; over 8,192 bytes to append"
+unfoldable pub appending : Bytes → List Descriptor → Bytes → Bytes → Bytes → Attempt ℕ
 appending image ds base path text =
-    cond (eqb (mountNumber image ds) 0)
-    (cond (not (goodPath base path) || ltb mostAppended (length text))
-    (refuses 8)
-    (appendWhere image ds text (lookupNames byBytes (volume image ds) (pathNames base path))))
-    (refuses (mountNumber image ds))
-
-abbrev pub appendNumber : Appending → ℕ
-appendNumber (appends f) = 0
-appendNumber (refuses r) = r
-
--- "all pieces or none; 0 bytes write nothing"
-abbrev pub appendImage : Bytes → List Descriptor → Bytes → Appending → Bytes
-appendImage image ds text (appends f) = storedOr image (placeAll (spaces image (fileAreas image ds)) (newBlocks image ds f text))
-appendImage image ds text (refuses r) = image
+    attemptAt (mountNumber image ds) (not (goodPath base path) || ltb mostAppended (length text))
+    (lookupNames byBytes (volume image ds) (pathNames base path)) (λ f. appendTo image ds f text)
 
 unfoldable pub appendOf : Bytes → List Descriptor → Bytes → Bytes → Bytes → ℕ
-appendOf image ds base path text = appendNumber (appending image ds base path text)
+appendOf image ds base path text = numberOf (appending image ds base path text)
+
+-- the image with the pieces for the file f: "all pieces or none; 0 bytes write nothing"
+abbrev pub appendImage : Bytes → List Descriptor → Bytes → ℕ → Bytes
+appendImage image ds text f = storedOr image (placeAll (spaces image (fileAreas image ds)) (newBlocks image ds f text))
 
 unfoldable pub imageAppended : Bytes → List Descriptor → Bytes → Bytes → Bytes → Bytes
-imageAppended image ds base path text = appendImage image ds text (appending image ds base path text)
+imageAppended image ds base path text = leaves image (appendImage image ds text) (appending image ds base path text)

@@ -14,16 +14,6 @@ unfoldable pub listed : List Descriptor → List Descriptor
 listed [] = []
 listed (d ∷ l) = cond (eqb (d .length) 0) [] (d ∷ listed l)
 
--- a list lent as numbers, offset and length in turn; an odd last number is not looked at
-unfoldable pub paired : List ℕ → List Descriptor
-paired [] = []
-paired (o ∷ []) = []
-paired (o ∷ n ∷ l) = record { offset = o; length = n } ∷ paired l
-
--- the area list of a call that is lent numbers
-abbrev pub areaList : List ℕ → List Descriptor
-areaList l = listed (paired l)
-
 -- From here on a list of descriptors is one that `listed` has cut.
 
 abbrev pub mostAreas : ℕ

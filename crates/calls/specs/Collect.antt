@@ -1,21 +1,24 @@
 -- Collect. Document 01, "Collect"; source document 004 on garbage collection.
-use Prim.Native.Nat.{ℕ, _+_, _-_, _%_}
+use Prim.Native.Nat.{ℕ, _+_, _%_}
 use mathlib.Core.List.{List, [], _∷_, _++_}
 use mathlib.Core.Bool.{Bool, cond, not, _&&_, _||_}
 use mathlib.Core.Option.{Option, none, some}
-use lib.ListN.{length, take}
+use lib.ListN.{length, take, drop}
 use lib.Dec.{eqb, ltb}
 use Rattle.format.specs.Bytes.{Bytes}
 use Rattle.format.specs.Record.{recordId, recordLink}
 use Rattle.format.specs.AreaHeader.{areaHeaderSize, areaId, collectionCount, scratchId}
+use Rattle.format.specs.Reading.{ERASED}
+use Rattle.format.specs.Encoding.{areaHeader}
 use Rattle.volume.specs.Lists.{keep, all, has, same}
 use Rattle.volume.specs.View.{byBytes}
 use Rattle.volume.specs.Counting.{Volume, inodeOf, blockOf}
 use Rattle.volume.specs.Fate.{isDead, fateOf, blockDead}
-use Rattle.calls.specs.Image.{put, erased}
+use Rattle.calls.specs.Image.{erased}
 use Rattle.calls.specs.Areas.{areaBytes, fileAreas, scratchAreas}
 use Rattle.calls.specs.Mount.{recordsOf, bytesOf, recordsIn, volume, mountNumber}
-use Rattle.calls.specs.Format.{emptyArea}
+use Rattle.calls.specs.Storing.{Store, storeAll}
+use Rattle.calls.specs.Attempt.{Attempt, goes, refuses, numberOf, leaves, unless}
 use Rattle.calls.specs.declared.Descriptor.{Descriptor}
 
 -- ---- the source area
@@ -80,60 +83,68 @@ drops v source elsewhere b = cond (byBytes .isBlock b) (dropsBlock v elsewhere b
 unfoldable pub copies : Volume Bytes → List Bytes → List Bytes → List Bytes
 copies v source elsewhere = keep (λ b. counts v b && not (drops v source elsewhere b)) (firstPlaces source)
 
-unfoldable pub joinedBytes : List Bytes → Bytes
-joinedBytes [] = []
-joinedBytes (b ∷ bs) = b ++ joinedBytes bs
+-- those of a collection of the source s
+abbrev pub copiedRecords : Bytes → List Descriptor → Descriptor → List Bytes
+copiedRecords image ds s = copies (volume image ds) (bytesOf (recordsOf image s)) (recordsElsewhere image (fileAreas image ds) s)
 
--- ---- the image afterwards
+-- ---- the stores, in the order of document 02, T-04
 
--- "Scratch takes the source's id": its header, restored, with that id
-unfoldable pub headerWithId : Bytes → ℕ → Bytes
-headerWithId area id = take 23 area ++ (id ∷ [])
+-- an area is FF behind its header
+unfoldable pub isBlank : Bytes → Bool
+isBlank area = all (λ b. eqb b ERASED) (drop areaHeaderSize area)
 
--- the scratch area afterwards: that header, the copies, and FF
-unfoldable pub filledScratch : Bytes → Descriptor → ℕ → Bytes → Bytes
-filledScratch image scratch id bytes =
-    headerWithId (areaBytes image scratch) id ++ (bytes ++ erased (scratch .length - (areaHeaderSize + length bytes)))
+-- an area erased whole, and then its header
+unfoldable pub resetStores : Descriptor → Bytes → List Store
+resetStores d header = record { place = d .offset; bytes = erased (d .length) } ∷ record { place = d .offset; bytes = header } ∷ []
+
+-- "A scratch area not FF after its header is erased first and its header restored"
+unfoldable pub readyStores : Bytes → Descriptor → List Store
+readyStores image scratch =
+    let area = areaBytes image scratch in
+    cond (isBlank area) [] (resetStores scratch (take areaHeaderSize area))
+
+-- "Scratch takes the source's id": the last byte of its header
+abbrev pub idStore : Descriptor → ℕ → Store
+idStore scratch id = record { place = scratch .offset + 23; bytes = id ∷ [] }
+
+-- records one behind the other from a place on
+unfoldable pub recordStores : ℕ → List Bytes → List Store
+recordStores p [] = []
+recordStores p (b ∷ bs) = record { place = p; bytes = b } ∷ recordStores (p + length b) bs
 
 -- "its count plus one (255 goes to 0)"
 unfoldable pub nextCount : ℕ → ℕ
 nextCount n = (n + 1) % 256
 
--- "the source is erased and becomes scratch"
+-- "the source is erased and becomes scratch with its count plus one"
+abbrev pub scratchStores : Bytes → Descriptor → List Store
+scratchStores image s = resetStores s (areaHeader (s .length) (nextCount (countOf image s)) scratchId)
+
+-- "scratch erased and its header restored if needed; the id byte of scratch; the copies, low byte first; the source erased, ..; its new header"
+unfoldable pub collectStores : Bytes → Descriptor → Descriptor → List Bytes → List Store
+collectStores image scratch s records =
+    readyStores image scratch
+    ++ (idStore scratch (areaId (areaBytes image s)) ∷ (recordStores (scratch .offset + areaHeaderSize) records ++ scratchStores image s))
+
+-- ---- the image afterwards
+
 unfoldable pub collected : Bytes → List Descriptor → Descriptor → Descriptor → Bytes
-collected image ds scratch s =
-    let bytes = joinedBytes (copies (volume image ds) (bytesOf (recordsOf image s)) (recordsElsewhere image (fileAreas image ds) s)) in
-    put (put image (scratch .offset) (filledScratch image scratch (areaId (areaBytes image s)) bytes))
-    (s .offset) (emptyArea (s .length) (nextCount (countOf image s)) scratchId)
+collected image ds scratch s = storeAll image (collectStores image scratch s (copiedRecords image ds s))
 
--- what becomes of a collect: the scratch and the source area, or a number of refusal
-pub data Collecting : Type 0 where
-  collects : Descriptor → Descriptor → Collecting
-  refuses : ℕ → Collecting
-
--- "17: no file area is as long as the scratch area"
-abbrev pub collectFrom : Descriptor → Option Descriptor → Collecting
+-- a collect goes with the scratch and the source area; 17 is "no file area is as long as the scratch area"
+abbrev pub collectFrom : Descriptor → Option Descriptor → Attempt (Descriptor × Descriptor)
 collectFrom scratch none = refuses 17
-collectFrom scratch (some s) = collects scratch s
+collectFrom scratch (some s) = goes (scratch, s)
 
-abbrev pub collectWith : Bytes → List Descriptor → List Descriptor → Collecting
+abbrev pub collectWith : Bytes → List Descriptor → List Descriptor → Attempt (Descriptor × Descriptor)
 collectWith image fs [] = refuses 3
 collectWith image fs (scratch ∷ ss) = collectFrom scratch (sourceOf image fs scratch)
 
-unfoldable pub collecting : Bytes → List Descriptor → Collecting
-collecting image ds =
-    cond (eqb (mountNumber image ds) 0) (collectWith image (fileAreas image ds) (scratchAreas image ds)) (refuses (mountNumber image ds))
-
-abbrev pub collectNumber : Collecting → ℕ
-collectNumber (collects scratch s) = 0
-collectNumber (refuses r) = r
-
-abbrev pub collectImage : Bytes → List Descriptor → Collecting → Bytes
-collectImage image ds (collects scratch s) = collected image ds scratch s
-collectImage image ds (refuses r) = image
+unfoldable pub collecting : Bytes → List Descriptor → Attempt (Descriptor × Descriptor)
+collecting image ds = unless (mountNumber image ds) (collectWith image (fileAreas image ds) (scratchAreas image ds))
 
 unfoldable pub collectOf : Bytes → List Descriptor → ℕ
-collectOf image ds = collectNumber (collecting image ds)
+collectOf image ds = numberOf (collecting image ds)
 
 unfoldable pub imageCollected : Bytes → List Descriptor → Bytes
-imageCollected image ds = collectImage image ds (collecting image ds)
+imageCollected image ds = leaves image (λ areas. collected image ds (areas .0) (areas .1)) (collecting image ds)

@@ -8,8 +8,10 @@ pub mod Lookup
 pub mod Read
 pub mod Format
 pub mod Storing
+pub mod Attempt
 pub mod Create
 pub mod Append
+pub mod Rewrite
 pub mod Unlink
 pub mod Collect
 pub mod Program

@@ -1,12 +1,12 @@
 -- Mounting: checks 1 to 7, and the records of a volume. Document 01, "Numbers of refusal" and "What counts".
-use Prim.Native.Nat.{ℕ}
+use Prim.Native.Nat.{ℕ, _/_}
 use mathlib.Core.List.{List, [], _∷_, _++_, map}
 use mathlib.Core.Bool.{Bool, true, not, _||_}
 use lib.ListN.{length}
 use lib.Dec.{leb, ltb, eqb}
 use Rattle.format.specs.Bytes.{Bytes}
 use Rattle.format.specs.Ids.{rootId}
-use Rattle.format.specs.Record.{recordSize}
+use Rattle.format.specs.Record.{inode, recordSize}
 use Rattle.format.specs.AreaHeader.{areaId}
 use Rattle.format.specs.Reading.{Placed, areaRecords}
 use Rattle.volume.specs.Lists.{all, once, has}
@@ -42,6 +42,10 @@ mostInodes = 64
 
 abbrev pub mostBlocks : ℕ
 mostBlocks = 256
+
+-- no more records than this fit in the largest image: none is shorter than an inode's header
+abbrev pub mostRecords : ℕ
+mostRecords = largestImage / inode .headerSize
 
 unfoldable pub badDescription : Bytes → List Descriptor → Bool
 badDescription image ds = ltb largestImage (length image) || not (goodAreas (length image) ds)

@@ -27,7 +27,7 @@ spaces image (d ∷ fs) =
     (record { from = d .offset + areaFree recordSize (areaBytes image d); end = areaEnd d } ∷ spaces image fs)
     (spaces image fs)
 
--- a record and the place where it is stored
+-- bytes and the place where they are stored
 pub record Store : Type 0 where
   pub place : ℕ
   pub bytes : Bytes
@@ -58,6 +58,7 @@ unfoldable pub placeAll : List Space → List Bytes → Option (List Store)
 placeAll ss [] = some []
 placeAll ss (b ∷ bs) = bind (firstFit (length b) ss) (λ f. prepend (record { place = f .place; bytes = b }) (placeAll (f .left) bs))
 
+-- the image after these stores, one after the other
 unfoldable pub storeAll : Bytes → List Store → Bytes
 storeAll image [] = image
 storeAll image (s ∷ l) = storeAll (put image (s .place) (s .bytes)) l

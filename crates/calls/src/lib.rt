@@ -1,4 +1,61 @@
-// The answers of the calls, as types; what each call answers is defined in specs/.
+// The limits, the numbers of refusal and the answers of the calls, as constants and types; what each call answers is defined in specs/.
+
+// The limits of document 01: areas of a list, places of the tables, the shortest area, the largest image.
+pub const MOST_AREAS: usize = 8;
+
+pub const MOST_INODES: usize = 64;
+
+pub const MOST_BLOCKS: usize = 256;
+
+pub const SHORTEST_AREA: usize = 128;
+
+pub const LARGEST_IMAGE: usize = 65536;
+
+// The most bytes that one append takes.
+pub const MOST_APPENDED: usize = 8192;
+
+// The most records that fit in the largest image: none is shorter than 20 bytes, an inode's header.
+pub const MOST_RECORDS: usize = LARGEST_IMAGE / 20;
+
+// The numbers of refusal, in the order of document 01's table, by the names of the C header.
+pub const BAD_AREAS: u32 = 1;
+
+pub const SAME_AREA_ID: u32 = 2;
+
+pub const NO_FILE_OR_SCRATCH: u32 = 3;
+
+pub const SHORT_SCRATCH: u32 = 4;
+
+pub const TOO_MANY_IDS: u32 = 5;
+
+pub const CONFLICT: u32 = 6;
+
+pub const NO_ROOT: u32 = 7;
+
+pub const BAD_PATH: u32 = 8;
+
+pub const NOT_FOUND: u32 = 9;
+
+pub const AMBIGUOUS: u32 = 10;
+
+pub const WRONG_KIND: u32 = 11;
+
+pub const EXISTS: u32 = 12;
+
+pub const BROKEN: u32 = 13;
+
+pub const PAST_END: u32 = 14;
+
+pub const NO_ROOM: u32 = 15;
+
+pub const LAST_SEQUENCE: u32 = 16;
+
+pub const NO_SOURCE: u32 = 17;
+
+// The kinds of inodes: create takes any other number for a file too.
+pub const DIRECTORY: u32 = 0;
+
+pub const FILE: u32 = 1;
 
 // An area descriptor: where an area of flash starts and how long it is.
 #[repr(C)]

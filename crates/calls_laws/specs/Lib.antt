@@ -3,3 +3,5 @@ pub mod Checks
 pub mod Records
 pub mod Reads
 pub mod Unused
+pub mod Storing
+pub mod Attempt

@@ -16,18 +16,16 @@ use Rattle.format_laws.specs.Record.{record-inside}
 use Rattle.format_laws.specs.Reading.{records-lawful}
 use Rattle.format_laws.specs.Taken.{records-from, from-each}
 use Rattle.volume.specs.Lists.{keep}
-use Rattle.volume_laws.specs.Lists.{keep-append, keep-none}
+use Rattle.volume_laws.specs.Lists.{keep-append, keep-none, keep-whole}
 use Rattle.calls.specs.Areas.{areaEnd, areaBytes, allDisjoint, fileAreas}
 use Rattle.calls.specs.Mount.{recordsOf, bytesOf, recordsIn, volume}
 use Rattle.calls.specs.Collect.{isOther, recordsElsewhere, copies}
 use Rattle.calls.specs.declared.Descriptor.{Descriptor}
-use Rattle.place_view.specs.Place.{bytesAt, byPlace}
-use Rattle.gather.specs.Gather.{Tables, AllGood, AllRows}
-use Rattle.descriptors.specs.Places.{Clear, clear-sym, split-first}
-use Rattle.listing.specs.Listing.{starts, placesIn}
-use Rattle.listing.specs.Bridge.{starts-each, places-bytes, placedVolume, volume-places}
-use Rattle.collect_copies.specs.Copied.{inside, copiedPlaces}
-use Rattle.collect_copies.specs.Lists.{keep-whole}
+use Rattle.record_places.specs.Place.{bytesAt, byPlace}
+use Rattle.area_list.specs.Places.{Clear, clear-sym, split-first}
+use Rattle.area_pass.specs.Listing.{recordPlaces, placesIn}
+use Rattle.area_pass.specs.Bridge.{record-places-each, places-bytes, placedVolume, volume-places}
+use Rattle.collect_copies.specs.Copied.{Tables, AllRows, inside, copiedPlaces}
 use Rattle.collect_copies.specs.Tests.{copies-are}
 
 -- ---- one area
@@ -45,9 +43,9 @@ module _ (image : Bytes) where
         length-take (d .length) (drop (d .offset) image),
       )
 
-  pub in-area : (d : Descriptor) (p : ℕ) → List·Memᴰ p (starts (d .offset) (recordsOf image d)) → (d .offset ≤ p) × (p < areaEnd d)
+  pub in-area : (d : Descriptor) (p : ℕ) → List·Memᴰ p (recordPlaces (d .offset) (recordsOf image d)) → (d .offset ≤ p) × (p < areaEnd d)
   in-area d p m =
-      let r = starts-each (d .offset) p (recordsOf image d) m in
+      let r = record-places-each (d .offset) p (recordsOf image d) m in
       let e = r .2 in
       let h = starts-in d (r .0) (r .1) in
       (omega arith, omega arith)
@@ -58,7 +56,7 @@ module _ (image : Bytes) where
   in-areas (d ∷ fs) p m =
       ⊎-elim (λ k. let r = in-area d p k in (d, List·Memᴰ·head refl, r .0, r .1))
       (λ k. let r = in-areas fs p k in (r .0, List·Memᴰ·tail (r .1), r .2, r .3))
-      (List·Memᴰ·append-cases (starts (d .offset) (recordsOf image d)) m)
+      (List·Memᴰ·append-cases (recordPlaces (d .offset) (recordsOf image d)) m)
 
 -- a place in the source, and one in an area apart from it
 module _ (s : Descriptor) (p : ℕ) where
@@ -103,7 +101,7 @@ module _ (image : Bytes) (s : Descriptor) where
   -- one area that is apart from it, and the source itself
   module _ (d : Descriptor) where
     abbrev own : List ℕ
-    own = starts (d .offset) (recordsOf image d)
+    own = recordPlaces (d .offset) (recordsOf image d)
 
     own-not : Clear d s → (p : ℕ) → List·Memᴰ p own → near p ≡ false
     own-not c p m = let r = in-area image d p m in inside-not s p d c (r .0) (r .1)
@@ -112,7 +110,7 @@ module _ (image : Bytes) (s : Descriptor) where
     own-near e p m = let r = in-area image d p m in rw (← e) (inside-own d p (r .0) (r .1))
 
   pub parted : (fs : List Descriptor) → T (allDisjoint fs) → ((d : Descriptor) → List·Memᴰ d fs → 0 < d .length) → List·Memᴰ s fs
-      → (keep near (placesIn image fs) ≡ starts (s .offset) (recordsOf image s))
+      → (keep near (placesIn image fs) ≡ recordPlaces (s .offset) (recordsOf image s))
       × (keep far (placesIn image fs) ≡ placesIn image (keep (isOther s) fs))
   unfolding placesIn keep isOther
   parted (d ∷ fs) t long (List·Memᴰ·head e) =
@@ -137,7 +135,7 @@ module _ (image : Bytes) (s : Descriptor) where
     pub near-records : map (bytesAt image) (keep near (placesIn image fs)) ≡ bytesOf (recordsOf image s)
     unfolding placesIn recordsIn
     near-records =
-        rw (parted fs t long m .0, ← append-nil (starts (s .offset) (recordsOf image s))) (places-bytes image (s ∷ []) ∙ append-nil (bytesOf (recordsOf image s)))
+        rw (parted fs t long m .0, ← append-nil (recordPlaces (s .offset) (recordsOf image s))) (places-bytes image (s ∷ []) ∙ append-nil (bytesOf (recordsOf image s)))
 
     pub far-records : map (bytesAt image) (keep far (placesIn image fs)) ≡ recordsElsewhere image fs s
     unfolding recordsElsewhere
@@ -148,11 +146,11 @@ module _ (image : Bytes) (s : Descriptor) where
 -- what `list_copies` finds for a source among the file areas of a mount is what a collection copies
 pub volume-copies : (image : Bytes) (ds : List Descriptor) (s : Descriptor) (t : Tables) → T (allDisjoint (fileAreas image ds))
     → ((d : Descriptor) → List·Memᴰ d (fileAreas image ds) → 0 < d .length) → List·Memᴰ s (fileAreas image ds)
-    → AllGood image t → AllRows (byPlace image) (placedVolume image ds) t
+    → AllRows (byPlace image) (placedVolume image ds) t
     → map (bytesAt image) (copiedPlaces image (s .offset) (s .length) (placesIn image (fileAreas image ds)) t)
     ≡ copies (volume image ds) (bytesOf (recordsOf image s)) (recordsElsewhere image (fileAreas image ds) s)
-volume-copies image ds s t a long m good rows =
-    copies-are image (placedVolume image ds) t good rows (s .offset) (s .length) (placesIn image (fileAreas image ds))
+volume-copies image ds s t a long m rows =
+    copies-are image (placedVolume image ds) t rows (s .offset) (s .length) (placesIn image (fileAreas image ds))
     ∙ rw (
       volume-places image ds,
       near-records image s (fileAreas image ds) a long m,

@@ -5,8 +5,7 @@ use mathlib.Core.Bool.{Bool, true, false, cond, not, _&&_}
 use mathlib.Core.Option.{some}
 use mathlib.Core.List.{List, [], _∷_, _++_, map, List·Memᴰ, List·Memᴰ·head, List·Memᴰ·tail, Memᴰ·of-map, Memᴰ·cast}
 use native.Mathlib.Omega.{arith}
-use lib.ListN.{length, take, length-map}
-use lib.Seq.{length-take-le}
+use lib.ListN.{length, length-map}
 use lib.Dec.{T, T-not}
 use Rattle.format.specs.Bytes.{Bytes, le32}
 use Rattle.volume.specs.Lists.{keep, all, same}
@@ -14,14 +13,12 @@ use Rattle.volume_laws.specs.Tests.{T→true, true→T, not-T→false, and-T, h
 use Rattle.volume_laws.specs.Lists.{same-refl, same-eq, keep-append, keep-comm, keep-mem, keep-map}
 use Rattle.volume_laws.specs.Once.{Nodup, pigeons}
 use Rattle.calls.specs.Collect.{firstPlaces}
-use Rattle.place_view.specs.Place.{bytesAt, blockAt, byPlace}
-use Rattle.place_view.specs.Laws.{place-views}
-use Rattle.occupancy.specs.Laws.{position-found}
-use Rattle.table.specs.Table.{taken, found, rowOf}
-use Rattle.table.specs.Laws.{held-some, ids-room}
-use Rattle.gather.specs.Gather.{Table, Tables, tableOf, TableGood, AllGood}
-use Rattle.gather.specs.Laws.{getD-in}
-use Rattle.collect_copies.specs.Copied.{inside, dropped, countsIn, copied, firstAt, noneSame}
+use Rattle.record_places.specs.Place.{bytesAt, blockAt, byPlace}
+use Rattle.record_places.specs.Laws.{place-views}
+use Rattle.table_words.specs.Laws.{position-found}
+use Rattle.table_rows.specs.Table.{found, rowOf}
+use Rattle.table_rows.specs.Laws.{held-some, getD-mem}
+use Rattle.collect_copies.specs.Copied.{Table, Tables, tableOf, inside, dropped, countsIn, copied, firstAt, noneSame}
 use Rattle.collect_copies.specs.Lists.{all-kept, keep-kept, keep-parts, nodup-part}
 
 module _ (image : Bytes) where
@@ -100,9 +97,9 @@ module _ (image : Bytes) where
     counts-alike : (p q : ℕ) → countsIn image u p ≡ true → countsIn image u q ≡ true → le32 image (p + 4) ≡ le32 image (q + 4) → alike p q ≡ true
     unfolding countsIn
     counts-alike p q a b e =
-        let r = has-some (alike p) (found (taken (u .words)) (u .ids) (u .spots) (le32 image (p + 4))) (true→T a) in
-        let s = has-some (alike q) (found (taken (u .words)) (u .ids) (u .spots) (le32 image (q + 4))) (true→T b) in
-        let z : some (r .0) ≡ some (s .0) = sym (r .1) ∙ ap (found (taken (u .words)) (u .ids) (u .spots)) e ∙ s .1 in
+        let r = has-some (alike p) (found (length (u .ids)) (u .ids) (u .spots) (le32 image (p + 4))) (true→T a) in
+        let s = has-some (alike q) (found (length (u .ids)) (u .ids) (u .spots) (le32 image (q + 4))) (true→T b) in
+        let z : some (r .0) ≡ some (s .0) = sym (r .1) ∙ ap (found (length (u .ids)) (u .ids) (u .spots)) e ∙ s .1 in
         let y : r .0 ≡ s .0 = cc in
         let k = same-eq (bytesAt image p) (bytesAt image (r .0)) (r .2) in
         let l = same-eq (bytesAt image q) (bytesAt image (s .0)) (s .2) in
@@ -121,36 +118,33 @@ module _ (image : Bytes) where
       nodup-part (λ p. le32 image (p + 4)) (λ q. not (alike p q)) (firstAt image l) (ids-apart l (λ q m. h q (List·Memᴰ·tail m))),
     )
 
-    pub few-of-table : TableGood image u → (l : List ℕ) → ((p : ℕ) → List·Memᴰ p l → countsIn image u p ≡ true) → length (firstAt image l) ≤ length (u .ids)
+    pub few-of-table : (l : List ℕ) → ((p : ℕ) → List·Memᴰ p l → countsIn image u p ≡ true) → length (firstAt image l) ≤ length (u .ids)
     unfolding countsIn
-    few-of-table g l h =
-        let n = taken (u .words) in
-        let w = ids-room (g .sized) in
-        let k = pigeons (map (λ p. le32 image (p + 4)) (firstAt image l)) (take n (u .ids)) (ids-apart l h) (λ i m. listed i m) in
-        omega (arith, length-map (firstAt image l) (λ p. le32 image (p + 4)), length-take-le n (u .ids) w)
+    few-of-table l h =
+        let k = pigeons (map (λ p. le32 image (p + 4)) (firstAt image l)) (u .ids) (ids-apart l h) (λ i m. listed i m) in
+        omega (arith, length-map (firstAt image l) (λ p. le32 image (p + 4)))
       where
-        listed : (i : ℕ) → List·Memᴰ i (map (λ p. le32 image (p + 4)) (firstAt image l)) → List·Memᴰ i (take (taken (u .words)) (u .ids))
+        listed : (i : ℕ) → List·Memᴰ i (map (λ p. le32 image (p + 4)) (firstAt image l)) → List·Memᴰ i (u .ids)
         listed i m =
             let r = Memᴰ·of-map (λ p. le32 image (p + 4)) (firstAt image l) m in
-            let n = taken (u .words) in
+            let n = length (u .ids) in
             let j = le32 image (r .0 + 4) in
             let s = has-some (alike (r .0)) (found n (u .ids) (u .spots) j) (true→T (h (r .0) (first-mem l (r .1)))) in
             let k = held-some n (u .spots) (rowOf n (u .ids) j) (s .0) (s .1) in
-            let w = ids-room (g .sized) in
-            Memᴰ·cast (sym (position-found j n (u .ids) w (k .0) ∙ r .2)) (getD-in n (u .ids) (rowOf n (u .ids) j) (k .0) w)
+            Memᴰ·cast (sym (position-found j n (u .ids) (omega arith) (k .0) ∙ r .2)) (getD-mem (u .ids) (rowOf n (u .ids) j) (k .0))
 
   -- records of one kind have their bytes of one kind
   kind-alike : (p q : ℕ) → alike p q ≡ true → blockAt image p ≡ blockAt image q
   kind-alike p q e = let w = place-views image in sym (w .isBlock p) ∙ rw (alike-bytes p q e) (w .isBlock q)
 
   -- no more copies than there are ids in both tables
-  pub few-copied : (o n : ℕ) (ps : List ℕ) (t : Tables) → AllGood image t → (l : List ℕ)
+  pub few-copied : (o n : ℕ) (ps : List ℕ) (t : Tables) (l : List ℕ)
       → length (firstAt image (keep (copied image o n ps t) l)) ≤ length (t .inodes .ids) + length (t .blocks .ids)
   unfolding copied
-  few-copied o n ps t g l =
+  few-copied o n ps t l =
       let x = keep (copied image o n ps t) l in
-      let b = few-of-table (t .blocks) (g .blocks) (keep (blockAt image) x) (λ p m. of-kind true p (keep-mem (blockAt image) x m .0) (T→true (keep-mem (blockAt image) x m .1))) in
-      let i = few-of-table (t .inodes) (g .inodes) (keep (λ p. not (blockAt image p)) x)
+      let b = few-of-table (t .blocks) (keep (blockAt image) x) (λ p m. of-kind true p (keep-mem (blockAt image) x m .0) (T→true (keep-mem (blockAt image) x m .1))) in
+      let i = few-of-table (t .inodes) (keep (λ p. not (blockAt image p)) x)
       (λ p m. of-kind false p (keep-mem (λ p. not (blockAt image p)) x m .0)
       (not-T→false (T-not (blockAt image p) (keep-mem (λ p. not (blockAt image p)) x m .1)))) in
       let f = ap length (first-keep (blockAt image) kind-alike x) in

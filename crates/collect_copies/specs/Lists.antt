@@ -2,7 +2,7 @@
 use Prim.Native.Nat.{ℕ, suc, _+_}
 use mathlib.Core.Path.{_≡_, refl, sym}
 use mathlib.Core.Bool.{Bool, true, false, cond, not, _&&_}
-use mathlib.Core.List.{List, [], _∷_, _++_, map, List·Memᴰ, List·Memᴰ·head, List·Memᴰ·tail, Memᴰ·of-map, Memᴰ·map, Memᴰ·cast}
+use mathlib.Core.List.{List, [], _∷_, _++_, map, Memᴰ·of-map, Memᴰ·map, Memᴰ·cast}
 use native.Mathlib.Omega.{arith}
 use lib.ListN.{length}
 use Rattle.volume.specs.Lists.{keep, all}
@@ -29,12 +29,6 @@ module _ {A : Type 0} where
       go : (b : Bool) → g a ≡ b → keep f (keep g l) ≡ keep f l → keep f (cond b (a ∷ keep g l) (keep g l)) ≡ cond (f a) (a ∷ keep f l) (keep f l)
       go true e ih = rw ih
       go false e ih = rw (h a e) ih
-
-  -- a filter that all pass
-  pub keep-whole : (f : A → Bool) (l : List A) → ((a : A) → List·Memᴰ a l → f a ≡ true) → keep f l ≡ l
-  unfolding keep
-  keep-whole f [] h = refl
-  keep-whole f (a ∷ l) h = rw (h a (List·Memᴰ·head refl), keep-whole f l (λ b m. h b (List·Memᴰ·tail m)))
 
   -- a test of those that pass a filter, as one test of all
   pub all-keep : (f g : A → Bool) (l : List A) → all f (keep g l) ≡ all (λ a. cond (g a) (f a) true) l

@@ -10,10 +10,9 @@ use lib.Seq.{drop-cons, take-all, take-suc, take-suc-set, length-take-le}
 use Rattle.format.specs.Bytes.{Bytes}
 use Rattle.volume.specs.Lists.{keep, all}
 use Rattle.volume_laws.specs.Lists.{keep-append, keep-mem}
-use Rattle.place_view.specs.Place.{byPlace, Lies, AllLie}
-use Rattle.table.specs.Laws.{getD-mem}
-use Rattle.gather.specs.Gather.{Tables}
-use Rattle.collect_copies.specs.Copied.{inside, holds, unheld, copied, firstAt, copiedPlaces, noneSame, Lent}
+use Rattle.record_places.specs.Place.{byPlace, Lies, AllLie}
+use Rattle.table_rows.specs.Laws.{getD-mem}
+use Rattle.collect_copies.specs.Copied.{Tables, inside, holds, unheld, copied, firstAt, copiedPlaces, noneSame}
 use Rattle.collect_copies.specs.First.{first-snoc, first-mem, few-copied}
 
 -- ---- the records that hold one, from i on
@@ -116,10 +115,10 @@ module _ (image : Bytes) (o n : ℕ) (ps : List ℕ) (t : Tables) (l₀ : List �
           with-one : firstAt image (keep (copied image o n ps t) (take (i + 1) ps)) ≡ take k l ++ (p ∷ [])
           with-one = kept ∙ rw s
 
-          pub choosing-room : Lent image ps t (length l₀) → k < length l
+          pub choosing-room : length (t .inodes .ids) + length (t .blocks .ids) ≤ length l₀ → k < length l
           choosing-room b =
-              let f = few-copied image o n ps t (b .good) (take (i + 1) ps) in
-              omega (arith, ap length with-one, length-append (take k l) (p ∷ []), length-take-le k l (c .fits), b .room, c .long)
+              let f = few-copied image o n ps t (take (i + 1) ps) in
+              omega (arith, ap length with-one, length-append (take k l) (p ∷ []), length-take-le k l (c .fits), c .long)
 
           pub choosing-takes : k < length l → Choosing image o n ps t l₀ (set l k p) (k + 1) (i + 1)
           choosing-takes r = record {

@@ -6,15 +6,15 @@ use mathlib.Core.Bool.{Bool, true, false, not}
 use mathlib.Core.Option.{Option, none, some}
 use mathlib.Core.List.{List}
 use native.Mathlib.Omega.{arith}
+use lib.ListN.{length}
 use lib.Dec.{eqb, ltb}
 use borrow.Author.Tests.{eq-eqb, ne-eqb, le-leb, lt-leb, lt-ltb, le-ltb, ltb-true, ltb-false}
 use Rattle.format.specs.Bytes.{Bytes, le32}
 use Rattle.volume.specs.Fate.{isDead}
-use Rattle.place_view.specs.Place.{blockAt, byPlace}
-use Rattle.table.specs.Table.{taken, found}
-use Rattle.fate.specs.Fates.{fateBy}
-use Rattle.gather.specs.Gather.{Table, Tables, tableOf}
-use Rattle.collect_copies.specs.Copied.{inside, holds, unheld, bearer, dropped, countsIn, copied}
+use Rattle.record_places.specs.Place.{blockAt, byPlace}
+use Rattle.table_rows.specs.Table.{found}
+use Rattle.inode_fate.specs.Fates.{fateBy}
+use Rattle.collect_copies.specs.Copied.{Table, Tables, tableOf, inside, holds, unheld, bearer, dropped, countsIn, copied}
 
 module _ (o n p : ℕ) where
   pub inside-before : p < o → false ≡ inside o n p
@@ -51,7 +51,7 @@ module _ (image : Bytes) (p : ℕ) where
 
 module _ (image : Bytes) (o n : ℕ) (ps : List ℕ) (u : Table) (p : ℕ) where
   abbrev deadThen : Bool
-  deadThen = isDead (fateBy (byPlace image) (taken (u .words)) (u .ids) (u .spots) (bearer image p))
+  deadThen = isDead (fateBy (byPlace image) (length (u .ids)) (u .ids) (u .spots) (bearer image p))
 
   pub dropped-not : deadThen ≡ false → false ≡ dropped image o n ps u p
   unfolding dropped
@@ -63,7 +63,7 @@ module _ (image : Bytes) (o n : ℕ) (ps : List ℕ) (u : Table) (p : ℕ) where
 
 module _ (image : Bytes) (u : Table) (p : ℕ) where
   abbrev there : Option ℕ
-  there = found (taken (u .words)) (u .ids) (u .spots) (le32 image (p + 4))
+  there = found (length (u .ids)) (u .ids) (u .spots) (le32 image (p + 4))
 
   pub counts-none : there ≡ none → false ≡ countsIn image u p
   unfolding countsIn
@@ -87,6 +87,7 @@ module _ (image : Bytes) (o n : ℕ) (ps : List ℕ) (t : Tables) (p : ℕ) wher
     unfolding copied
     copied-counts e = rw (here, e)
 
+module _ (image : Bytes) (t : Tables) (p : ℕ) where
   pub kind-block : blockAt image p ≡ true → countsIn image (t .blocks) p ≡ countsIn image (tableOf (blockAt image p) t) p
   kind-block e = rw e
 

@@ -4,6 +4,8 @@ use mathlib.Core.Path.{_≡_, refl, sym, ap, _∙_}
 use mathlib.Core.Bool.{Bool, true, false, cond, not, _&&_, _||_}
 use mathlib.Core.Option.{Option, none, some}
 use mathlib.Core.List.{List, _++_, map}
+use native.Mathlib.Omega.{arith}
+use lib.ListN.{length}
 use lib.Dec.{eqb}
 use Rattle.format.specs.Bytes.{Bytes, le32}
 use Rattle.format.specs.Record.{recordId, recordLink}
@@ -14,14 +16,12 @@ use Rattle.volume.specs.Fate.{isDead, fateOf, blockDead}
 use Rattle.volume_laws.specs.Lists.{keep-cong, keep-keep, keep-map, all-map, all-cong}
 use Rattle.volume_laws.specs.Map.{over, overVolume, inodeOf-map, blockOf-map, fateOf-map}
 use Rattle.calls.specs.Collect.{counts, dropsBlock, namesInode, dropsInode, drops, copies}
-use Rattle.place_view.specs.Place.{bytesAt, blockAt, byPlace}
-use Rattle.place_view.specs.Laws.{place-views}
-use Rattle.table.specs.Table.{taken, found}
-use Rattle.table.specs.Laws.{ids-room}
-use Rattle.fate.specs.Fates.{fateBy}
-use Rattle.fate.specs.Laws.{fate-rows}
-use Rattle.gather.specs.Gather.{Tables, tableOf, AllGood, AllRows}
-use Rattle.collect_copies.specs.Copied.{inside, holds, unheld, dropped, countsIn, copied, firstAt, copiedPlaces}
+use Rattle.record_places.specs.Place.{bytesAt, blockAt, byPlace}
+use Rattle.record_places.specs.Laws.{place-views}
+use Rattle.table_rows.specs.Table.{found}
+use Rattle.inode_fate.specs.Fates.{fateBy}
+use Rattle.inode_fate.specs.Laws.{fate-rows}
+use Rattle.collect_copies.specs.Copied.{Tables, tableOf, AllRows, inside, holds, unheld, dropped, countsIn, copied, firstAt, copiedPlaces}
 use Rattle.collect_copies.specs.Lists.{all-keep, all-append, all-both}
 use Rattle.collect_copies.specs.First.{first-keep, first-bytes, alike-bytes}
 
@@ -30,7 +30,7 @@ has-bytes image p none = refl
 has-bytes image p (some q) = refl
 
 -- a volume held by place, and its tables
-module _ (image : Bytes) (v : Volume ℕ) (t : Tables) (good : AllGood image t) (rows : AllRows (byPlace image) v t) where
+module _ (image : Bytes) (v : Volume ℕ) (t : Tables) (rows : AllRows (byPlace image) v t) where
   abbrev F : View ℕ
   F = byPlace image
 
@@ -55,19 +55,19 @@ module _ (image : Bytes) (v : Volume ℕ) (t : Tables) (good : AllGood image t) 
   counts-is p = rw (counts, kind-of p, id-of p) (go (blockAt image p))
     where
       go : (b : Bool) → cond b (has (same (f p)) (blockOf byBytes w (le32 image (p + 4)))) (has (same (f p)) (inodeOf byBytes w (le32 image (p + 4))))
-          ≡ has (F .same p) (found (taken (tableOf b t .words)) (tableOf b t .ids) (tableOf b t .spots) (le32 image (p + 4)))
+          ≡ has (F .same p) (found (length (tableOf b t .ids)) (tableOf b t .ids) (tableOf b t .spots) (le32 image (p + 4)))
       go true =
           rw (blockOf-map F byBytes f (place-views image) v (le32 image (p + 4)), rows .blocks .counts (le32 image (p + 4)))
-          (has-bytes image p (found (taken (t .blocks .words)) (t .blocks .ids) (t .blocks .spots) (le32 image (p + 4))))
+          (has-bytes image p (found (length (t .blocks .ids)) (t .blocks .ids) (t .blocks .spots) (le32 image (p + 4))))
       go false =
           rw (inodeOf-map F byBytes f (place-views image) v (le32 image (p + 4)), rows .inodes .counts (le32 image (p + 4)))
-          (has-bytes image p (found (taken (t .inodes .words)) (t .inodes .ids) (t .inodes .spots) (le32 image (p + 4))))
+          (has-bytes image p (found (length (t .inodes .ids)) (t .inodes .ids) (t .inodes .spots) (le32 image (p + 4))))
 
   -- a fate by the table
-  fate-is : (i : ℕ) → fateOf byBytes w i ≡ fateBy F (taken (t .inodes .words)) (t .inodes .ids) (t .inodes .spots) i
+  fate-is : (i : ℕ) → fateOf byBytes w i ≡ fateBy F (length (t .inodes .ids)) (t .inodes .ids) (t .inodes .spots) i
   fate-is i =
       fateOf-map F byBytes f (place-views image) v i
-      ∙ sym (fate-rows F v (taken (t .inodes .words)) (t .inodes .ids) (t .inodes .spots) (rows .inodes) (ids-room (good .inodes .sized)) i)
+      ∙ sym (fate-rows F v (length (t .inodes .ids)) (t .inodes .ids) (t .inodes .spots) (rows .inodes) (omega arith) i)
 
   -- the records at places ps, of which those among the n bytes from o on lie in the source
   module _ (o n : ℕ) (ps : List ℕ) where
@@ -121,7 +121,7 @@ module _ (image : Bytes) (v : Volume ℕ) (t : Tables) (good : AllGood image t) 
     drops-is p = rw (drops, kind-of p) (go (blockAt image p))
       where
         go : (b : Bool) → cond b (dropsBlock w far (f p)) (dropsInode w near far (f p))
-            ≡ (isDead (fateBy F (taken (t .inodes .words)) (t .inodes .ids) (t .inodes .spots) (cond b (le32 image (p + 12)) (le32 image (p + 4))))
+            ≡ (isDead (fateBy F (length (t .inodes .ids)) (t .inodes .ids) (t .inodes .spots) (cond b (le32 image (p + 12)) (le32 image (p + 4))))
             && unheld image o n ps (le32 image (p + 4)) b)
         go true = rw (id-of p, link-of p, fate-is (le32 image (p + 12)), block-held (le32 image (p + 4)))
         go false = rw (id-of p, fate-is (le32 image (p + 4)), inode-held (le32 image (p + 4)))

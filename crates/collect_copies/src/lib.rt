@@ -2,19 +2,26 @@
 ghost use mathlib.Core.Path.{_≡_};
 ghost use Prim.Native.Nat.{_≤_};
 ghost use lib.ListN.{length, take};
-ghost use Rattle.volume.specs.Fate.{isDead};
-ghost use Rattle.place_view.specs.Place.{blockAt, Lies, AllLie};
-ghost use Rattle.table.specs.Table.{Good};
-ghost use Rattle.fate.specs.Fates.{meaning};
-ghost use Rattle.gather.specs.Gather.{table, tables, tableOf, AllGood};
-ghost use Rattle.collect_copies.specs.Copied.{inside, holds, unheld, bearer, dropped, countsIn, copied, copiedPlaces, noneSame, Lent};
-use fate::Fate;
-use fate::fate_of;
-use fields::load32;
-use gather::is_block_at;
-use gather::same_bytes;
-use table::Spot;
-use table::find;
+ghost use Rattle.record_places.specs.Place.{blockAt, Lies, AllLie};
+ghost use Rattle.table_rows.specs.Rows.{Usable};
+ghost use Rattle.collect_copies.specs.Copied.{tableOf, tablesOf, Rowed, mostCopies, inside, holds, unheld, bearer, dropped, countsIn, copied, copiedPlaces, noneSame, Lent};
+use calls::MOST_BLOCKS;
+use calls::MOST_INODES;
+use inode_fate::fate_of;
+use inode_fate::is_dead;
+use mount_state::BLOCK_IDS;
+use mount_state::BLOCK_SPOTS;
+use mount_state::INODE_IDS;
+use mount_state::INODE_SPOTS;
+use record_places::id_at;
+use record_places::is_block_at;
+use record_places::link_at;
+use record_places::same_bytes;
+use table_rows::Spot;
+use table_rows::find;
+
+// The most copies that there can be: each is of an id of its own.
+pub const MOST_COPIES: usize = MOST_INODES + MOST_BLOCKS;
 
 // Whether a place is among the `span` bytes from `offset` on.
 fn is_inside(offset: u32, span: u32, p: u32) -> bool
@@ -32,24 +39,23 @@ fn holds(image: &[u8], id: u32, block: bool, near: bool, q: u32) -> bool
     requires { ⌜ Lies (now image) q ⌝ }
     ensures { λ r. ⌜ r ≡ holds (now (image .entry)) id block near q ⌝ }
 {
-    let at = q as usize;
-    if load32(image, at + 4) == id {
+    if id_at(image, q) == id {
         return !near;
     }
     if block {
         return false;
     }
-    load32(image, at + 12) == id
+    link_at(image, q) == id
 }
 
 // Whether no record keeps the dead record of an id.
-fn is_unheld(image: &[u8], offset: u32, span: u32, places: &[u32], id: u32, block: bool) -> bool
+fn is_unheld(image: &[u8], offset: u32, span: u32, places: &[u16], id: u32, block: bool) -> bool
     requires { ⌜ AllLie (now image) (now places) (length (now places)) ⌝ }
     ensures { λ r. ⌜ r ≡ unheld (now (image .entry)) offset span (now (places .entry)) id block ⌝ }
 {
     let mut i = 0;
     while i < places.len() {
-        let q = places[i];
+        let q = places[i] as u32;
         if holds(image, id, block, is_inside(offset, span, q), q) {
             return false;
         }
@@ -58,90 +64,82 @@ fn is_unheld(image: &[u8], offset: u32, span: u32, places: &[u32], id: u32, bloc
     true
 }
 
-fn is_dead(f: Fate) -> bool
-    ensures { λ r. ⌜ r ≡ isDead (meaning f) ⌝ }
-{
-    match f {
-        Fate::Live => false,
-        Fate::Dead => true,
-        Fate::Orphan => false,
-    }
-}
-
 // The id of the inode whose fate the record at `p` has.
 fn bearer(image: &[u8], p: u32) -> u32
     requires { ⌜ Lies (now image) p ⌝ }
     ensures { λ r. ⌜ r ≡ bearer (now (image .entry)) p ⌝ }
 {
-    let at = p as usize;
-    if is_block_at(image, at) {
-        return load32(image, at + 12);
+    if is_block_at(image, p) {
+        return link_at(image, p);
     }
-    load32(image, at + 4)
+    id_at(image, p)
 }
 
-// Whether the record at `p` is dead and nothing else needs it.
+// Whether the record at `p` is dead and nothing else needs it, by the rows of inodes.
 fn is_dropped(
     image: &[u8],
     offset: u32,
     span: u32,
-    places: &[u32],
-    words: &[u64],
+    places: &[u16],
     ids: &[u32],
     spots: &[u32],
     p: u32,
 ) -> bool
     requires { ⌜ AllLie (now image) (now places) (length (now places)) ⌝ }
-    requires { ⌜ Good (now image) (now words) (now ids) (now spots) ⌝ }
+    requires { ⌜ Usable (now image) (now ids) (now spots) ⌝ }
     requires { ⌜ Lies (now image) p ⌝ }
-    ensures { λ r. ⌜ r ≡ dropped (now (image .entry)) offset span (now (places .entry)) (table (now (words .entry)) (now (ids .entry)) (now (spots .entry))) p ⌝ }
+    ensures { λ r. ⌜ r ≡ dropped (now (image .entry)) offset span (now (places .entry)) (record { ids = now (ids .entry); spots = now (spots .entry) }) p ⌝ }
 {
-    let fate = fate_of(image, words, ids, spots, bearer(image, p));
+    let fate = fate_of(image, ids, spots, bearer(image, p));
     if is_dead(fate) {} else {
         return false;
     }
-    let at = p as usize;
     is_unheld(
         image,
         offset,
         span,
         places,
-        load32(image, at + 4),
-        is_block_at(image, at),
+        id_at(image, p),
+        is_block_at(image, p),
     )
 }
 
-// Whether the record at `p` has the bytes of the one that the table holds for its id.
-fn counts_in(image: &[u8], words: &[u64], ids: &[u32], spots: &[u32], p: u32) -> bool
-    requires { ⌜ Good (now image) (now words) (now ids) (now spots) ⌝ }
+// Whether the record at `p` has the bytes of the one that the rows hold for its id.
+fn counts_in(image: &[u8], ids: &[u32], spots: &[u32], p: u32) -> bool
+    requires { ⌜ Usable (now image) (now ids) (now spots) ⌝ }
     requires { ⌜ Lies (now image) p ⌝ }
-    ensures { λ r. ⌜ r ≡ countsIn (now (image .entry)) (table (now (words .entry)) (now (ids .entry)) (now (spots .entry))) p ⌝ }
+    ensures { λ r. ⌜ r ≡ countsIn (now (image .entry)) (record { ids = now (ids .entry); spots = now (spots .entry) }) p ⌝ }
 {
-    let Spot::At(q) = find(words, ids, spots, load32(image, p as usize + 4)) else {
+    let Spot::At(q) = find(ids, spots, id_at(image, p)) else {
         return false;
     };
     same_bytes(image, p, q)
 }
 
-// Whether the record at `p` counts, by the table of its kind.
-fn counts(
-    image: &[u8],
-    iwords: &[u64],
-    iids: &[u32],
-    ispots: &[u32],
-    bwords: &[u64],
-    bids: &[u32],
-    bspots: &[u32],
-    p: u32,
-) -> bool
-    requires { ⌜ AllGood (now image) (tables (now iwords) (now iids) (now ispots) (now bwords) (now bids) (now bspots)) ⌝ }
+// Whether the record at `p` counts, by the rows of its kind.
+fn counts(image: &[u8], tables: &[u32], inodes: usize, blocks: usize, p: u32) -> bool
+    requires { ⌜ Rowed (now image) inodes blocks (now tables) ⌝ }
     requires { ⌜ Lies (now image) p ⌝ }
-    ensures { λ r. ⌜ r ≡ countsIn (now (image .entry)) (tableOf (blockAt (now (image .entry)) p) (tables (now (iwords .entry)) (now (iids .entry)) (now (ispots .entry)) (now (bwords .entry)) (now (bids .entry)) (now (bspots .entry)))) p ⌝ }
+    ensures { λ r. ⌜ r ≡ countsIn (now (image .entry)) (tableOf (blockAt (now (image .entry)) p) (tablesOf inodes blocks (now (tables .entry)))) p ⌝ }
 {
-    if is_block_at(image, p as usize) {
-        return counts_in(image, bwords, bids, bspots, p);
+    if is_block_at(image, p) {
+        let ids_end = BLOCK_IDS + blocks;
+        let spots_end = BLOCK_SPOTS + blocks;
+        return counts_in(
+            image,
+            &tables[BLOCK_IDS..ids_end],
+            &tables[BLOCK_SPOTS..spots_end],
+            p,
+        );
     }
-    counts_in(image, iwords, iids, ispots, p)
+    let ids_end = INODE_IDS + inodes;
+    let spots_end = INODE_SPOTS + inodes;
+    counts_in(
+        image,
+        &tables[INODE_IDS..ids_end],
+        &tables[INODE_SPOTS..spots_end],
+        p,
+    )
 }
 
 // Whether a collection of the source copies the record at `p`, or one of the same bytes.
@@ -149,38 +147,45 @@ fn is_copied(
     image: &[u8],
     offset: u32,
     span: u32,
-    places: &[u32],
-    iwords: &[u64],
-    iids: &[u32],
-    ispots: &[u32],
-    bwords: &[u64],
-    bids: &[u32],
-    bspots: &[u32],
+    places: &[u16],
+    tables: &[u32],
+    inodes: usize,
+    blocks: usize,
     p: u32,
 ) -> bool
     requires { ⌜ AllLie (now image) (now places) (length (now places)) ⌝ }
-    requires { ⌜ AllGood (now image) (tables (now iwords) (now iids) (now ispots) (now bwords) (now bids) (now bspots)) ⌝ }
+    requires { ⌜ Rowed (now image) inodes blocks (now tables) ⌝ }
     requires { ⌜ Lies (now image) p ⌝ }
-    ensures { λ r. ⌜ r ≡ copied (now (image .entry)) offset span (now (places .entry)) (tables (now (iwords .entry)) (now (iids .entry)) (now (ispots .entry)) (now (bwords .entry)) (now (bids .entry)) (now (bspots .entry))) p ⌝ }
+    ensures { λ r. ⌜ r ≡ copied (now (image .entry)) offset span (now (places .entry)) (tablesOf inodes blocks (now (tables .entry))) p ⌝ }
 {
     if is_inside(offset, span, p) {} else {
         return false;
     }
-    if counts(image, iwords, iids, ispots, bwords, bids, bspots, p) {} else {
+    if counts(image, tables, inodes, blocks, p) {} else {
         return false;
     }
-    !is_dropped(image, offset, span, places, iwords, iids, ispots, p)
+    let ids_end = INODE_IDS + inodes;
+    let spots_end = INODE_SPOTS + inodes;
+    !is_dropped(
+        image,
+        offset,
+        span,
+        places,
+        &tables[INODE_IDS..ids_end],
+        &tables[INODE_SPOTS..spots_end],
+        p,
+    )
 }
 
 // Whether no record listed has the bytes of the one at `p`.
-fn is_new(image: &[u8], listed: &[u32], p: u32) -> bool
+fn is_new(image: &[u8], listed: &[u16], p: u32) -> bool
     requires { ⌜ AllLie (now image) (now listed) (length (now listed)) ⌝ }
     requires { ⌜ Lies (now image) p ⌝ }
     ensures { λ r. ⌜ r ≡ noneSame (now (image .entry)) (now (listed .entry)) p ⌝ }
 {
     let mut i = 0;
     while i < listed.len() {
-        if same_bytes(image, listed[i], p) {
+        if same_bytes(image, listed[i] as u32, p) {
             return false;
         }
         i += 1;
@@ -188,23 +193,19 @@ fn is_new(image: &[u8], listed: &[u32], p: u32) -> bool
     true
 }
 
-// Stores the places of the copies, in order, in the first places of `copies` and answers their number. Those that are copied have an
-// id of a table each, so that the tables' ids are as many as there can be.
+// Stores the places of the copies, in order, in the first places of `copies` and answers their number.
 pub fn list_copies(
     image: &[u8],
     offset: u32,
     span: u32,
-    places: &[u32],
-    iwords: &[u64],
-    iids: &[u32],
-    ispots: &[u32],
-    bwords: &[u64],
-    bids: &[u32],
-    bspots: &[u32],
-    copies: &mut [u32],
+    places: &[u16],
+    tables: &[u32],
+    inodes: usize,
+    blocks: usize,
+    copies: &mut [u16],
 ) -> usize
-    requires { ⌜ Lent (now image) (now places) (tables (now iwords) (now iids) (now ispots) (now bwords) (now bids) (now bspots)) (length (now copies)) ⌝ }
-    ensures { λ r. ⌜ (r ≤ length (now (copies .entry))) × (take r (now (copies .exit)) ≡ copiedPlaces (now (image .entry)) offset span (now (places .entry)) (tables (now (iwords .entry)) (now (iids .entry)) (now (ispots .entry)) (now (bwords .entry)) (now (bids .entry)) (now (bspots .entry)))) ⌝ }
+    requires { ⌜ Lent (now image) (now places) inodes blocks (now tables) (now copies) ⌝ }
+    ensures { λ r. ⌜ (r ≤ mostCopies) × (take r (now (copies .exit)) ≡ copiedPlaces (now (image .entry)) offset span (now (places .entry)) (tablesOf inodes blocks (now (tables .entry)))) ⌝ }
 {
     let mut k = 0;
     let mut i = 0;
@@ -215,15 +216,12 @@ pub fn list_copies(
             offset,
             span,
             places,
-            iwords,
-            iids,
-            ispots,
-            bwords,
-            bids,
-            bspots,
-            p,
+            tables,
+            inodes,
+            blocks,
+            p as u32,
         ) {
-            if is_new(image, &copies[..k], p) {
+            if is_new(image, &copies[0..k], p as u32) {
                 copies[k] = p;
                 k += 1;
                 i += 1;

@@ -13,7 +13,8 @@ use Rattle.format_laws.specs.Reading.{Lawful, joined, parts-joined, records-law
 use Rattle.volume.specs.Lists.{keep, same}
 use Rattle.volume.specs.Counting.{Volume}
 use Rattle.calls.specs.Mount.{bytesOf}
-use Rattle.calls.specs.Collect.{counts, drops, firstPlaces, copies, joinedBytes}
+use Rattle.calls.specs.Collect.{counts, drops, firstPlaces, copies}
+use Rattle.image_laws.specs.Stores.{joinedBytes}
 
 module _ (size : Acceptor) (ok : Lawful size) where
   -- what is taken is no longer than what it is taken from

@@ -3,7 +3,7 @@ use Prim.Native.Nat.{ℕ, _+_, _≤_, _<_}
 use mathlib.Core.Path.{_≡_, refl, sym, _∙_}
 use mathlib.Core.Bool.{Bool, true, false, cond, not, _&&_}
 use mathlib.Core.Option.{Option, none, some}
-use mathlib.Core.List.{List, [], _∷_, List·Memᴰ, List·Memᴰ·head, List·Memᴰ·tail}
+use mathlib.Core.List.{List, [], _∷_}
 use native.Mathlib.Omega.{arith}
 use lib.ListN.{length, drop, getD}
 use lib.Seq.{getD-take, getD-drop}
@@ -14,7 +14,7 @@ use Rattle.format.specs.AreaHeader.{areaHeaderSize}
 use Rattle.volume.specs.Lists.{keep, all}
 use Rattle.calls.specs.Collect.{eligible, countOf, precedes, firstLowest, sourceOf}
 use Rattle.calls.specs.declared.Descriptor.{Descriptor}
-use Rattle.descriptors.specs.Described.{areaOf, described, described-step, described-end}
+use Rattle.area_list.specs.Described.{areaOf, described, described-step, described-end}
 
 -- r is the collection count of the area at o, whatever its length
 pub record HasCount (image : Bytes) (o r : ℕ) : Type 0 where
@@ -37,7 +37,7 @@ leads image wanted fs d = eqb (d .length) wanted && noneAhead image wanted (coun
 
 -- the area at a place of the list, where there is one
 abbrev pub areaAt : List ℕ → List ℕ → ℕ → Option Descriptor
-areaAt os ls i = cond (ltb i (length os)) (some (areaOf (getD os i 0) (getD ls i 0))) none
+areaAt starts spans i = cond (ltb i (length starts)) (some (areaOf (getD starts i 0) (getD spans i 0))) none
 
 -- the first area that leads
 unfoldable pub firstLeading : Bytes → ℕ → List Descriptor → List Descriptor → Option Descriptor
@@ -95,49 +95,35 @@ module _ (image : Bytes) (wanted : ℕ) (d : Descriptor) where
 
 -- ---- the loops, at i
 
-module _ (image : Bytes) (os ls : List ℕ) (pairs : length os ≡ length ls) (wanted i : ℕ) where
+module _ (image : Bytes) (starts spans : List ℕ) (pairs : length starts ≡ length spans) (wanted i : ℕ) where
   abbrev rest : ℕ → List Descriptor
-  rest k = described (drop k os) (drop k ls)
+  rest k = described (drop k starts) (drop k spans)
 
   abbrev here : Descriptor
-  here = areaOf (getD os i 0) (getD ls i 0)
+  here = areaOf (getD starts i 0) (getD spans i 0)
 
   module _ (count : ℕ) where
-    pub none-fails : i < length os → ahead image wanted count here ≡ true → noneAhead image wanted count (rest i) ≡ false
+    pub none-fails : i < length starts → ahead image wanted count here ≡ true → noneAhead image wanted count (rest i) ≡ false
     unfolding noneAhead all
-    none-fails h e = rw (described-step os ls i pairs h, e)
+    none-fails h e = rw (described-step starts spans i pairs h, e)
 
-    pub none-passes : i < length os → ahead image wanted count here ≡ false → noneAhead image wanted count (rest i) ≡ noneAhead image wanted count (rest (i + 1))
+    pub none-passes : i < length starts → ahead image wanted count here ≡ false → noneAhead image wanted count (rest i) ≡ noneAhead image wanted count (rest (i + 1))
     unfolding noneAhead all
-    none-passes h e = rw (described-step os ls i pairs h, e)
+    none-passes h e = rw (described-step starts spans i pairs h, e)
 
-    pub none-ends : length os ≤ i → noneAhead image wanted count (rest i) ≡ true
+    pub none-ends : length starts ≤ i → noneAhead image wanted count (rest i) ≡ true
     unfolding noneAhead all
-    none-ends h = rw (described-end os ls i h)
+    none-ends h = rw (described-end starts spans i h)
 
   module _ (fs : List Descriptor) where
-    pub first-here : i < length os → leads image wanted fs here ≡ true → areaAt os ls i ≡ firstLeading image wanted fs (rest i)
+    pub first-here : i < length starts → leads image wanted fs here ≡ true → areaAt starts spans i ≡ firstLeading image wanted fs (rest i)
     unfolding firstLeading
-    first-here h e = rw (described-step os ls i pairs h, e, lt-ltb i (length os) h)
+    first-here h e = rw (described-step starts spans i pairs h, e, lt-ltb i (length starts) h)
 
-    pub first-later : i < length os → leads image wanted fs here ≡ false → firstLeading image wanted fs (rest i) ≡ firstLeading image wanted fs (rest (i + 1))
+    pub first-later : i < length starts → leads image wanted fs here ≡ false → firstLeading image wanted fs (rest i) ≡ firstLeading image wanted fs (rest (i + 1))
     unfolding firstLeading
-    first-later h e = rw (described-step os ls i pairs h, e)
+    first-later h e = rw (described-step starts spans i pairs h, e)
 
-    pub first-nowhere : length os ≤ i → areaAt os ls i ≡ firstLeading image wanted fs (rest i)
+    pub first-nowhere : length starts ≤ i → areaAt starts spans i ≡ firstLeading image wanted fs (rest i)
     unfolding firstLeading
-    first-nowhere h = rw (described-end os ls i h, le-ltb i (length os) h)
-
--- ---- the source is one of the areas
-
-leading-mem : (image : Bytes) (wanted : ℕ) (fs gs : List Descriptor) (s : Descriptor) → firstLeading image wanted fs gs ≡ some s → List·Memᴰ s gs
-unfolding firstLeading
-leading-mem image wanted fs [] s e = let z : _≡_ {A = ℕ} 0 1 = cc in absurd (omega arith)
-leading-mem image wanted fs (d ∷ gs) s e = go (leads image wanted fs d) e (leading-mem image wanted fs gs s)
-  where
-    go : (b : Bool) → cond b (some d) (firstLeading image wanted fs gs) ≡ some s → (firstLeading image wanted fs gs ≡ some s → List·Memᴰ s gs) → List·Memᴰ s (d ∷ gs)
-    go true q ih = let z : s ≡ d = cc in List·Memᴰ·head z
-    go false q ih = List·Memᴰ·tail (ih q)
-
-pub source-mem : (image : Bytes) (fs : List Descriptor) (t s : Descriptor) → sourceOf image fs t ≡ some s → List·Memᴰ s fs
-source-mem image fs t s e = leading-mem image (t .length) fs fs s (sym (source-leads image t fs) ∙ e)
+    first-nowhere h = rw (described-end starts spans i h, le-ltb i (length starts) h)

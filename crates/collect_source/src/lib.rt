@@ -4,13 +4,11 @@ ghost use Prim.Native.Nat.{_+_, _≤_};
 ghost use lib.ListN.{length};
 ghost use Rattle.format.specs.AreaHeader.{areaHeaderSize};
 ghost use Rattle.calls.specs.Collect.{precedes, sourceOf};
-ghost use Rattle.descriptors.specs.Described.{areaOf, described};
-ghost use Rattle.descriptors.specs.Good.{Good};
+ghost use Rattle.area_list.specs.Described.{areaOf, described};
+ghost use Rattle.area_pass.specs.Listing.{AreasFit};
 ghost use Rattle.collect_source.specs.Source.{HasCount, ahead, noneAhead, leads, areaAt};
+use area_read::COUNT_AT;
 use calls::Descriptor;
-
-// Where an area's header holds its collection count.
-const COUNT_AT: usize = 21;
 
 // Whether an area of count `a` is collected before one of count `b`.
 fn precedes(a: u8, b: u8) -> bool
@@ -40,7 +38,7 @@ fn is_ahead(image: &[u8], offset: u32, span: u32, wanted: u32, count: u8) -> boo
 
 // Whether no area of the wanted length has a count that precedes `count`.
 fn none_ahead(image: &[u8], starts: &[u32], spans: &[u32], wanted: u32, count: u8) -> bool
-    requires { ⌜ Good (length (now image)) (now starts) (now spans) ⌝ }
+    requires { ⌜ AreasFit (now image) (now starts) (now spans) ⌝ }
     ensures { λ r. ⌜ r ≡ noneAhead (now (image .entry)) wanted count (described (now (starts .entry)) (now (spans .entry))) ⌝ }
 {
     let mut i = 0;
@@ -55,7 +53,7 @@ fn none_ahead(image: &[u8], starts: &[u32], spans: &[u32], wanted: u32, count: u
 
 // Whether an area is of the wanted length, and no other such area precedes it.
 fn leads(image: &[u8], starts: &[u32], spans: &[u32], wanted: u32, offset: u32, span: u32) -> bool
-    requires { ⌜ Good (length (now image)) (now starts) (now spans) ⌝ }
+    requires { ⌜ AreasFit (now image) (now starts) (now spans) ⌝ }
     requires { ⌜ (offset + areaHeaderSize ≤ length (now image)) × (areaHeaderSize ≤ span) ⌝ }
     ensures { λ r. ⌜ r ≡ leads (now (image .entry)) wanted (described (now (starts .entry)) (now (spans .entry))) (areaOf offset span) ⌝ }
 {
@@ -67,7 +65,7 @@ fn leads(image: &[u8], starts: &[u32], spans: &[u32], wanted: u32, offset: u32, 
 
 // The place in the list of the source area, or the number of areas where none is as long as scratch.
 pub fn choose_source(image: &[u8], starts: &[u32], spans: &[u32], scratch: Descriptor) -> usize
-    requires { ⌜ Good (length (now image)) (now starts) (now spans) ⌝ }
+    requires { ⌜ AreasFit (now image) (now starts) (now spans) ⌝ }
     ensures { λ r. ⌜ areaAt (now (starts .entry)) (now (spans .entry)) r ≡ sourceOf (now (image .entry)) (described (now (starts .entry)) (now (spans .entry))) scratch ⌝ }
 {
     let wanted = scratch.length;

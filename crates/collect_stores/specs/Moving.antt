@@ -7,9 +7,9 @@ use lib.ListN.{length, take, getD, length-append}
 use lib.Seq.{take-all}
 use Rattle.format.specs.Bytes.{Bytes}
 use Rattle.calls.specs.Image.{put, part}
-use Rattle.place_view.specs.Place.{sizeAt, bytesAt, Lies, AllLie}
-use Rattle.flash.specs.Apart.{Apart}
-use Rattle.flash.specs.Laws.{put-none, length-put, part-outside, put-put}
+use Rattle.record_places.specs.Place.{sizeAt, bytesAt, Lies, AllLie}
+use Rattle.image_laws.specs.Apart.{Apart}
+use Rattle.image_laws.specs.Laws.{put-none, length-put, part-outside, put-put}
 use Rattle.collect_stores.specs.Records.{moved, moved-none, moved-more, moved-within, size-stays, bytes-stay, bytes-long}
 
 -- records that can be copied to `to`: they lie in the image, there is room, and none of them is stored over

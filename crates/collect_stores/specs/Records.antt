@@ -11,10 +11,11 @@ use lib.Dec.{eqb}
 use Rattle.format.specs.Bytes.{Bytes, byteAt, le16, le32}
 use Rattle.format.specs.Record.{block}
 use Rattle.format_laws.specs.Bytes.{same-byte, same-le16, same-le32, drop-byte, drop-le16, drop-le32}
+use Rattle.volume_laws.specs.Lists.{map-append}
 use Rattle.calls.specs.Image.{part}
-use Rattle.calls.specs.Collect.{joinedBytes}
-use Rattle.place_view.specs.Place.{blockAt, sizeAt, bytesAt, Lies}
-use Rattle.place_view.specs.Laws.{size-block, size-inode, size-least}
+use Rattle.image_laws.specs.Stores.{joinedBytes}
+use Rattle.record_places.specs.Place.{blockAt, sizeAt, bytesAt, Lies}
+use Rattle.record_places.specs.Laws.{size-block, size-inode, size-least}
 
 -- the records at some places, one behind the other
 unfoldable pub moved : Bytes → List ℕ → Bytes
@@ -63,10 +64,6 @@ joined-append : (a b : List Bytes) → joinedBytes (a ++ b) ≡ joinedBytes a ++
 unfolding joinedBytes
 joined-append [] b = refl
 joined-append (c ∷ a) b = ap (λ l. c ++ l) (joined-append a b) ∙ sym (append-assoc c (joinedBytes a) (joinedBytes b))
-
-map-append : (f : ℕ → Bytes) (l m : List ℕ) → map f (l ++ m) ≡ map f l ++ map f m
-map-append f [] m = refl
-map-append f (a ∷ l) m = ap (λ x. f a ∷ x) (map-append f l m)
 
 pub moved-append : (x : Bytes) (l m : List ℕ) → moved x (l ++ m) ≡ moved x l ++ moved x m
 unfolding moved

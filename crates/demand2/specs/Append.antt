@@ -2,13 +2,12 @@
 use Prim.Native.Nat.{ℕ, _+_, _≤_, _<_}
 use mathlib.Core.Path.{_≡_, refl, sym, ap, _∙_}
 use mathlib.Core.Logic.{_≢_, inr}
-use mathlib.Core.Bool.{Bool, true, false, cond, not, _||_}
+use mathlib.Core.Bool.{true, false, cond, not, _||_}
 use mathlib.Core.Option.{Option, none, some}
 use mathlib.Core.List.{List, [], _∷_, _++_, append-assoc, List·Memᴰ, List·Memᴰ·head}
 use native.Mathlib.Omega.{arith}
 use lib.ListN.{length, take, drop}
 use lib.Dec.{eqb, ltb, leb, nltb→le, leb→le, le→leb}
-use borrow.Author.Tests.{eqb-true}
 use Rattle.format.specs.Bytes.{Bytes}
 use Rattle.format.specs.Ids.{NONE, firstFileId, firstBlockId, rootId, isDirectoryId}
 use Rattle.format.specs.Record.{recordId}
@@ -19,8 +18,8 @@ use Rattle.volume.specs.Counting.{Volume, inodeOf, blockOf, blockIds}
 use Rattle.volume.specs.Fate.{live, fateOf}
 use Rattle.volume.specs.Contents.{chainStart, owns, owned, unnamed, lastBlock, fileBlocks, textOf, headersFrom}
 use Rattle.volume.specs.Path.{goodPath, pathNames}
-use Rattle.volume.specs.Tree.{Found, found, absent, lookupNames}
-use Rattle.volume_laws.specs.Tests.{T→true, not-T→false, eqb-false, not-is-false, or-is-false, has-some}
+use Rattle.volume.specs.Tree.{found, lookupNames}
+use Rattle.volume_laws.specs.Tests.{T→true, not-T→false, not-is-false, or-is-false, has-some}
 use Rattle.volume_laws.specs.Lists.{keep-mem}
 use Rattle.volume_laws.specs.Contents.{owned-owns}
 use Rattle.volume_laws.specs.Counting.{counting-mem}
@@ -29,13 +28,14 @@ use Rattle.calls.specs.Refusal.{firstRefusal}
 use Rattle.calls.specs.Areas.{fileAreas}
 use Rattle.calls.specs.Mount.{mostBlocks, volume, mountNumber}
 use Rattle.calls.specs.Storing.{Store, spaces, placeAll, storeAll, noPlace, namedIds}
-use Rattle.calls.specs.Append.{mostAppended, cutInto, piecesOf, blockRecords, newBlocks, isBroken, appendTo, Appending, appends, refuses, appendWhere}
-use Rattle.calls.specs.Append.{appending, appendNumber, appendImage, appendOf, imageAppended}
+use Rattle.calls.specs.Attempt.{Attempt, goes, refuses, leaves}
+use Rattle.calls.specs.Append.{mostAppended, cutInto, piecesOf, blockRecords, newBlocks, isBroken, appendTo, appending, appendImage, appendOf, imageAppended}
 use Rattle.calls.specs.declared.Descriptor.{Descriptor}
 use Rattle.calls.specs.Lookup.{resolve}
 use Rattle.calls.specs.Read.{given, refused, giveBlocks, give}
 use Rattle.calls_laws.specs.Checks.{Passes, passes, mounts}
 use Rattle.calls_laws.specs.Records.{volume-sound}
+use Rattle.calls_laws.specs.Attempt.{attempt-goes}
 use Rattle.demand2.specs.Places.{AreaGrown, areas-grown, place-found, Written, all-placed}
 use Rattle.demand2.specs.Unused.{Unused, block-named, unnamed-unused, few-named}
 use Rattle.demand2.specs.Added.{same-inode, same-fate, same-lookup}
@@ -63,7 +63,7 @@ pub record AppendGoes (image : Bytes) (ds : List Descriptor) (base path text : B
   pub few : length (blockIds byBytes (volume image ds)) + length (newBlocks image ds file text) ≤ mostBlocks
   pub stores : List Store
   pub placed : placeAll (spaces image (fileAreas image ds)) (newBlocks image ds file text) ≡ some stores
-  pub goes : appending image ds base path text ≡ appends file
+  pub goes : appending image ds base path text ≡ goes file
 
 module _ (image : Bytes) (ds : List Descriptor) (base path text : Bytes) where
   abbrev before : Volume Bytes
@@ -95,51 +95,24 @@ module _ (image : Bytes) (ds : List Descriptor) (base path text : Bytes) where
 
   pub append-goes : appendOf image ds base path text ≡ 0 → AppendGoes image ds base path text
   unfolding appendOf appending
-  append-goes e = go (eqb (mountNumber image ds) 0) refl e
-    where
-      inside : Appending
-      inside = appendWhere image ds text (lookupNames byBytes before (pathNames base path))
-
-      behind : Appending
-      behind = cond (not (goodPath base path) || ltb mostAppended (length text)) (refuses 8) inside
-
-      at : (f : ℕ) → mountNumber image ds ≡ 0 → goodPath base path ≡ true → ltb mostAppended (length text) ≡ false
-          → lookupNames byBytes before (pathNames base path) ≡ found f → (t : Bool) → eqb (appendTo image ds f text) 0 ≡ t
-          → appendNumber (cond t (appends f) (refuses (appendTo image ds f text))) ≡ 0 → AppendGoes image ds base path text
-      at f m g r q true z y =
-          let c = checked f (eqb-true _ 0 z) in
-          record {
-            mounted = m;
-            good = g;
-            file = f;
-            found-there = q;
-            no-directory = c .0;
-            old = c .2 .0;
-            not-broken = c .2 .1;
-            few = c .1;
-            stores = c .3 .0;
-            placed = c .3 .1;
-            goes = rw (appending, m, g, r, q, z);
-          }
-      at f m g r q false z y = absurd (eqb-false _ 0 z y)
-
-      where-found : mountNumber image ds ≡ 0 → goodPath base path ≡ true → ltb mostAppended (length text) ≡ false
-          → (o : Found) → lookupNames byBytes before (pathNames base path) ≡ o → appendNumber (appendWhere image ds text o) ≡ 0
-          → AppendGoes image ds base path text
-      where-found m g r (found f) q z = at f m g r q (eqb (appendTo image ds f text) 0) refl z
-      where-found m g r (absent k) q z = absurd (omega (arith, lookup-refused byBytes before (pathNames base path) k q))
-
-      path-good : mountNumber image ds ≡ 0 → (t : Bool) → (not (goodPath base path) || ltb mostAppended (length text)) ≡ t
-          → appendNumber (cond t (refuses 8) inside) ≡ 0 → AppendGoes image ds base path text
-      path-good m true q z = absurd (omega arith)
-      path-good m false q z =
-          let o = or-is-false (not (goodPath base path)) (ltb mostAppended (length text)) q in
-          where-found m (not-is-false (goodPath base path) (o .0)) (o .1) (lookupNames byBytes before (pathNames base path)) refl z
-
-      go : (t : Bool) → eqb (mountNumber image ds) 0 ≡ t → appendNumber (cond t behind (refuses (mountNumber image ds))) ≡ 0
-          → AppendGoes image ds base path text
-      go true q z = path-good (eqb-true _ 0 q) (not (goodPath base path) || ltb mostAppended (length text)) refl z
-      go false q z = absurd (eqb-false _ 0 q z)
+  append-goes e =
+      let w = attempt-goes (mountNumber image ds) (λ f. appendTo image ds f text) (not (goodPath base path) || ltb mostAppended (length text))
+      (lookupNames byBytes before (pathNames base path)) (lookup-refused byBytes before (pathNames base path)) e in
+      let o = or-is-false (not (goodPath base path)) (ltb mostAppended (length text)) (w .good) in
+      let c = checked (w .inode) (w .checked) in
+      record {
+        mounted = w .mounted;
+        good = not-is-false (goodPath base path) (o .0);
+        file = w .inode;
+        found-there = w .found-there;
+        no-directory = c .0;
+        old = c .2 .0;
+        not-broken = c .2 .1;
+        few = c .1;
+        stores = c .3 .0;
+        placed = c .3 .1;
+        goes = w .goes-on;
+      }
 
 -- ---- the theorem
 
@@ -310,6 +283,6 @@ pub append-nothing : (image : Bytes) (ds : List Descriptor) (base path : Bytes) 
 unfolding imageAppended newBlocks piecesOf cutInto blockRecords placeAll storeAll
 append-nothing image ds base path = go (appending image ds base path [])
   where
-    go : (a : Appending) → appendImage image ds [] a ≡ image
-    go (appends f) = refl
+    go : (a : Attempt ℕ) → leaves image (appendImage image ds []) a ≡ image
+    go (goes f) = refl
     go (refuses r) = refl

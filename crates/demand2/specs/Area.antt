@@ -5,7 +5,6 @@ use mathlib.Core.Logic.{inr}
 use mathlib.Core.Bool.{true}
 use mathlib.Core.List.{[], _∷_, _++_}
 use native.Mathlib.Omega.{arith}
-use native.Mathlib.Nat.{sub-zero, zero-sub, suc-sub-suc}
 use lib.ListN.{length, take, drop, replicate, length-drop, length-replicate, getD, getD-replicate, drop-of-length-le}
 use lib.Seq.{drop-drop, take-append-seam, take-all, getD-drop}
 use Rattle.format.specs.Bytes.{Bytes}
@@ -16,7 +15,8 @@ use Rattle.format_laws.specs.Reading.{Lawful, passed, parts-none, parts-take, p
 use Rattle.format_laws.specs.Taken.{recordsFrom, records-from, from-take}
 use Rattle.format_laws.specs.Clean.{Clean, free, next, erased-all, erased-records, area-clean, clean-area}
 use Rattle.calls.specs.Image.{put}
-use Rattle.flash.specs.Laws.{length-put, drop-put, before-put, after-put}
+use Rattle.image_laws.specs.Laws.{length-put, drop-put, before-put, after-put}
+use Rattle.image_laws.specs.Stores.{drop-erased}
 
 -- the bytes of one whole record
 pub record Whole (size : Acceptor) (b : Bytes) : Type 0 where
@@ -27,11 +27,6 @@ pub record Whole (size : Acceptor) (b : Bytes) : Type 0 where
 pub data Filled (size : Acceptor) (area : Bytes) : ℕ → ℕ → Type 0 where
   here : {q : ℕ} (n : ℕ) → drop q area ≡ replicate n ERASED → Filled size area q q
   past : {q p : ℕ} (n : ℕ) → size (drop q area) ≡ n → 0 < n → Filled size area (q + n) p → Filled size area q p
-
-drop-erased : (m n : ℕ) → drop m (replicate {A = ℕ} n ERASED) ≡ replicate (n - m) ERASED
-drop-erased zero n = rw (sub-zero n)
-drop-erased (suc m) zero = rw (zero-sub (suc m))
-drop-erased (suc m) (suc n) = rw (suc-sub-suc n m) (drop-erased m n)
 
 take-erased : (m n : ℕ) → m ≤ n → take m (replicate {A = ℕ} n ERASED) ≡ replicate m ERASED
 take-erased zero n h = refl

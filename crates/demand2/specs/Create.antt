@@ -8,7 +8,6 @@ use mathlib.Core.List.{List, [], _∷_, _++_, List·Memᴰ, List·Memᴰ·eq-of-
 use native.Mathlib.Omega.{arith}
 use lib.ListN.{length}
 use lib.Dec.{eqb, ltb, nltb→le, ltb→lt, lt→ltb}
-use borrow.Author.Tests.{eqb-true}
 use Rattle.format.specs.Bytes.{Bytes}
 use Rattle.format.specs.Ids.{NONE, rootId, firstFileId, isDirectoryId, firstBlockId, isInodeId}
 use Rattle.format.specs.Record.{inodeRule, recordId}
@@ -18,7 +17,7 @@ use Rattle.format_laws.specs.Encoding.{MeantInode}
 use Rattle.volume.specs.View.{byBytes}
 use Rattle.volume.specs.Counting.{Volume, inodeOf, inodeIds}
 use Rattle.volume.specs.Path.{goodPath, pathNames}
-use Rattle.volume.specs.Tree.{Found, found, absent, children, walk, lookupNames, isChild}
+use Rattle.volume.specs.Tree.{found, absent, children, walk, lookupNames, isChild}
 use Rattle.volume.specs.Fate.{live, fateOf}
 use Rattle.volume.specs.Contents.{fileBlocks}
 use Rattle.volume_laws.specs.Tests.{eqb-false, not-is-false, or-is-false, true→T, T→true, not-T→false, eqb-differ}
@@ -28,13 +27,14 @@ use Rattle.calls.specs.Refusal.{firstRefusal}
 use Rattle.calls.specs.Areas.{fileAreas}
 use Rattle.calls.specs.Mount.{mostInodes, volume, mountNumber, acceptedRecords}
 use Rattle.calls.specs.Storing.{Store, spaces, placeAll, noPlace, namedIds}
-use Rattle.calls.specs.Create.{lastName, namesBefore, isRoot, newInode, createIn, Creating, creates, refuses, createWhere, creating, createAnswer}
-use Rattle.calls.specs.Create.{createOf, imageCreated, newId, firstIdOf}
+use Rattle.calls.specs.Attempt.{goes}
+use Rattle.calls.specs.Create.{lastName, namesBefore, isRoot, firstIdOf, newId, newInode, createIn, creating, createOf, imageCreated}
 use Rattle.calls.specs.declared.Descriptor.{Descriptor}
 use Rattle.calls.specs.Lookup.{resolve}
 use Rattle.calls.specs.Read.{give}
 use Rattle.calls_laws.specs.Checks.{Passes, passes, mounts}
 use Rattle.calls_laws.specs.Records.{volume-sound}
+use Rattle.calls_laws.specs.Attempt.{attempt-goes}
 use Rattle.demand2.specs.Added.{Same, Added, added-ids, same-count, same-contents}
 use Rattle.demand2.specs.Mounted.{agreed-inodes, agreed-blocks, accepted-kind, few-ids, ids-few, inodes-added, blocks-same, still-passes}
 use Rattle.demand2.specs.NewInode.{InodeNew, inode-new}
@@ -59,7 +59,7 @@ pub record CreateGoes (image : Bytes) (ds : List Descriptor) (base path : Bytes)
   pub stores : List Store
   pub placed : placeAll (spaces image (fileAreas image ds)) (newInode (volume image ds) kind directory (lastName (pathNames base path)) ∷ [])
       ≡ some stores
-  pub goes : creating image ds base path kind ≡ creates directory (lastName (pathNames base path))
+  pub goes : creating image ds base path kind ≡ goes directory
 
 module _ (image : Bytes) (ds : List Descriptor) (base path : Bytes) (kind : ℕ) where
   abbrev names : List Bytes
@@ -91,53 +91,24 @@ module _ (image : Bytes) (ds : List Descriptor) (base path : Bytes) (kind : ℕ)
 
   pub create-goes : createOf image ds base path kind .number ≡ 0 → CreateGoes image ds base path kind
   unfolding createOf creating
-  create-goes e = go (eqb (mountNumber image ds) 0) refl e
-    where
-      inside : Creating
-      inside = createWhere image ds kind (lastName names) (lookupNames byBytes before (namesBefore names))
-
-      behind : Creating
-      behind = cond (not (goodPath base path) || isRoot names) (refuses 8) inside
-
-      at : (d : ℕ) → mountNumber image ds ≡ 0 → goodPath base path ≡ true → isRoot names ≡ false
-          → lookupNames byBytes before (namesBefore names) ≡ found d → (t : Bool) → eqb (createIn image ds kind d (lastName names)) 0 ≡ t
-          → createAnswer before kind (cond t (creates d (lastName names)) (refuses (createIn image ds kind d (lastName names)))) .number ≡ 0
-          → CreateGoes image ds base path kind
-      at d m g r f true q z =
-          let c = checked d (eqb-true _ 0 q) in
-          record {
-            mounted = m;
-            good = g;
-            named = eqb-false (length names) 0 r;
-            directory = d;
-            found-there = f;
-            is-directory = c .0;
-            name-free = c .1;
-            few = c .2;
-            stores = c .3;
-            placed = c .4;
-            goes = rw (creating, m, g, r, f, q);
-          }
-      at d m g r f false q z = absurd (eqb-false _ 0 q z)
-
-      where-found : mountNumber image ds ≡ 0 → goodPath base path ≡ true → isRoot names ≡ false
-          → (o : Found) → lookupNames byBytes before (namesBefore names) ≡ o
-          → createAnswer before kind (createWhere image ds kind (lastName names) o) .number ≡ 0
-          → CreateGoes image ds base path kind
-      where-found m g r (found d) f z = at d m g r f (eqb (createIn image ds kind d (lastName names)) 0) refl z
-      where-found m g r (absent k) f z = absurd (omega (arith, lookup-refused byBytes before (namesBefore names) k f))
-
-      path-good : mountNumber image ds ≡ 0 → (t : Bool) → (not (goodPath base path) || isRoot names) ≡ t
-          → createAnswer before kind (cond t (refuses 8) inside) .number ≡ 0 → CreateGoes image ds base path kind
-      path-good m true q z = absurd (omega arith)
-      path-good m false q z =
-          let o = or-is-false (not (goodPath base path)) (isRoot names) q in
-          where-found m (not-is-false (goodPath base path) (o .0)) (o .1) (lookupNames byBytes before (namesBefore names)) refl z
-
-      go : (t : Bool) → eqb (mountNumber image ds) 0 ≡ t → createAnswer before kind (cond t behind (refuses (mountNumber image ds))) .number ≡ 0
-          → CreateGoes image ds base path kind
-      go true q z = path-good (eqb-true _ 0 q) (not (goodPath base path) || isRoot names) refl z
-      go false q z = absurd (eqb-false _ 0 q z)
+  create-goes e =
+      let w = attempt-goes (mountNumber image ds) (λ d. createIn image ds kind d (lastName names)) (not (goodPath base path) || isRoot names)
+      (lookupNames byBytes before (namesBefore names)) (lookup-refused byBytes before (namesBefore names)) e in
+      let o = or-is-false (not (goodPath base path)) (isRoot names) (w .good) in
+      let c = checked (w .inode) (w .checked) in
+      record {
+        mounted = w .mounted;
+        good = not-is-false (goodPath base path) (o .0);
+        named = eqb-false (length names) 0 (o .1);
+        directory = w .inode;
+        found-there = w .found-there;
+        is-directory = c .0;
+        name-free = c .1;
+        few = c .2;
+        stores = c .3;
+        placed = c .4;
+        goes = w .goes-on;
+      }
 
 -- ---- the theorem
 

@@ -14,7 +14,7 @@ use Rattle.volume_laws.specs.Tests.{or-is-false, eqb-false}
 use Rattle.calls.specs.Areas.{fileAreas, shortestArea}
 use Rattle.calls.specs.Mount.{wrongAreas}
 use Rattle.calls.specs.Append.{shortestLength, cutInto, piecesOf}
-use Rattle.calls.specs.Collect.{joinedBytes}
+use Rattle.image_laws.specs.Stores.{joinedBytes}
 use Rattle.calls.specs.declared.Descriptor.{Descriptor}
 use Rattle.calls_laws.specs.Checks.{Passes}
 use Rattle.demand2.specs.Store.{file-listed}

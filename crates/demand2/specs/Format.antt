@@ -36,10 +36,10 @@ use Rattle.calls.specs.Mount.{noRoot, mountNumber}
 use Rattle.calls.specs.Format.{emptyArea, formatNumber, longestLength, Labelled, labelled, blanked, rootBytes, rooted, formatted, imageFormatted}
 use Rattle.calls.specs.declared.Descriptor.{Descriptor}
 use Rattle.calls_laws.specs.Checks.{Passes, mounts, InArea, area-fits, areas-apart}
-use Rattle.flash.specs.Apart.{Apart}
-use Rattle.flash.specs.Laws.{length-put, part-put, part-outside, byte-outside}
+use Rattle.image_laws.specs.Apart.{Apart}
+use Rattle.image_laws.specs.Laws.{length-put, part-put, part-outside, byte-outside}
 use Rattle.demand2.specs.Area.{Whole, erased-clean, erased-starts, erased-empty}
-use Rattle.demand2.specs.Store.{freePlace, Fits, OneStored, one-stored, same-file-areas, same-scratch-areas, same-area-ids, same-described}
+use Rattle.demand2.specs.Store.{freePlace, RecordFits, OneStored, one-stored, same-file-areas, same-scratch-areas, same-area-ids, same-described}
 use Rattle.demand2.specs.Store.{file-listed, same-area}
 use Rattle.demand2.specs.Places.{few-areas, area-lengths, Distinct, areas-distinct, files-distinct}
 use Rattle.calls_laws.specs.Unused.{upwards, upwards-nodup, upwards-length}
@@ -364,7 +364,7 @@ module _ (image : Bytes) (ds : List Descriptor) (accepted : formatNumber image d
       let t = Memᴰ·of-map areaOf (keep isFileLabel ls) (rw files₁ at m) in
       (t .0, keep-mem isFileLabel ls (t .1) .0, t .2)
 
-  fits : Fits image₁ ds area rootBytes
+  fits : RecordFits image₁ ds area rootBytes
   unfolding inodeBytes sealed inodeFront
   fits = record {
     file = rw files₁ (Memᴰ·map areaOf (mem-keep isFileLabel ls (home .1) (rw (home .2) tt)));

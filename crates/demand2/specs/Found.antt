@@ -160,9 +160,9 @@ module _ {A : Type 0} (F : View A) (v : Volume A) where
       go true several q ih = let z : 10 ≡ k = cc in omega arith
       go true (one i) q ih = ih i q
 
-  pub lookup-refused : (ns : List Bytes) (k : ℕ) → lookupNames F v ns ≡ absent k → 9 ≤ k
+  pub lookup-refused : (ns : List Bytes) (k : ℕ) → lookupNames F v ns ≡ absent k → k ≢ 0
   unfolding lookupNames
-  lookup-refused = walk-refused rootId
+  lookup-refused ns k q z = omega (arith, walk-refused rootId ns k q)
 
 -- a path in an image that mounts
 pub resolved : (image : Bytes) (ds : List Descriptor) (base p : Bytes) → mountNumber image ds ≡ 0

@@ -1,5 +1,5 @@
 -- Demand 2 for format, create, append and unlink. What each call promises is in the file named after it; the other files are their proof, in
--- the order in which they build on one another, but for the records that those promises cite: Store.Fits and OneStored, Places.Written and
+-- the order in which they build on one another, but for the records that those promises cite: Store.RecordFits and OneStored, Places.Written and
 -- AreaGrown, Unused.Unused, NewRecord.WrittenOne, and Smallest of the laws of calls.
 -- one record stored in an area, in an image, and several one after the other
 pub mod Area
@@ -14,6 +14,7 @@ pub mod Added
 pub mod Found
 pub mod Mounted
 pub mod NewRecord
+pub mod Rewritten
 -- the calls
 pub mod NewInode
 pub mod Create

@@ -12,16 +12,16 @@ use Rattle.format.specs.Bytes.{Bytes}
 use Rattle.format.specs.Record.{nameGood}
 use Rattle.format_laws.specs.Crc.{Octets}
 use Rattle.volume.specs.Lists.{all}
-use Rattle.volume.specs.Path.{SLASH, longestPath, longestName, splitByte, pieces, goodPiece, goodPieces, isAbsolute, absoluteNames, goodAbsolute}
+use Rattle.volume.specs.Path.{SLASH, longestPath, longestName, splitByte, segments, goodSegment, goodSegments, isAbsolute, absoluteNames, goodAbsolute}
 use Rattle.volume.specs.Path.{goodRelative, goodPath, pathNames}
 use Rattle.volume_laws.specs.Tests.{true→T, and-T, eqb-false, eqb-differ}
 use Rattle.volume_laws.specs.Lists.{all-mem}
 use Rattle.calls.specs.Create.{lastName, namesBefore}
 use Rattle.demand2.specs.Octet.{octet, octets}
 
--- ---- pieces
+-- ---- segments
 
--- a byte of a piece is the one in front, or of one of the pieces behind it
+-- a byte of a segment is the one in front, or of one of the segments behind it
 Origin : ℕ → List Bytes → ℕ → Type 0
 Origin b ps x = ((x ≡ b) × (b ≢ SLASH)) ⊎ ((q : Bytes) × List·Memᴰ q ps × List·Memᴰ x q)
 
@@ -45,13 +45,13 @@ split-byte b (p ∷ ps) n m x k = go (eqb b SLASH) refl m
         (λ q. ⊎-elim (λ z. inl (z, eqb-false b SLASH e)) (λ z. inr (p, List·Memᴰ·head refl, z)) (List·Memᴰ·cases-cons (rw q at k)))
         (λ m. inr (n, List·Memᴰ·tail m, k)) (List·Memᴰ·cases-cons m)
 
--- a byte of a piece is one of the path's, and no slash
-pub piece-byte : (l n : Bytes) → List·Memᴰ n (pieces l) → (x : ℕ) → List·Memᴰ x n → List·Memᴰ x l × (x ≢ SLASH)
-unfolding pieces Origin
-piece-byte [] n m x k = absurd (nobody-in (List·Memᴰ·eq-of-singleton m) k)
-piece-byte (b ∷ l) n m x k = ⊎-elim
+-- a byte of a segment is one of the path's, and no slash
+pub segment-byte : (l n : Bytes) → List·Memᴰ n (segments l) → (x : ℕ) → List·Memᴰ x n → List·Memᴰ x l × (x ≢ SLASH)
+unfolding segments Origin
+segment-byte [] n m x k = absurd (nobody-in (List·Memᴰ·eq-of-singleton m) k)
+segment-byte (b ∷ l) n m x k = ⊎-elim
     (λ z. (List·Memᴰ·head (z .0), λ e. z .1 (sym (z .0) ∙ e)))
-    (λ z. let h = piece-byte l (z .0) (z .1) x (z .2) in (List·Memᴰ·tail (h .0), h .1)) (split-byte b (pieces l) n m x k)
+    (λ z. let h = segment-byte l (z .0) (z .1) x (z .2) in (List·Memᴰ·tail (h .0), h .1)) (split-byte b (segments l) n m x k)
 
 -- ---- the names of a path
 
@@ -59,15 +59,15 @@ absolute-byte : (p n : Bytes) → List·Memᴰ n (absoluteNames p) → (x : ℕ)
 unfolding absoluteNames
 absolute-byte [] n m x k = absurd (List·Memᴰ·not-nil m)
 absolute-byte (b ∷ []) n m x k = absurd (List·Memᴰ·not-nil m)
-absolute-byte (b ∷ c ∷ l) n m x k = let h = piece-byte (c ∷ l) n m x k in (List·Memᴰ·tail (h .0), h .1)
+absolute-byte (b ∷ c ∷ l) n m x k = let h = segment-byte (c ∷ l) n m x k in (List·Memᴰ·tail (h .0), h .1)
 
 name-byte : (base p n : Bytes) → List·Memᴰ n (pathNames base p) → (x : ℕ) → List·Memᴰ x n → (List·Memᴰ x base ⊎ List·Memᴰ x p) × (x ≢ SLASH)
 unfolding pathNames
 name-byte base p n m x k = go (isAbsolute p) m
   where
-    go : (t : Bool) → List·Memᴰ n (cond t (absoluteNames p) (absoluteNames base ++ pieces p)) → (List·Memᴰ x base ⊎ List·Memᴰ x p) × (x ≢ SLASH)
+    go : (t : Bool) → List·Memᴰ n (cond t (absoluteNames p) (absoluteNames base ++ segments p)) → (List·Memᴰ x base ⊎ List·Memᴰ x p) × (x ≢ SLASH)
     go true m = let h = absolute-byte p n m x k in (inr (h .0), h .1)
-    go false m = ⊎-elim (λ m. let h = absolute-byte base n m x k in (inl (h .0), h .1)) (λ m. let h = piece-byte p n m x k in (inr (h .0), h .1))
+    go false m = ⊎-elim (λ m. let h = absolute-byte base n m x k in (inl (h .0), h .1)) (λ m. let h = segment-byte p n m x k in (inr (h .0), h .1))
         (List·Memᴰ·append-cases (absoluteNames base) m)
 
 pub name-octets : (base p : Bytes) → Octets base → Octets p → (n : Bytes) → List·Memᴰ n (pathNames base p) → Octets n
@@ -75,23 +75,23 @@ name-octets base p ob op n m = octets n (λ x k. ⊎-elim (octet base ob) (octet
 
 -- the tests of `goodAbsolute` and `goodRelative`
 abbrev absoluteTest : Bytes → Bool
-absoluteTest q = isAbsolute q && leb (length q) longestPath && all goodPiece (absoluteNames q)
+absoluteTest q = isAbsolute q && leb (length q) longestPath && all goodSegment (absoluteNames q)
 
 abbrev relativeTest : Bytes → Bool
-relativeTest p = leb (length p) longestPath && all goodPiece (pieces p)
+relativeTest p = leb (length p) longestPath && all goodSegment (segments p)
 
-name-piece : (base p : Bytes) → goodPath base p ≡ true → (n : Bytes) → List·Memᴰ n (pathNames base p) → T (goodPiece n)
-unfolding goodPath pathNames goodAbsolute goodRelative goodPieces
-name-piece base p g n m = go (isAbsolute p) (true→T g) m
+name-segment : (base p : Bytes) → goodPath base p ≡ true → (n : Bytes) → List·Memᴰ n (pathNames base p) → T (goodSegment n)
+unfolding goodPath pathNames goodAbsolute goodRelative goodSegments
+name-segment base p g n m = go (isAbsolute p) (true→T g) m
   where
-    absolute : (q : Bytes) → T (absoluteTest q) → List·Memᴰ n (absoluteNames q) → T (goodPiece n)
-    absolute q t m = all-mem goodPiece (absoluteNames q) (and-T (isAbsolute q && leb (length q) longestPath) (all goodPiece (absoluteNames q)) t .1) m
+    absolute : (q : Bytes) → T (absoluteTest q) → List·Memᴰ n (absoluteNames q) → T (goodSegment n)
+    absolute q t m = all-mem goodSegment (absoluteNames q) (and-T (isAbsolute q && leb (length q) longestPath) (all goodSegment (absoluteNames q)) t .1) m
 
-    relative : T (relativeTest p) → List·Memᴰ n (pieces p) → T (goodPiece n)
-    relative t m = all-mem goodPiece (pieces p) (and-T (leb (length p) longestPath) (all goodPiece (pieces p)) t .1) m
+    relative : T (relativeTest p) → List·Memᴰ n (segments p) → T (goodSegment n)
+    relative t m = all-mem goodSegment (segments p) (and-T (leb (length p) longestPath) (all goodSegment (segments p)) t .1) m
 
     go : (t : Bool) → T (cond t (absoluteTest p) (absoluteTest base && relativeTest p))
-        → List·Memᴰ n (cond t (absoluteNames p) (absoluteNames base ++ pieces p)) → T (goodPiece n)
+        → List·Memᴰ n (cond t (absoluteNames p) (absoluteNames base ++ segments p)) → T (goodSegment n)
     go true g m = absolute p g m
     go false g m =
         let s = and-T (absoluteTest base) (relativeTest p) g in
@@ -112,9 +112,9 @@ name-good (b ∷ n) h =
     rw (eqb-differ b 0 (e .0), eqb-differ b SLASH (e .1)) (name-good n (λ x m. h x (List·Memᴰ·tail m)))
 
 pub good-name : (base p : Bytes) → Octets base → Octets p → goodPath base p ≡ true → (n : Bytes) → List·Memᴰ n (pathNames base p) → GoodName n
-unfolding goodPiece
+unfolding goodSegment
 good-name base p ob op g n m =
-    let s = and-T (leb 1 (length n) && leb (length n) longestName) (all (λ b. not (eqb b 0)) n) (name-piece base p g n m) in
+    let s = and-T (leb 1 (length n) && leb (length n) longestName) (all (λ b. not (eqb b 0)) n) (name-segment base p g n m) in
     let t = and-T (leb 1 (length n)) (leb (length n) longestName) (s .0) in
     record {
       some-bytes = leb→le 1 (length n) (t .0);

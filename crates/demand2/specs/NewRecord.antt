@@ -23,7 +23,7 @@ use Rattle.volume_laws.specs.Counting.{counting-mem}
 use Rattle.calls.specs.Image.{put}
 use Rattle.calls.specs.declared.Descriptor.{Descriptor}
 use Rattle.demand2.specs.Area.{Whole}
-use Rattle.demand2.specs.Store.{freePlace, Fits}
+use Rattle.demand2.specs.Store.{freePlace, RecordFits}
 use Rattle.demand2.specs.Places.{Written, written, all-written}
 
 pub record IsInode (b : Bytes) (id sequence parent : ℕ) (name : Bytes) : Type 0 where
@@ -79,7 +79,7 @@ block-made id sequence owner previous text m =
 -- one record, stored where it fits
 pub record WrittenOne (image image′ : Bytes) (ds : List Descriptor) (b : Bytes) : Type 0 where
   pub area : Descriptor
-  pub fits : Fits image ds area b
+  pub fits : RecordFits image ds area b
   pub image-is : image′ ≡ put image (freePlace image area) b
 
 pub written-one : {ds : List Descriptor} {image image′ b : Bytes} → Written ds image (b ∷ []) image′ → WrittenOne image image′ ds b

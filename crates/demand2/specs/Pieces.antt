@@ -22,17 +22,18 @@ use Rattle.calls.specs.Image.{put}
 use Rattle.calls.specs.Mount.{acceptedRecords, mostBlocks, volume}
 use Rattle.calls.specs.Storing.{unusedId}
 use Rattle.calls.specs.Append.{blockRecords}
-use Rattle.calls.specs.Collect.{joinedBytes}
+use Rattle.image_laws.specs.Stores.{joinedBytes}
 use Rattle.calls.specs.declared.Descriptor.{Descriptor}
 use Rattle.calls_laws.specs.Checks.{Passes}
 use Rattle.calls_laws.specs.Records.{volume-sound}
 use Rattle.demand2.specs.Area.{Whole}
-use Rattle.demand2.specs.Store.{freePlace, Fits, OneStored, one-stored}
+use Rattle.demand2.specs.Store.{freePlace, RecordFits, OneStored, one-stored}
 use Rattle.demand2.specs.Places.{Written, written, all-written}
 use Rattle.calls_laws.specs.Unused.{Smallest, unused-smallest}
 use Rattle.demand2.specs.Added.{Same, Added, added-ids, same-count}
 use Rattle.demand2.specs.Mounted.{agreed-blocks, agreed-inodes, accepted-kind, few-ids, ids-few, blocks-added, inodes-same, still-passes}
 use Rattle.demand2.specs.NewRecord.{IsBlock, block-made}
+use Rattle.demand2.specs.Unused.{mostNamed}
 use Rattle.demand2.specs.NewBlock.{other-blocks, new-last, new-blocks}
 use Rattle.demand2.specs.Cut.{GoodPiece}
 
@@ -54,9 +55,9 @@ previous-rule id previous (inr h) = rw (
   T→true {b = ltb previous NONE} (lt→ltb previous NONE (h .1)),
 )
 
--- names leave ids enough
+-- the names of a volume and of what one append adds; they leave ids enough
 abbrev pub mostNames : ℕ
-mostNames = 3000000
+mostNames = mostNamed + mostBlocks
 
 abbrev next : List ℕ → ℕ
 next names = unusedId firstBlockId names
@@ -147,7 +148,7 @@ made-unnamed (p ∷ ps) names f previous m b k n =
 -- the first of several, and the rest
 pub record WrittenFirst (ds : List Descriptor) (image : Bytes) (b : Bytes) (bs : List Bytes) (image′ : Bytes) : Type 0 where
   pub area : Descriptor
-  pub fits : Fits image ds area b
+  pub fits : RecordFits image ds area b
   pub rest : Written ds (put image (freePlace image area) b) bs image′
 
 written-first : {ds : List Descriptor} {image image′ b : Bytes} {bs : List Bytes} → Written ds image (b ∷ bs) image′
@@ -181,7 +182,7 @@ module _ (image : Bytes) (ds : List Descriptor) (p : Passes image ds) (f : ℕ) 
     (named : BlocksName (volume image ds) names) (behind : Behind names previous) (end : lastBlock byBytes (volume image ds) f ≡ some previous)
     (few : length names ≤ mostNames) (room : suc (length (blockIds byBytes (volume image ds))) ≤ mostBlocks)
     (m : IsBlock (blockBytes (next names) 0 f previous text) (next names) 0 f previous text)
-    (area : Descriptor) (fits : Fits image ds area (blockBytes (next names) 0 f previous text)) where
+    (area : Descriptor) (fits : RecordFits image ds area (blockBytes (next names) 0 f previous text)) where
   abbrev b : Bytes
   b = blockBytes (next names) 0 f previous text
 

@@ -21,8 +21,9 @@ use Rattle.calls.specs.Areas.{areaEnd, areaBytes, fileAreas, goodArea, goodArea
 use Rattle.calls.specs.Mount.{badDescription, recordsOf}
 use Rattle.calls.specs.Storing.{Space, Fit, Store, spaces, keepSpace, firstFit, prepend, placeAll, storeAll, noPlace}
 use Rattle.calls.specs.declared.Descriptor.{Descriptor}
+use Rattle.calls_laws.specs.Storing.{kept-fit}
 use Rattle.demand2.specs.Area.{Whole}
-use Rattle.demand2.specs.Store.{OneStored, same-area, freePlace, Fits, one-stored, file-listed, same-file-areas, same-described}
+use Rattle.demand2.specs.Store.{OneStored, same-area, freePlace, RecordFits, one-stored, file-listed, same-file-areas, same-described}
 
 -- no area is listed twice
 abbrev pub Distinct : List Descriptor → Type 0
@@ -99,16 +100,9 @@ spaces-same image image′ (d ∷ fs) h = rw (h d (List·Memᴰ·head refl), spa
 pub record Fitted (image : Bytes) (ds fs : List Descriptor) (b : Bytes) (f : Fit) : Type 0 where
   pub area : Descriptor
   pub among : List·Memᴰ area fs
-  pub fits : Fits image ds area b
+  pub fits : RecordFits image ds area b
   pub placed-at : f .place ≡ freePlace image area
   pub left-is : spaces (put image (freePlace image area) b) fs ≡ f .left
-
-kept-fit : (s : Space) (o : Option Fit) (f : Fit) → keepSpace s o ≡ some f
-    → (g : Fit) × (o ≡ some g) × (f .place ≡ g .place) × (f .left ≡ s ∷ g .left)
-kept-fit s none f e = let z : _≡_ {A = ℕ} 0 1 = cc in absurd (omega arith)
-kept-fit s (some g) f e =
-    let q : _≡_ {A = Fit} (record { place = g .place; left = s ∷ g .left }) f = cc in
-    (g, refl, (λ i. sym q i .place), (λ i. sym q i .left))
 
 module _ (image : Bytes) (ds : List Descriptor) (described : badDescription image ds ≡ false) (b : Bytes) (w : Whole recordSize b) where
   pub first-fitted : (fs : List Descriptor) → Distinct fs → ((d : Descriptor) → List·Memᴰ d fs → List·Memᴰ d (fileAreas image ds)) → (f : Fit)
@@ -124,7 +118,7 @@ module _ (image : Bytes) (ds : List Descriptor) (described : badDescription imag
       listed e m = file-listed image ds e (h e m)
 
       -- stored elsewhere, d is as it was
-      untouched : (a : Descriptor) → List·Memᴰ a fs → Fits image ds a b → areaBytes (put image (freePlace image a) b) d ≡ areaBytes image d
+      untouched : (a : Descriptor) → List·Memᴰ a fs → RecordFits image ds a b → areaBytes (put image (freePlace image a) b) d ≡ areaBytes image d
       untouched a m t =
           one-stored image ds described a b t w .elsewhere d (listed d (List·Memᴰ·head refl)) (λ q. n .0 (Memᴰ·cast q m))
 
@@ -152,7 +146,7 @@ module _ (image : Bytes) (ds : List Descriptor) (described : badDescription imag
           → f .place ≡ freePlace image d → f .left ≡ record { from = freePlace image d + length b; end = areaEnd d } ∷ spaces image fs
           → Fitted image ds (d ∷ fs) b f
       taken c r p l =
-          let t : Fits image ds d b = record { file = h d (List·Memᴰ·head refl); clean = c; room = r } in
+          let t : RecordFits image ds d b = record { file = h d (List·Memᴰ·head refl); clean = c; room = r } in
           let s = one-stored image ds described d b t w in
           let k = spaces-same image (put image (freePlace image d) b) fs
           (λ e m. s .elsewhere e (listed e (List·Memᴰ·tail m)) (λ q. n .0 (Memᴰ·cast (sym q) m))) in
@@ -189,7 +183,7 @@ module _ (image : Bytes) (ds : List Descriptor) (described : badDescription imag
 -- the records bs stored one after the other, each at the start of the free space of a clean file area
 pub data Written (ds : List Descriptor) : Bytes → List Bytes → Bytes → Type 0 where
   all-written : {image : Bytes} → Written ds image [] image
-  written : {image image′ b : Bytes} {bs : List Bytes} (area : Descriptor) → Fits image ds area b → Whole recordSize b
+  written : {image image′ b : Bytes} {bs : List Bytes} (area : Descriptor) → RecordFits image ds area b → Whole recordSize b
       → Written ds (put image (freePlace image area) b) bs image′ → Written ds image (b ∷ bs) image′
 
 bound : {A B : Type 0} (o : Option A) (f : A → Option B) (b : B) → bind o f ≡ some b → (a : A) × (o ≡ some a) × (f a ≡ some b)
@@ -214,7 +208,7 @@ all-placed ds image (b ∷ bs) l d w e =
     it : Whole recordSize b
     it = w b (List·Memᴰ·head refl)
 
-    at : (a : Descriptor) (p : ℕ) (m : List Store) → p ≡ freePlace image a → Fits image ds a b
+    at : (a : Descriptor) (p : ℕ) (m : List Store) → p ≡ freePlace image a → RecordFits image ds a b
         → Written ds (put image (freePlace image a) b) bs (storeAll (put image (freePlace image a) b) m)
         → Written ds image (b ∷ bs) (storeAll image (record { place = p; bytes = b } ∷ m))
     at a p m q t ih = rw q (written a t it ih)

@@ -21,7 +21,7 @@ use Rattle.calls.specs.Mount.{recordsOf, acceptedRecords, badDescription}
 use Rattle.calls.specs.declared.Descriptor.{Descriptor}
 use Rattle.calls_laws.specs.Checks.{area-fits, areas-apart, header-file, header-scratch, header-id}
 use Rattle.calls_laws.specs.Records.{Stored, stored, stored-mem}
-use Rattle.flash.specs.Laws.{length-put, part-outside, part-around}
+use Rattle.image_laws.specs.Laws.{length-put, part-outside, part-around}
 use Rattle.demand2.specs.Area.{Whole, AreaStored, free-behind, area-stored}
 
 pub same-area : (a b : Descriptor) → Dec (a ≡ b)
@@ -37,7 +37,7 @@ abbrev pub freePlace : Bytes → Descriptor → ℕ
 freePlace image d = d .offset + areaFree recordSize (areaBytes image d)
 
 -- the record b fits into the free space of a clean file area: "a damaged area waits for collection"
-pub record Fits (image : Bytes) (ds : List Descriptor) (area : Descriptor) (b : Bytes) : Type 0 where
+pub record RecordFits (image : Bytes) (ds : List Descriptor) (area : Descriptor) (b : Bytes) : Type 0 where
   pub file : List·Memᴰ area (fileAreas image ds)
   pub clean : areaClean recordSize (areaBytes image area) ≡ true
   pub room : freePlace image area + length b ≤ areaEnd area
@@ -71,7 +71,7 @@ pub area-length : (image : Bytes) (d : Descriptor) → areaEnd d ≤ length imag
 area-length image d h = length-take-le (d .length) (drop (d .offset) image) (omega (arith, length-drop (d .offset) image))
 
 module _ (image : Bytes) (ds : List Descriptor) (described : badDescription image ds ≡ false)
-    (area : Descriptor) (b : Bytes) (f : Fits image ds area b) (w : Whole recordSize b) where
+    (area : Descriptor) (b : Bytes) (f : RecordFits image ds area b) (w : Whole recordSize b) where
   listed : List·Memᴰ area ds
   listed = file-listed image ds area (f .file)
 

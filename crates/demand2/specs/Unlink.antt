@@ -1,52 +1,49 @@
 -- Unlink. Document 01: "Unlink writes a deletion record, sequence plus one, no name; what lies below a directory goes with it."
-use Prim.Native.Nat.{ℕ, suc, _<_}
+use Prim.Native.Nat.{ℕ}
 use mathlib.Core.Path.{_≡_, refl, sym, ap, _∙_}
 use mathlib.Core.Logic.{_≢_, _⊎_, inl, inr, ⊎-elim}
 use mathlib.Core.Bool.{Bool, true, false, cond, not, _||_}
 use mathlib.Core.Option.{Option, some}
-use mathlib.Core.List.{List, [], _∷_, _++_, List·Memᴰ, List·Memᴰ·head, List·Memᴰ·eq-of-singleton, Memᴰ·cast}
+use mathlib.Core.List.{List, [], _∷_, _++_, List·Memᴰ, List·Memᴰ·head, Memᴰ·cast}
 use native.Mathlib.Omega.{arith}
 use lib.ListN.{length}
 use lib.Dec.{T, eqb, ltb, lt→ltb}
-use borrow.Author.Tests.{eqb-true}
 use Rattle.format.specs.Bytes.{Bytes}
 use Rattle.format.specs.Ids.{NONE, firstBlockId, rootId, isInodeId}
-use Rattle.format.specs.Record.{recordId, recordSequence, inodeRule, nameGood}
+use Rattle.format.specs.Record.{recordId, inodeRule, nameGood}
 use Rattle.format_laws.specs.Crc.{Octets}
-use Rattle.format_laws.specs.Encoding.{MeantInode, octets-none}
+use Rattle.format_laws.specs.Encoding.{octets-none}
 use Rattle.volume.specs.View.{byBytes}
-use Rattle.volume.specs.Counting.{Volume, inodeOf, inodeIds}
+use Rattle.volume.specs.Counting.{Volume, inodeOf}
 use Rattle.volume.specs.Fate.{live, dead, fateOf, lineage}
 use Rattle.volume.specs.Contents.{fileBlocks}
 use Rattle.volume.specs.Path.{goodPath, pathNames}
 use Rattle.volume.specs.Lists.{one, only}
 use Rattle.volume.specs.Tree.{Found, found, absent, isChild, children, lookupNames}
 use Rattle.volume_laws.specs.Tests.{T→true, eqb-false, eqb-differ, not-is-false, or-is-false}
-use Rattle.volume_laws.specs.Counting.{Agree, counting-mem, counting-top, ids-of}
-use Rattle.volume_laws.specs.Sound.{Sound}
 use Rattle.volume_laws.specs.Climb.{live-some}
 use Rattle.volume_laws.specs.Tree.{lookup-append}
 use Rattle.calls.specs.Refusal.{firstRefusal}
 use Rattle.calls.specs.Areas.{fileAreas}
-use Rattle.calls.specs.Mount.{acceptedRecords, volume, mountNumber}
+use Rattle.calls.specs.Mount.{volume, mountNumber}
 use Rattle.calls.specs.Storing.{Store, spaces, placeAll, noPlace}
 use Rattle.calls.specs.Create.{isRoot}
 use Rattle.calls.specs.Lookup.{resolve}
 use Rattle.calls.specs.Read.{refused, give}
-use Rattle.calls.specs.Unlink.{lastSequence, sequenceOf, deletion, unlinkOne, Unlinking, unlinks, refuses, unlinkWhat, unlinking, unlinkNumber}
-use Rattle.calls.specs.Unlink.{unlinkOf, imageUnlinked}
+use Rattle.calls.specs.Rewrite.{lastSequence, sequenceOf, rewritten, rewritePlan, rewriteNumber}
+use Rattle.calls.specs.Attempt.{goes}
+use Rattle.calls.specs.Unlink.{deletion, unlinkOne, unlinking, unlinkOf, imageUnlinked}
 use Rattle.calls.specs.declared.Descriptor.{Descriptor}
 use Rattle.calls_laws.specs.Checks.{Passes, passes, mounts}
 use Rattle.calls_laws.specs.Records.{volume-sound}
-use Rattle.demand2.specs.Store.{OneStored, one-stored}
-use Rattle.demand2.specs.Places.{place-found, all-placed}
-use Rattle.demand2.specs.Octet.{le32-fits, record-octets}
-use Rattle.demand2.specs.Added.{Same, Added, added-changed, known-ids, same-count, same-contents}
-use Rattle.demand2.specs.Mounted.{agreed-inodes, agreed-blocks, inode-accepted, accepted-kind, few-ids, ids-few, inodes-added, blocks-same}
-use Rattle.demand2.specs.Mounted.{still-passes}
+use Rattle.calls_laws.specs.Attempt.{attempt-goes}
+use Rattle.demand2.specs.Store.{OneStored}
+use Rattle.demand2.specs.Places.{place-found}
+use Rattle.demand2.specs.Mounted.{agreed-inodes}
 use Rattle.demand2.specs.Found.{passed-check, lookup-refused, root-there, found-lives, resolved}
 use Rattle.demand2.specs.Deletion.{found-no-root, found-sole, InodeGone, inode-gone}
-use Rattle.demand2.specs.NewRecord.{IsInode, inode-made, WrittenOne, written-one}
+use Rattle.demand2.specs.NewRecord.{WrittenOne}
+use Rattle.demand2.specs.Rewritten.{Rewrites, AfterRewrite, inode-low, rewrite}
 
 -- what an accepted unlink found
 pub record UnlinkGoes (image : Bytes) (ds : List Descriptor) (base path : Bytes) : Type 0 where
@@ -58,7 +55,7 @@ pub record UnlinkGoes (image : Bytes) (ds : List Descriptor) (base path : Bytes)
   pub not-last : sequenceOf (inodeOf byBytes (volume image ds) inode) ≢ lastSequence
   pub stores : List Store
   pub placed : placeAll (spaces image (fileAreas image ds)) (deletion (volume image ds) inode ∷ []) ≡ some stores
-  pub goes : unlinking image ds base path ≡ unlinks inode
+  pub goes : unlinking image ds base path ≡ goes inode
 
 module _ (image : Bytes) (ds : List Descriptor) (base path : Bytes) where
   abbrev before : Volume Bytes
@@ -72,7 +69,7 @@ module _ (image : Bytes) (ds : List Descriptor) (base path : Bytes) where
 
   -- the checks of `unlinkOne`
   checked : (i : ℕ) → unlinkOne image ds i ≡ 0 → (sequenceOf (inodeOf byBytes before i) ≢ lastSequence) × ((l : List Store) × (placing i ≡ some l))
-  unfolding unlinkOne firstRefusal
+  unfolding unlinkOne rewriteNumber rewritePlan deletion firstRefusal
   checked i e =
       let a = passed-check (eqb (sequenceOf (inodeOf byBytes before i)) lastSequence) 15 _ e in
       let b = passed-check (noPlace (placing i)) 14 0 (a .1) in
@@ -80,48 +77,22 @@ module _ (image : Bytes) (ds : List Descriptor) (base path : Bytes) where
 
   pub unlink-goes : unlinkOf image ds base path ≡ 0 → UnlinkGoes image ds base path
   unfolding unlinkOf unlinking
-  unlink-goes e = go (eqb (mountNumber image ds) 0) refl e
-    where
-      inside : Unlinking
-      inside = unlinkWhat image ds (lookupNames byBytes before names)
-
-      behind : Unlinking
-      behind = cond (not (goodPath base path) || isRoot names) (refuses 8) inside
-
-      at : (i : ℕ) → mountNumber image ds ≡ 0 → goodPath base path ≡ true → isRoot names ≡ false → lookupNames byBytes before names ≡ found i
-          → (t : Bool) → eqb (unlinkOne image ds i) 0 ≡ t → unlinkNumber (cond t (unlinks i) (refuses (unlinkOne image ds i))) ≡ 0
-          → UnlinkGoes image ds base path
-      at i m g r q true z y =
-          let c = checked i (eqb-true _ 0 z) in
-          record {
-            mounted = m;
-            good = g;
-            named = eqb-false (length names) 0 r;
-            inode = i;
-            found-there = q;
-            not-last = c .0;
-            stores = c .1 .0;
-            placed = c .1 .1;
-            goes = rw (unlinking, m, g, r, q, z);
-          }
-      at i m g r q false z y = absurd (eqb-false _ 0 z y)
-
-      where-found : mountNumber image ds ≡ 0 → goodPath base path ≡ true → isRoot names ≡ false
-          → (o : Found) → lookupNames byBytes before names ≡ o → unlinkNumber (unlinkWhat image ds o) ≡ 0 → UnlinkGoes image ds base path
-      where-found m g r (found i) q z = at i m g r q (eqb (unlinkOne image ds i) 0) refl z
-      where-found m g r (absent k) q z = absurd (omega (arith, lookup-refused byBytes before names k q))
-
-      path-good : mountNumber image ds ≡ 0 → (t : Bool) → (not (goodPath base path) || isRoot names) ≡ t
-          → unlinkNumber (cond t (refuses 8) inside) ≡ 0 → UnlinkGoes image ds base path
-      path-good m true q z = absurd (omega arith)
-      path-good m false q z =
-          let o = or-is-false (not (goodPath base path)) (isRoot names) q in
-          where-found m (not-is-false (goodPath base path) (o .0)) (o .1) (lookupNames byBytes before names) refl z
-
-      go : (t : Bool) → eqb (mountNumber image ds) 0 ≡ t → unlinkNumber (cond t behind (refuses (mountNumber image ds))) ≡ 0
-          → UnlinkGoes image ds base path
-      go true q z = path-good (eqb-true _ 0 q) (not (goodPath base path) || isRoot names) refl z
-      go false q z = absurd (eqb-false _ 0 q z)
+  unlink-goes e =
+      let w = attempt-goes (mountNumber image ds) (unlinkOne image ds) (not (goodPath base path) || isRoot names)
+      (lookupNames byBytes before names) (lookup-refused byBytes before names) e in
+      let o = or-is-false (not (goodPath base path)) (isRoot names) (w .good) in
+      let c = checked (w .inode) (w .checked) in
+      record {
+        mounted = w .mounted;
+        good = not-is-false (goodPath base path) (o .0);
+        named = eqb-false (length names) 0 (o .1);
+        inode = w .inode;
+        found-there = w .found-there;
+        not-last = c .0;
+        stores = c .1 .0;
+        placed = c .1 .1;
+        goes = w .goes-on;
+      }
 
 -- ---- the theorem
 
@@ -168,8 +139,15 @@ module _ (image : Bytes) (ds : List Descriptor) (base path : Bytes) (octets : Oc
   abbrev i : ℕ
   i = g .inode
 
+  -- the deletion record
+  abbrev b : Bytes
+  b = rewritten v i NONE []
+
   abbrev image′ : Bytes
   image′ = imageUnlinked image ds base path
+
+  abbrev w : Volume Bytes
+  w = volume image′ ds
 
   root : (r : Bytes) × (inodeOf byBytes v rootId ≡ some r)
   root = root-there v (p .root)
@@ -181,101 +159,60 @@ module _ (image : Bytes) (ds : List Descriptor) (base path : Bytes) (octets : Oc
   was : (r : Bytes) × (inodeOf byBytes v i ≡ some r)
   was = live-some byBytes v i lives
 
-  was-there : List·Memᴰ (was .0) (v .inodes) × (recordId (was .0) ≡ i)
-  was-there = counting-mem byBytes (v .inodes) i (was .0) (was .1)
-
   no-root : i ≢ rootId
   no-root = found-no-root byBytes v (volume-sound image ds) (pathNames base path) i (g .named) (g .found-there)
 
-  sequence-low : recordSequence (was .0) < lastSequence
-  sequence-low =
-      let h = le32-fits (was .0) (record-octets image ds octets (was .0) (inode-accepted image ds (was .0) (was-there .0))) 8 in
-      let n : recordSequence (was .0) ≢ lastSequence = rw (was .1) at (g .not-last) in
-      omega arith
-
-  id-low : i < firstBlockId
-  id-low = rw (was-there .1) at (volume-sound image ds .inode-id (was .0) (was-there .0))
-
-  abbrev b : Bytes
-  b = deletion v i
-
-  meant : MeantInode i (suc (recordSequence (was .0))) NONE []
-  unfolding inodeRule isInodeId nameGood
-  meant = record {
-    id-fits = omega (arith, id-low);
-    sequence-fits = omega (arith, sequence-low);
+  -- no parent and no name are such as an inode other than the root may bear
+  asked : Rewrites image ds i NONE []
+  unfolding rewritePlan deletion inodeRule isInodeId nameGood
+  asked = record {
+    mounted = g .mounted;
+    record-before = was .0;
+    counted = was .1;
+    not-last = g .not-last;
+    stores = g .stores;
+    placed = g .placed;
     parent-fits = omega arith;
     name-fits = omega arith;
-    rule = rw (T→true {b = ltb i firstBlockId} (lt→ltb i firstBlockId id-low), eqb-differ i rootId no-root);
+    rule = rw (T→true {b = ltb i firstBlockId} (lt→ltb i firstBlockId (inode-low image ds i (was .0) (was .1))), eqb-differ i rootId no-root);
     good = refl;
-    octets = octets-none;
+    name-octets = octets-none;
   }
 
-  is : IsInode b i (suc (recordSequence (was .0))) NONE []
-  unfolding deletion
-  is = rw (deletion, was .1) (inode-made i (suc (recordSequence (was .0))) NONE [] meant)
-
-  went-one : WrittenOne image image′ ds b
+  -- what holds of every inode rewritten
+  done : AfterRewrite image image′ ds i NONE []
   unfolding imageUnlinked
-  went-one = rw (imageUnlinked, g .goes, g .placed)
-      (written-one (all-placed ds image (b ∷ []) (g .stores) (p .described) (λ c m. rw (List·Memᴰ·eq-of-singleton m) (is .whole)) (g .placed)))
+  done = rw (imageUnlinked, g .goes) (rewrite image ds i NONE [] octets asked)
 
-  stored-one : OneStored image image′ ds (went-one .area) b
-  stored-one = rw (went-one .image-is) (one-stored image ds (p .described) (went-one .area) b (went-one .fits) (is .whole))
+  -- the deletion record bears the inode's id
+  id-is : recordId b ≡ i
+  id-is = done .is .id-is
 
-  newer : (r : Bytes) → List·Memᴰ r (acceptedRecords image ds) → recordId r ≡ recordId b → recordSequence r < recordSequence b
-  newer r m e = ⊎-elim
-      (λ k. omega (arith, counting-top byBytes (v .inodes) i (was .0) (was .1) r k (e ∙ is .id-is), is .sequence-is))
-      (λ k. absurd (omega (arith, volume-sound image ds .block-id r k .0, e, is .id-is, id-low))) (accepted-kind image ds r m)
-
-  added : Added byBytes (v .inodes) (volume image′ ds .inodes) b
-  added = inodes-added stored-one (went-one .fits .file) newer (is .no-block)
-
-  kept-blocks : Same (v .blocks) (volume image′ ds .blocks)
-  kept-blocks = blocks-same stored-one (went-one .fits .file) newer (is .no-block)
-
-  known : List·Memᴰ (recordId b) (inodeIds byBytes v)
-  known = Memᴰ·cast (is .id-is) (ids-of byBytes (v .inodes) .each i (was .0) (was .1))
-
-  still : Passes image′ ds
-  still = still-passes stored-one (went-one .fits .file) newer p
-      (few-ids (volume image′ ds)
-      (omega (arith, known-ids byBytes (v .inodes) (volume image′ ds .inodes) b added (agreed-inodes image ds p) known, ids-few v (p .few) .0))
-      (omega (arith, same-count byBytes (v .blocks) (volume image′ ds .blocks) kept-blocks (agreed-blocks image ds p), ids-few v (p .few) .1)))
-
-  abbrev w : Volume Bytes
-  w = volume image′ ds
+  -- the image still mounts
+  still : mountNumber image′ ds ≡ 0
+  still = mounts image′ ds (done .passes)
 
   -- in the lineage, by the record's id
   own : (j : ℕ) → List·Memᴰ i (lineage byBytes v j) → List·Memᴰ (recordId b) (lineage byBytes v j)
-  own j m = Memᴰ·cast (is .id-is) m
+  own j m = Memᴰ·cast id-is m
 
   other : (j : ℕ) → ¬ List·Memᴰ i (lineage byBytes v j) → ¬ List·Memᴰ (recordId b) (lineage byBytes v j)
-  other j n m = n (Memᴰ·cast (sym (is .id-is)) m)
+  other j n m = n (Memᴰ·cast (sym id-is) m)
 
   not-root : recordId b ≢ rootId
-  not-root e = no-root (sym (is .id-is) ∙ e)
+  not-root e = no-root (sym id-is ∙ e)
 
   lived : fateOf byBytes v (recordId b) ≡ live
-  lived = ap (fateOf byBytes v) (is .id-is) ∙ lives
-
-  ag : Agree byBytes (v .inodes)
-  ag = agreed-inodes image ds p
-
-  sound : Sound byBytes v
-  sound = volume-sound image ds
+  lived = ap (fateOf byBytes v) id-is ∙ lives
 
   now : InodeGone byBytes v w b
-  now = inode-gone byBytes v w b added ag sound not-root (is .parent-is) lived known
+  now = inode-gone byBytes v w b (done .added) (agreed-inodes image ds p) (volume-sound image ds) not-root (done .is .parent-is) lived (done .known)
 
   outside : (j : ℕ) → ¬ List·Memᴰ i (lineage byBytes v j) → fateOf byBytes w j ≡ fateOf byBytes v j
   outside j n = now .outside j (other j n)
 
   below : (j : ℕ) → List·Memᴰ i (lineage byBytes v j) → fateOf byBytes w j ≡ dead
   below j m = now .below j (own j m)
-
-  same-files : (f : ℕ) → fileBlocks byBytes w f ≡ fileBlocks byBytes v f
-  same-files = same-contents byBytes v w kept-blocks (agreed-blocks image ds p)
 
   found-names : (c q : Bytes) (j : ℕ) → resolve image ds c q ≡ found j → (goodPath c q ≡ true) × (lookupNames byBytes v (pathNames c q) ≡ found j)
   found-names c q j e = go (goodPath c q) refl (sym (resolved image ds c q (g .mounted)) ∙ e)
@@ -286,7 +223,7 @@ module _ (image : Bytes) (ds : List Descriptor) (base path : Bytes) (octets : Oc
       go false r z = let y : _≡_ {A = ℕ} 0 1 = cc in absurd (omega arith)
 
   answers : (c q : Bytes) (o : Found) → goodPath c q ≡ true → lookupNames byBytes w (pathNames c q) ≡ o → resolve image′ ds c q ≡ o
-  answers c q o r z = resolved image′ ds c q (mounts image′ ds still) ∙ rw r z
+  answers c q o r z = resolved image′ ds c q still ∙ rw r z
 
   gone : lookupNames byBytes w (pathNames base path) ≡ absent 9
   unfolding lineage
@@ -294,9 +231,9 @@ module _ (image : Bytes) (ds : List Descriptor) (base path : Bytes) (octets : Oc
       (own i (List·Memᴰ·head refl))
 
   after-unlink : AfterUnlink image image′ ds base path
-  unfolding give
+  unfolding deletion give
   after-unlink = record {
-    mounts = mounts image′ ds still;
+    mounts = still;
     inode = i;
     found-at-path = resolved image ds base path (g .mounted) ∙ rw (g .good) (g .found-there);
     path-lost = λ c q ns r e. answers c q (absent 9) r (ap (lookupNames byBytes w) e ∙ lookup-append byBytes w (pathNames base path) ns ∙ rw gone);
@@ -308,22 +245,22 @@ module _ (image : Bytes) (ds : List Descriptor) (base path : Bytes) (octets : Oc
     paths = λ c q j e n. let f = found-names c q j e in
         answers c q (found j) (f .0) (now .stays (pathNames c q) j (f .1)
         (other j n));
-    reads = λ j n position room. rw (give, outside j n, same-files j);
+    reads = λ j n position room. rw (give, outside j n, done .contents j);
     otherwise = either;
     stays = outside;
     no-new-life = now .no-life;
     not-live = now .unlive;
-    deleted = ap (inodeOf byBytes w) (sym (is .id-is)) ∙ added-changed byBytes (v .inodes) (w .inodes) b added ag .here;
-    inodes = λ j n. added-changed byBytes (v .inodes) (w .inodes) b added ag .others j (λ e. n (e ∙ is .id-is));
-    contents = same-files;
-    went = went-one;
-    stored = stored-one;
+    deleted = done .here;
+    inodes = done .others;
+    contents = done .contents;
+    went = done .went;
+    stored = done .stored;
   }
     where
       alone : (e : ℕ) (n : Bytes) → T (isChild byBytes v e n (recordId b)) → only (children byBytes v e n) ≡ one (recordId b)
       alone e n t =
-          let u : T (isChild byBytes v e n i) = rw (is .id-is) at t in
-          found-sole byBytes v (pathNames base path) i (g .named) (g .found-there) e n u ∙ ap one (sym (is .id-is))
+          let u : T (isChild byBytes v e n i) = rw id-is at t in
+          found-sole byBytes v (pathNames base path) i (g .named) (g .found-there) e n u ∙ ap one (sym id-is)
 
       either : (c q : Bytes) → (resolve image′ ds c q ≡ resolve image ds c q) ⊎ (resolve image′ ds c q ≡ absent 9)
       either c q = go (goodPath c q) refl
@@ -333,7 +270,7 @@ module _ (image : Bytes) (ds : List Descriptor) (base path : Bytes) (octets : Oc
               (λ z. inl (answers c q (lookupNames byBytes v (pathNames c q)) r z ∙ sym (resolved image ds c q (g .mounted) ∙ rw r)))
               (λ z. inr (answers c q (absent 9) r z))
               (now .either alone (pathNames c q))
-          go false r = inl (resolved image′ ds c q (mounts image′ ds still) ∙ rw r (sym (resolved image ds c q (g .mounted) ∙ rw r)))
+          go false r = inl (resolved image′ ds c q still ∙ rw r (sym (resolved image ds c q (g .mounted) ∙ rw r)))
 
 pub unlink : (image : Bytes) (ds : List Descriptor) (base path : Bytes) → Octets image → unlinkOf image ds base path ≡ 0
     → AfterUnlink image (imageUnlinked image ds base path) ds base path

@@ -13,7 +13,7 @@ use Rattle.format.specs.Reading.{Acceptor, Placed, Part, taken, stretch, skip, 
 use Rattle.volume.specs.View.{byBytes}
 use Rattle.volume.specs.Counting.{Volume, volumeOf}
 use Rattle.volume_laws.specs.Lists.{keep-shorter}
-use Rattle.calls.specs.Areas.{areaBytes, fileAreas, largestImage}
+use Rattle.calls.specs.Areas.{mostAreas, areaBytes, fileAreas, largestImage}
 use Rattle.calls.specs.Mount.{recordsOf, bytesOf, recordsIn, acceptedRecords, volume, badDescription}
 use Rattle.calls.specs.Storing.{namedByInodes, namedByBlocks, namedIds}
 use Rattle.calls.specs.declared.Descriptor.{Descriptor}
@@ -118,9 +118,9 @@ records-count image (d ∷ fs) h =
     let i = records-count image fs (λ e m. h e (List·Memᴰ·tail m)) in
     omega (arith, length-append (bytesOf (recordsOf image d)) (recordsIn image fs), area-count image d, h d (List·Memᴰ·head refl))
 
--- eight areas of 65,536 bytes hold no more records than they have bytes, and none names more than three ids
+-- the areas hold no more records than they have bytes; an inode names two ids and a block three
 abbrev pub mostNamed : ℕ
-mostNamed = 2621440
+mostNamed = mostAreas * largestImage * 5
 
 pub few-named : (image : Bytes) (ds : List Descriptor) → badDescription image ds ≡ false → length (namedIds (volume image ds)) ≤ mostNamed
 unfolding namedIds volume volumeOf acceptedRecords fileAreas

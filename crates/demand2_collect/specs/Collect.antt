@@ -17,7 +17,7 @@ use Rattle.format.specs.Record.{recordSize}
 use Rattle.format.specs.Reading.{areaClean}
 use Rattle.volume.specs.Lists.{all, once}
 use Rattle.volume.specs.View.{byBytes}
-use Rattle.volume.specs.Counting.{Volume, inodeOf, inodeIds, blockIds}
+use Rattle.volume.specs.Counting.{Volume, volumeOf, inodeOf, inodeIds, blockIds}
 use Rattle.volume.specs.Fate.{Fate, live, dead, orphan, isLive, fateOf}
 use Rattle.volume.specs.Contents.{fileBlocks}
 use Rattle.volume.specs.Path.{pathNames}
@@ -32,9 +32,13 @@ use Rattle.calls.specs.Mount.{mountNumber}
 use Rattle.calls.specs.Format.{emptyArea}
 use Rattle.calls.specs.Lookup.{resolve}
 use Rattle.calls.specs.Read.{give}
-use Rattle.calls.specs.Collect.{countOf, precedes, sourceOf, recordsElsewhere, copies, nextCount, collected, collectOf, imageCollected}
+use Rattle.calls.specs.Collect.{countOf, precedes, sourceOf, recordsElsewhere, copies, copiedRecords, nextCount, collected}
+use Rattle.calls.specs.Collect.{collectOf, imageCollected}
 use Rattle.calls.specs.declared.Descriptor.{Descriptor}
 use Rattle.calls_laws.specs.Checks.{Passes, passes, mounts, InArea}
+use Rattle.collect_laws.specs.Source.{source-found}
+use Rattle.collect_laws.specs.Survivors.{Survivors}
+use Rattle.collect_laws.specs.Mounted.{copied-survive}
 use Rattle.demand2.specs.Store.{file-listed}
 use Rattle.demand2.specs.Places.{Distinct, distinct-keep, areas-distinct, files-distinct}
 use Rattle.demand2.specs.Mounted.{agreed, few-ids, ids-few}
@@ -42,7 +46,7 @@ use Rattle.demand2.specs.Found.{root-there, root-lives, resolve-alike}
 use Rattle.demand2.specs.Format.{own-ids}
 use Rattle.demand2_collect.specs.Dropped.{LeftOut, kept-fate, kept-inode, stays-live, no-new-life, same-lookups, kept-contents}
 use Rattle.demand2_collect.specs.Copies.{fewer-records, fewer-blocks, left-out}
-use Rattle.demand2_collect.specs.Image.{CollectGoes, collect-goes, source-found, ImageCollected, image-collected}
+use Rattle.demand2_collect.specs.Image.{CollectGoes, collect-goes, ImageCollected, image-collected}
 
 -- ---- check 2 by members
 
@@ -152,12 +156,16 @@ module _ (image : Bytes) (ds : List Descriptor) (g : CollectGoes image ds) where
   c : ImageCollected image ds t s
   c = image-collected image ds p t s (g .one-scratch) (g .source-is)
 
+  survive : Survivors (volumeOf byBytes (acceptedRecords image ds)) (areaBytes image s) (recordsElsewhere image (fileAreas image ds) s) (copiedRecords image ds s)
+  unfolding volume
+  survive = copied-survive image ds s
+
   fewer : (b : Bytes) → List·Memᴰ b (acceptedRecords image′ ds) → List·Memᴰ b (acceptedRecords image ds)
-  fewer = fewer-records _ _ _ _ (c .moved) (agreed image ds p)
+  fewer = fewer-records _ _ _ _ _ (c .moved) survive (agreed image ds p)
 
   left : LeftOut byBytes v w
   unfolding volume
-  left = left-out _ _ _ _ (c .moved) (agreed image ds p)
+  left = left-out _ _ _ _ _ (c .moved) survive (agreed image ds p)
 
   described : badDescription image′ ds ≡ false
   unfolding badDescription
@@ -235,7 +243,7 @@ module _ (image : Bytes) (ds : List Descriptor) (g : CollectGoes image ds) where
   count-blocks : length (blockIds byBytes w) ≤ length (blockIds byBytes v)
   unfolding volume
   count-blocks = fewer-ids byBytes (v .blocks) (w .blocks)
-      (fewer-blocks _ _ _ _ (c .moved) (agreed image ds p))
+      (fewer-blocks _ _ _ _ _ (c .moved) survive (agreed image ds p))
 
   still : Passes image′ ds
   unfolding sharedAreaId wrongAreas shortScratch noRoot all

@@ -14,7 +14,7 @@ use Rattle.format.specs.BlockSize.{greatestBlock}
 use Rattle.volume.specs.Lists.{keep, all, same, once, only}
 use Rattle.volume.specs.Counting.{volumeOf, versions, newest, counting, idsOf, agree, allAgree}
 use Rattle.volume.specs.Fate.{ascend, climb, fateOf, blockDead}
-use Rattle.volume.specs.Path.{splitByte, pieces, goodPiece, goodPieces, isAbsolute, absoluteNames, goodAbsolute, goodPath, pathNames}
+use Rattle.volume.specs.Path.{splitByte, segments, goodSegment, goodSegments, isAbsolute, absoluteNames, goodAbsolute, goodPath, pathNames}
 use Rattle.volume.specs.Tree.{isEntry, isChild, children, walk, lookupNames}
 use Rattle.volume.specs.Contents.{owns, owned, unnamed, lastBlock, chainBack, fileBlocks}
 use Rattle.calls.specs.Image.{put}
@@ -24,12 +24,14 @@ use Rattle.calls.specs.Mount.{recordsIn, acceptedRecords, volume, badDescriptio
 use Rattle.calls.specs.Mount.{mountChecks, mountNumber}
 use Rattle.calls.specs.Storing.{spaces, firstFit, placeAll, storeAll, namedByInodes, namedByBlocks, namedIds, isAmong, unusedFrom, unusedId}
 use Rattle.calls.specs.Format.{emptyArea, formatNumber, longestLength, numbered, labelled, blanked, rooted, formatted, imageFormatted}
+use Rattle.calls.specs.Attempt.{attemptAt}
 use Rattle.calls.specs.Create.{lastName, namesBefore, firstIdOf, newId, newInode, createIn, creating, createOf, imageCreated}
 use Rattle.calls.specs.Append.{shortestLength, cutInto, piecesOf, blockRecords, newBlocks, appendTo, appending, appendOf, imageAppended}
+use Rattle.calls.specs.Rewrite.{rewritten, rewritePlan, rewriteNumber, imageRewritten}
 use Rattle.calls.specs.Unlink.{deletion, unlinkOne, unlinking, unlinkOf, imageUnlinked}
 use Rattle.calls.specs.Collect.{eligible, precedes, firstLowest, sourceOf, isOther, recordsElsewhere, counts, firstPlaces, dropsBlock, namesInode}
-use Rattle.calls.specs.Collect.{dropsInode, drops, copies, joinedBytes, headerWithId, filledScratch, nextCount, collected, collecting, collectOf}
-use Rattle.calls.specs.Collect.{imageCollected}
+use Rattle.calls.specs.Collect.{dropsInode, drops, copies, isBlank, resetStores, readyStores, recordStores, nextCount, collectStores, collected}
+use Rattle.calls.specs.Collect.{collecting, collectOf, imageCollected}
 use Rattle.calls.specs.declared.Descriptor.{Descriptor}
 
 -- two areas of 160 bytes
@@ -76,13 +78,13 @@ unfolding
     crcByte crcOver check isDirectoryId isFileId isInodeId isBlockId recordSize nameGood inodeRule previousRule blockRule inodeRules
     blockRules checkRight wellFormed acceptable magicsRight validHeader isScratch isFileArea skip parts placed erasedEnd freeSize
     damagedBytes damaged areaParts areaRecords areaDamage areaFree areaClean greatestBlock keep all same once only volumeOf versions newest
-    counting idsOf agree allAgree ascend climb fateOf blockDead splitByte pieces goodPiece goodPieces isAbsolute absoluteNames goodAbsolute
+    counting idsOf agree allAgree ascend climb fateOf blockDead splitByte segments goodSegment goodSegments isAbsolute absoluteNames goodAbsolute
     goodPath pathNames isEntry isChild children walk lookupNames owns owned unnamed lastBlock chainBack fileBlocks put goodArea disjoint
     allDisjoint goodAreas fileAreas scratchAreas firstRefusal recordsIn acceptedRecords volume badDescription sharedAreaId wrongAreas
     shortScratch tooManyIds noRoot mountChecks mountNumber spaces firstFit placeAll storeAll namedByInodes namedByBlocks namedIds isAmong
-    unusedFrom unusedId emptyArea formatNumber longestLength numbered labelled blanked rooted formatted imageFormatted lastName namesBefore
-    firstIdOf newId newInode createIn creating createOf imageCreated shortestLength cutInto piecesOf blockRecords newBlocks appendTo
-    appending appendOf imageAppended deletion unlinkOne unlinking unlinkOf imageUnlinked eligible precedes firstLowest sourceOf isOther
-    recordsElsewhere counts firstPlaces dropsBlock namesInode dropsInode drops copies joinedBytes headerWithId filledScratch nextCount
-    collected collecting collectOf imageCollected
+    unusedFrom unusedId emptyArea formatNumber longestLength numbered labelled blanked rooted formatted imageFormatted attemptAt lastName
+    namesBefore firstIdOf newId newInode createIn creating createOf imageCreated shortestLength cutInto piecesOf blockRecords newBlocks
+    appendTo appending appendOf imageAppended deletion rewritten rewritePlan rewriteNumber imageRewritten unlinkOne unlinking unlinkOf
+    imageUnlinked eligible precedes firstLowest sourceOf isOther recordsElsewhere counts firstPlaces dropsBlock namesInode dropsInode drops
+    copies isBlank resetStores readyStores recordStores nextCount collectStores collected collecting collectOf imageCollected
 accepted = refl

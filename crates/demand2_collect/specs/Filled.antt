@@ -1,19 +1,18 @@
 -- Copies written back to back read as the copies in a clean area.
-use Prim.Native.Nat.{ℕ, _+_, _<_}
+use Prim.Native.Nat.{ℕ, _+_}
 use mathlib.Core.Path.{_≡_, refl, sym, ap, _∙_}
 use mathlib.Core.Bool.{true}
-use mathlib.Core.List.{List, [], _∷_, _++_, append-assoc, List·Memᴰ, List·Memᴰ·head, List·Memᴰ·tail, Memᴰ·of-map}
-use native.Mathlib.Omega.{arith}
+use mathlib.Core.List.{List, [], _∷_, _++_, append-assoc, List·Memᴰ, List·Memᴰ·head, List·Memᴰ·tail}
 use lib.ListN.{length, take, drop, replicate}
-use lib.Seq.{drop-drop, take-take, take-append-seam, drop-append-seam, length-take-le}
+use lib.Seq.{drop-drop, take-append-seam, drop-append-seam}
 use Rattle.format.specs.Bytes.{Bytes}
 use Rattle.format.specs.AreaHeader.{areaHeaderSize}
-use Rattle.format.specs.Reading.{Acceptor, ERASED, taken, Placed, areaRecords, areaClean}
+use Rattle.format.specs.Reading.{Acceptor, ERASED, areaRecords, areaClean}
 use Rattle.format_laws.specs.Reading.{Lawful}
-use Rattle.format_laws.specs.Taken.{recordsFrom, records-from, from-take, from-each}
+use Rattle.format_laws.specs.Taken.{recordsFrom, records-from, from-take}
 use Rattle.format_laws.specs.Clean.{Clean, free, next, erased-records, clean-area}
 use Rattle.calls.specs.Mount.{bytesOf}
-use Rattle.calls.specs.Collect.{copies, joinedBytes}
+use Rattle.image_laws.specs.Stores.{joinedBytes}
 use Rattle.demand2.specs.Area.{Whole, followed}
 
 module _ (size : Acceptor) (ok : Lawful size) where
@@ -40,22 +39,3 @@ module _ (size : Acceptor) (ok : Lawful size) where
   reads-back cs h area n e =
       let r = reads-from cs h area areaHeaderSize n e in
       (ap bytesOf (records-from size area) ∙ r .0, clean-area size ok area (r .1))
-
-  -- a record that is taken is whole
-  pub taken-whole : (area b : Bytes) → List·Memᴰ b (bytesOf (areaRecords size area)) → Whole size b
-  taken-whole area b m =
-      let r = Memᴰ·of-map (λ (p : Placed). p .bytes) (areaRecords size area) m in
-      rw (← r .2) (at (r .0) (r .1))
-    where
-      front-whole : (t : Bytes) → 0 < size t → Whole size (take (size t) t)
-      front-whole t h =
-          let l = length-take-le (size t) t (ok .inside t) in
-          record {
-            some-bytes = rw l h;
-            all-of-it = ok .local t (take (size t) t) h (take-take (size t) (size t) t (omega arith)) ∙ sym l;
-          }
-
-      at : (p : Placed) → List·Memᴰ p (areaRecords size area) → Whole size (p .bytes)
-      at p k =
-          let t = from-each size ok area areaHeaderSize p (rw (records-from size area) at k) in
-          rw (t .is) (front-whole (drop (p .place) area) (t .accepted))

@@ -2,99 +2,72 @@
 use Prim.Native.Nat.{ℕ, _+_, _-_, _^_, _≤_, _<_}
 use mathlib.Core.Path.{_≡_, refl, sym, ap, _∙_}
 use mathlib.Core.Logic.{_⊎_, inl, inr, _≢_}
-use mathlib.Core.Bool.{Bool, true, false, cond, not}
+use mathlib.Core.Bool.{true, false, not}
 use mathlib.Core.Option.{Option, none, some}
-use mathlib.Core.List.{List, [], _∷_, _++_, append-assoc, List·Memᴰ, List·Memᴰ·head, List·Memᴰ·tail, List·Memᴰ·eq-of-singleton, Memᴰ·cast, Memᴰ·map}
-use mathlib.Core.List.{Memᴰ·of-map}
+use mathlib.Core.List.{List, [], _∷_, List·Memᴰ, List·Memᴰ·eq-of-singleton, Memᴰ·cast, Memᴰ·map, Memᴰ·of-map}
 use native.Mathlib.Omega.{arith}
-use lib.ListN.{length, take, drop, getD, length-append, length-drop, length-replicate}
-use lib.Seq.{take-append-seam, drop-at, getD-append-seam, length-take-le}
+use lib.ListN.{length, drop}
+use lib.Seq.{drop-at}
 use lib.Dec.{T, eqb, eqb-refl, T-not}
 use borrow.Author.Tests.{eqb-true}
 use Rattle.format.specs.Bytes.{Bytes, byteAt}
-use Rattle.format.specs.AreaHeader.{areaHeaderSize, areaId, scratchId, magicsRight, validHeader, isFileArea, isScratch}
+use Rattle.format.specs.AreaHeader.{areaHeaderSize, areaId, scratchId, validHeader, isFileArea, isScratch}
 use Rattle.format.specs.Record.{recordSize}
-use Rattle.format.specs.Reading.{ERASED, Placed, areaClean}
-use Rattle.format_laws.specs.Bytes.{same-byte, same-le32}
+use Rattle.format.specs.Reading.{Placed, areaClean}
 use Rattle.format_laws.specs.Reading.{records-lawful}
-use Rattle.volume.specs.Lists.{keep, all}
-use Rattle.volume_laws.specs.Tests.{true→T, T→true, not-T→false, and-T, not-is-false, or-is-false, eqb-false, T-other}
-use Rattle.volume_laws.specs.Lists.{keep-mem, mem-keep, all-mem}
-use Rattle.calls.specs.Image.{put, erased}
+use Rattle.volume.specs.Lists.{keep}
+use Rattle.volume_laws.specs.Tests.{true→T, T→true, not-T→false, and-T, not-is-false, or-is-false, T-other}
+use Rattle.volume_laws.specs.Lists.{keep-mem, mem-keep}
+use Rattle.calls.specs.Image.{put}
 use Rattle.calls.specs.Areas.{areaEnd, areaBytes, fileAreas, scratchAreas}
 use Rattle.calls.specs.Mount.{recordsOf, bytesOf, recordsIn, acceptedRecords, volume, wrongAreas, mountNumber}
 use Rattle.calls.specs.Format.{emptyArea}
-use Rattle.calls.specs.Collect.{eligible, countOf, precedes, firstLowest, sourceOf, isOther, recordsElsewhere, copies, joinedBytes, headerWithId}
-use Rattle.calls.specs.Collect.{filledScratch, nextCount, collected, collects, refuses, collectFrom, collectWith, collecting, collectNumber}
-use Rattle.calls.specs.Collect.{collectOf}
+use Rattle.calls.specs.Collect.{countOf, precedes, sourceOf, isOther, recordsElsewhere, copies, copiedRecords, nextCount, collected}
+use Rattle.calls.specs.Attempt.{goes, numberOf}
+use Rattle.calls.specs.Collect.{collectFrom, collectWith, collecting, collectOf}
 use Rattle.calls.specs.declared.Descriptor.{Descriptor}
 use Rattle.calls_laws.specs.Checks.{Passes, passes, InArea, area-fits, areas-apart}
+use Rattle.calls_laws.specs.Attempt.{unless-goes}
 use Rattle.calls_laws.specs.Records.{Stored, stored, stored-mem}
-use Rattle.collect_laws.specs.Room.{copies-fit}
-use Rattle.flash.specs.Apart.{Apart}
-use Rattle.flash.specs.Laws.{length-put, part-put, part-outside, byte-outside}
+use Rattle.image_laws.specs.Apart.{Apart}
+use Rattle.image_laws.specs.Laws.{length-put, part-put, part-outside, byte-outside}
+use Rattle.image_laws.specs.Stores.{joinedBytes}
+use Rattle.collect_laws.specs.Source.{source-found}
+use Rattle.collect_laws.specs.Header.{headerWithId, renamed-size, renamed-id, renamed-file}
+use Rattle.collect_laws.specs.Stores.{filledScratch, filled-long}
+use Rattle.collect_laws.specs.Mounted.{scratch-is, file-is, copied-survive, copied-fit, collected-is}
 use Rattle.demand2.specs.Store.{same-area, area-length}
 use Rattle.demand2.specs.Places.{area-lengths}
 use Rattle.demand2.specs.Format.{empty-length, empty-scratch}
-use Rattle.demand2_collect.specs.Copies.{copy-from, Moved}
-use Rattle.demand2_collect.specs.Filled.{reads-back, taken-whole}
+use Rattle.demand2_collect.specs.Copies.{Moved}
+use Rattle.demand2_collect.specs.Filled.{reads-back}
 
--- ---- the source area
+-- ---- what an accepted collect found
 
--- what an accepted collect found; "lowest collection count, first among equals, of those as long as scratch"
+-- "Source area: lowest collection count, first among equals, of those as long as scratch"
 pub record CollectGoes (image : Bytes) (ds : List Descriptor) : Type 0 where
   pub mounted : mountNumber image ds ≡ 0
   pub scratch : Descriptor
   pub source : Descriptor
   pub one-scratch : scratchAreas image ds ≡ scratch ∷ []
   pub source-is : sourceOf image (fileAreas image ds) scratch ≡ some source
-  pub goes : collecting image ds ≡ collects scratch source
-
-lowest-mem : (image : Bytes) (es ds : List Descriptor) (s : Descriptor) → firstLowest image es ds ≡ some s
-    → List·Memᴰ s ds × ((e : Descriptor) → List·Memᴰ e es → precedes (countOf image e) (countOf image s) ≡ false)
-unfolding firstLowest
-lowest-mem image es [] s q = let z : _≡_ {A = ℕ} 0 1 = cc in absurd (omega arith)
-lowest-mem image es (d ∷ ds) s q = go (all (λ e. not (precedes (countOf image e) (countOf image d))) es) refl q (lowest-mem image es ds s)
-  where
-    go : (b : Bool) → all (λ e. not (precedes (countOf image e) (countOf image d))) es ≡ b → cond b (some d) (firstLowest image es ds) ≡ some s
-        → (firstLowest image es ds ≡ some s
-        → List·Memᴰ s ds × ((e : Descriptor) → List·Memᴰ e es → precedes (countOf image e) (countOf image s) ≡ false))
-        → List·Memᴰ s (d ∷ ds) × ((e : Descriptor) → List·Memᴰ e es → precedes (countOf image e) (countOf image s) ≡ false)
-    go true a q ih =
-        let z : s ≡ d = cc in (
-          List·Memᴰ·head z,
-          λ e m. rw z (not-T→false
-              (T-not (precedes (countOf image e) (countOf image d))
-              (all-mem (λ e. not (precedes (countOf image e) (countOf image d))) es (true→T a) m))),
-        )
-    go false a q ih = let r = ih q in (List·Memᴰ·tail (r .0), r .1)
-
--- the source is a file area as long as scratch, and none of those has a lower count
-pub source-found : (image : Bytes) (fs : List Descriptor) (t s : Descriptor) → sourceOf image fs t ≡ some s
-    → List·Memᴰ s fs × (s .length ≡ t .length)
-    × ((e : Descriptor) → List·Memᴰ e fs → e .length ≡ t .length → precedes (countOf image e) (countOf image s) ≡ false)
-unfolding sourceOf eligible
-source-found image fs t s q =
-    let l = lowest-mem image (keep (λ d. eqb (d .length) (t .length)) fs) (keep (λ d. eqb (d .length) (t .length)) fs) s q in
-    let k = keep-mem (λ d. eqb (d .length) (t .length)) fs (l .0) in (
-      k .0,
-      eqb-true (s .length) (t .length) (T→true (k .1)),
-      λ e m z. l .1 e (mem-keep (λ d. eqb (d .length) (t .length)) fs m (rw z (eqb-refl (t .length)))),
-    )
+  pub goes : collecting image ds ≡ goes (scratch, source)
 
 pub collect-goes : (image : Bytes) (ds : List Descriptor) → collectOf image ds ≡ 0 → CollectGoes image ds
 unfolding collectOf collecting wrongAreas
-collect-goes image ds e = go (eqb (mountNumber image ds) 0) refl e
+collect-goes image ds e =
+    let u = unless-goes (mountNumber image ds) (collectWith image (fileAreas image ds) (scratchAreas image ds)) e in
+    alone (scratchAreas image ds) refl (u .0) (u .1)
   where
     from : (t : Descriptor) → mountNumber image ds ≡ 0 → scratchAreas image ds ≡ t ∷ [] → (o : Option Descriptor)
         → sourceOf image (fileAreas image ds) t ≡ o
-        → collectNumber (collectFrom t o) ≡ 0 → CollectGoes image ds
+        → numberOf (collectFrom t o) ≡ 0 → CollectGoes image ds
     from t m w none q z = absurd (omega arith)
     from t m w (some s) q z = record { mounted = m; scratch = t; source = s; one-scratch = w; source-is = q; goes = rw (collecting, m, w, q) }
 
     -- check 3: exactly one
     alone : (ss : List Descriptor) → scratchAreas image ds ≡ ss → mountNumber image ds ≡ 0
-        → collectNumber (collectWith image (fileAreas image ds) ss) ≡ 0
+        → numberOf (collectWith image (fileAreas image ds) ss) ≡ 0
         → CollectGoes image ds
     alone [] w m z = absurd (omega arith)
     alone (t ∷ []) w m z = from t m w (sourceOf image (fileAreas image ds) t) refl z
@@ -104,12 +77,6 @@ collect-goes image ds e = go (eqb (mountNumber image ds) 0) refl e
         let n = eqb-true (length (scratchAreas image ds)) 1 c in
         absurd (omega (arith, n, ap length w))
 
-    go : (b : Bool) → eqb (mountNumber image ds) 0 ≡ b
-        → collectNumber (cond b (collectWith image (fileAreas image ds) (scratchAreas image ds)) (refuses (mountNumber image ds))) ≡ 0
-        → CollectGoes image ds
-    go true q z = alone (scratchAreas image ds) refl (eqb-true _ 0 q) z
-    go false q z = absurd (eqb-false _ 0 q z)
-
 -- ---- headers
 
 -- no area is both
@@ -118,53 +85,6 @@ unfolding isFileArea isScratch
 not-both n h a b =
     T-not (eqb (areaId h) scratchId) (and-T (validHeader n h) (not (eqb (areaId h) scratchId)) (true→T a) .1)
     (and-T (validHeader n h) (eqb (areaId h) scratchId) (true→T b) .1)
-
--- a header with another id
-module _ (n : ℕ) (area rest : Bytes) (id : ℕ) (long : areaHeaderSize ≤ length area) where
-  front : length (take 23 area) ≡ 23
-  front = length-take-le 23 area (omega arith)
-
-  renamed-size : length (headerWithId area id) ≡ areaHeaderSize
-  unfolding headerWithId
-  renamed-size = omega (arith, length-append (take 23 area) (id ∷ []), front)
-
-  renamed-same : take 23 (headerWithId area id ++ rest) ≡ take 23 area
-  unfolding headerWithId
-  renamed-same =
-      ap (take 23) (append-assoc (take 23 area) (id ∷ []) rest)
-      ∙ ap (λ (k : ℕ). take k (take 23 area ++ ((id ∷ []) ++ rest))) (sym front)
-      ∙ take-append-seam (take 23 area) ((id ∷ []) ++ rest)
-
-  renamed-id : areaId (headerWithId area id ++ rest) ≡ id
-  unfolding headerWithId
-  renamed-id =
-      ap areaId (append-assoc (take 23 area) (id ∷ []) rest)
-      ∙ ap (λ (k : ℕ). getD (take 23 area ++ (id ∷ rest)) k 0) (sym front)
-      ∙ getD-append-seam (take 23 area) id rest 0
-
-  renamed-valid : validHeader n (headerWithId area id ++ rest) ≡ validHeader n area
-  unfolding validHeader magicsRight
-  renamed-valid =
-      let word = same-le32 23 (headerWithId area id ++ rest) area renamed-same in
-      rw (
-        word 0 (omega arith),
-        word 4 (omega arith),
-        word 8 (omega arith),
-        word 12 (omega arith),
-        word 16 (omega arith),
-        same-byte 23 (headerWithId area id ++ rest) area renamed-same 20 (omega arith),
-      )
-
-  renamed-file : isScratch n area ≡ true → eqb id scratchId ≡ false → isFileArea n (headerWithId area id ++ rest) ≡ true
-  unfolding isScratch isFileArea
-  renamed-file s e = rw (
-    isFileArea,
-    renamed-valid,
-    renamed-id,
-    e,
-    T→true {b = validHeader n area}
-        (and-T (validHeader n area) (eqb (areaId area) scratchId) (true→T s) .0),
-  )
 
 -- ---- the two areas, and the others
 
@@ -187,21 +107,15 @@ pub record ImageCollected (image : Bytes) (ds : List Descriptor) (t s : Descript
   pub only-scratch : (d : Descriptor) → List·Memᴰ d (scratchAreas (collected image ds t s) ds) → d ≡ s
   -- the records
   pub moved : Moved (acceptedRecords image ds) (acceptedRecords (collected image ds t s) ds) (bytesOf (recordsOf image s))
-      (recordsElsewhere image (fileAreas image ds) s)
+      (recordsElsewhere image (fileAreas image ds) s) (copiedRecords image ds s)
 
 module _ (image : Bytes) (ds : List Descriptor) (p : Passes image ds) (t s : Descriptor) (one-scratch : scratchAreas image ds ≡ t ∷ [])
     (source-is : sourceOf image (fileAreas image ds) t ≡ some s) where
   scratch-in : List·Memᴰ t ds × (isScratch (t .length) (areaBytes image t) ≡ true)
-  unfolding scratchAreas
-  scratch-in =
-      let m : List·Memᴰ t (scratchAreas image ds) = rw one-scratch (List·Memᴰ·head refl) in
-      let k = keep-mem (λ d. isScratch (d .length) (areaBytes image d)) ds m in
-      (k .0, T→true (k .1))
+  scratch-in = scratch-is image ds t one-scratch
 
-  -- a file area, and back
   is-file : (d : Descriptor) → List·Memᴰ d (fileAreas image ds) → List·Memᴰ d ds × (isFileArea (d .length) (areaBytes image d) ≡ true)
-  unfolding fileAreas
-  is-file d m = let k = keep-mem (λ d. isFileArea (d .length) (areaBytes image d)) ds m in (k .0, T→true (k .1))
+  is-file = file-is image ds
 
   source : List·Memᴰ s (fileAreas image ds) × (s .length ≡ t .length)
       × ((e : Descriptor) → List·Memᴰ e (fileAreas image ds) → e .length ≡ t .length → precedes (countOf image e) (countOf image s) ≡ false)
@@ -230,7 +144,7 @@ module _ (image : Bytes) (ds : List Descriptor) (p : Passes image ds) (t s : Des
   elsewhere = recordsElsewhere image (fileAreas image ds) s
 
   abbrev kept : List Bytes
-  kept = copies (volume image ds) sourceRecords elsewhere
+  kept = copiedRecords image ds s
 
   abbrev filled : Bytes
   filled = filledScratch image t (areaId (areaBytes image s)) (joinedBytes kept)
@@ -238,32 +152,13 @@ module _ (image : Bytes) (ds : List Descriptor) (p : Passes image ds) (t s : Des
   abbrev emptied : Bytes
   emptied = emptyArea (s .length) (nextCount (countOf image s)) scratchId
 
-  copies-room : areaHeaderSize + length (joinedBytes kept) ≤ t .length
-  copies-room =
-      omega (
-        arith,
-        copies-fit (volume image ds) (areaBytes image s) elsewhere,
-        length-drop areaHeaderSize (areaBytes image s),
-        area-length image s (fits s source-in .1),
-        source .1,
-        fits s source-in .0,
-      )
-
   head-long : areaHeaderSize ≤ length (areaBytes image t)
   head-long = omega (arith, area-length image t (fits t (scratch-in .0) .1), fits t (scratch-in .0) .0)
 
   filled-length : length filled ≡ t .length
-  unfolding filledScratch
   filled-length =
-      omega (
-        arith,
-        length-append (headerWithId (areaBytes image t) (areaId (areaBytes image s)))
-            (joinedBytes kept ++ erased (t .length - (areaHeaderSize + length (joinedBytes kept)))),
-        length-append (joinedBytes kept) (erased (t .length - (areaHeaderSize + length (joinedBytes kept)))),
-        length-replicate (t .length - (areaHeaderSize + length (joinedBytes kept))) ERASED,
-        renamed-size 0 (areaBytes image t) [] (areaId (areaBytes image s)) head-long,
-        copies-room,
-      )
+      filled-long image t (fits t (scratch-in .0) .0) (fits t (scratch-in .0) .1) (areaId (areaBytes image s)) (joinedBytes kept)
+      (copied-fit image ds p t s one-scratch source-is)
 
   emptied-length : length emptied ≡ s .length
   emptied-length = empty-length (s .length) (nextCount (countOf image s)) scratchId (fits s source-in .0)
@@ -283,31 +178,33 @@ module _ (image : Bytes) (ds : List Descriptor) (p : Passes image ds) (t s : Des
   fits₂ : s .offset + length emptied ≤ length image₁
   fits₂ = omega (arith, emptied-length, fits s source-in .1, long₁)
 
+  -- the two areas, each written whole
+  puts : image′ ≡ put image₁ (s .offset) emptied
+  puts = collected-is image ds p t s one-scratch source-is
+
   one-length : length image′ ≡ length image
-  unfolding collected
-  one-length = length-put image₁ (s .offset) emptied fits₂ ∙ long₁
+  one-length = ap length puts ∙ length-put image₁ (s .offset) emptied fits₂ ∙ long₁
 
   scratch-bytes : areaBytes image′ t ≡ filled
-  unfolding collected
   scratch-bytes =
-      part-outside image₁ (s .offset) emptied fits₂ (t .offset) (t .length) (rw emptied-length (apart t s (scratch-in .0) source-in two))
+      ap (λ (x : Bytes). areaBytes x t) puts
+      ∙ part-outside image₁ (s .offset) emptied fits₂ (t .offset) (t .length) (rw emptied-length (apart t s (scratch-in .0) source-in two))
       ∙ (rw filled-length at (part-put image (t .offset) filled fits₁))
 
   source-bytes : areaBytes image′ s ≡ emptied
-  unfolding collected
-  source-bytes = rw emptied-length at (part-put image₁ (s .offset) emptied fits₂)
+  source-bytes = ap (λ (x : Bytes). areaBytes x s) puts ∙ (rw emptied-length at (part-put image₁ (s .offset) emptied fits₂))
 
   -- "every byte outside the two areas"
   other-bytes : (d : Descriptor) → List·Memᴰ d ds → d ≢ t → d ≢ s → areaBytes image′ d ≡ areaBytes image d
-  unfolding collected
   other-bytes d m a b =
-      part-outside image₁ (s .offset) emptied fits₂ (d .offset) (d .length) (rw emptied-length (apart d s m source-in b))
+      ap (λ (x : Bytes). areaBytes x d) puts
+      ∙ part-outside image₁ (s .offset) emptied fits₂ (d .offset) (d .length) (rw emptied-length (apart d s m source-in b))
       ∙ part-outside image (t .offset) filled fits₁ (d .offset) (d .length) (rw filled-length (apart d t m (scratch-in .0) a))
 
   outside : (i : ℕ) → ¬ InArea t i → ¬ InArea s i → byteAt image′ i ≡ byteAt image i
-  unfolding collected
   outside i a b =
-      byte-outside image₁ (s .offset) emptied fits₂ i (λ j f e. b (omega arith, omega (arith, emptied-length)))
+      ap (λ (x : Bytes). byteAt x i) puts
+      ∙ byte-outside image₁ (s .offset) emptied fits₂ i (λ j f e. b (omega arith, omega (arith, emptied-length)))
       ∙ byte-outside image (t .offset) filled fits₁ i (λ j f e. a (omega arith, omega (arith, filled-length)))
 
   -- ---- kinds of areas
@@ -323,11 +220,11 @@ module _ (image : Bytes) (ds : List Descriptor) (p : Passes image ds) (t s : Des
   -- "Scratch takes the source's id"
   takes-id : areaId (areaBytes image′ t) ≡ areaId (areaBytes image s)
   unfolding filledScratch
-  takes-id = ap areaId scratch-bytes ∙ renamed-id 0 (areaBytes image t) _ (areaId (areaBytes image s)) head-long
+  takes-id = ap areaId scratch-bytes ∙ renamed-id (areaBytes image t) (areaId (areaBytes image s)) head-long _
 
   now-file : isFileArea (t .length) (areaBytes image′ t) ≡ true
   unfolding filledScratch
-  now-file = rw scratch-bytes (renamed-file (t .length) (areaBytes image t) _ (areaId (areaBytes image s)) head-long (scratch-in .1) source-id)
+  now-file = rw scratch-bytes (renamed-file (areaBytes image t) (areaId (areaBytes image s)) head-long _ (t .length) (scratch-in .1) source-id)
 
   now-scratch : isScratch (s .length) (areaBytes image′ s) ≡ true
   now-scratch = rw source-bytes (empty-scratch (s .length) (nextCount (countOf image s)) scratchId low)
@@ -388,11 +285,11 @@ module _ (image : Bytes) (ds : List Descriptor) (p : Passes image ds) (t s : Des
   unfolding filledScratch
   reads-copies =
       reads-back recordSize records-lawful kept
-      (λ c m. taken-whole recordSize records-lawful (areaBytes image s) c (copy-from (volume image ds) sourceRecords elsewhere c m .0))
+      (λ c m. record { some-bytes = copied-survive image ds s .some-bytes c m; all-of-it = copied-survive image ds s .accepted c m })
       (areaBytes image′ t) (t .length - (areaHeaderSize + length (joinedBytes kept)))
       (ap (drop areaHeaderSize) scratch-bytes
       ∙ drop-at (headerWithId (areaBytes image t) (areaId (areaBytes image s))) _ areaHeaderSize
-      (renamed-size 0 (areaBytes image t) [] (areaId (areaBytes image s)) head-long))
+      (renamed-size (areaBytes image t) (areaId (areaBytes image s)) head-long))
 
   clean-copies : areaClean recordSize (areaBytes image′ t) ≡ true
   clean-copies = reads-copies .1
@@ -410,7 +307,7 @@ module _ (image : Bytes) (ds : List Descriptor) (p : Passes image ds) (t s : Des
   unfolding isOther
   area-other d t e = T-not (eqb (s .offset) (d .offset)) t (rw e (eqb-refl (s .offset)))
 
-  moved : Moved (acceptedRecords image ds) (acceptedRecords image′ ds) sourceRecords elsewhere
+  moved : Moved (acceptedRecords image ds) (acceptedRecords image′ ds) sourceRecords elsewhere kept
   unfolding volume acceptedRecords recordsElsewhere
   moved = record {
     was = λ b m. before b (stored image (fileAreas image ds) b m);

@@ -16,7 +16,7 @@ use Rattle.volume.specs.Lists.{keep, all, same, once, only}
 use Rattle.volume.specs.View.{byBytes}
 use Rattle.volume.specs.Counting.{volumeOf, versions, newest, counting, idsOf, agree, allAgree}
 use Rattle.volume.specs.Fate.{ascend, climb, fateOf, lineage, namesOf}
-use Rattle.volume.specs.Path.{splitByte, pieces, goodPiece, goodPieces, isAbsolute, absoluteNames, goodAbsolute, goodPath, pathNames}
+use Rattle.volume.specs.Path.{splitByte, segments, goodSegment, goodSegments, isAbsolute, absoluteNames, goodAbsolute, goodPath, pathNames}
 use Rattle.volume.specs.Tree.{found, absent, isEntry, isChild, children}
 use Rattle.volume.specs.Contents.{owns, owned, unnamed, lastBlock, chainBack, fileBlocks, textOf, headersFrom}
 use Rattle.calls.specs.Areas.{goodArea, disjoint, allDisjoint, goodAreas, fileAreas, scratchAreas}
@@ -78,7 +78,7 @@ unfolding
     wellFormed acceptable magicsRight validHeader isScratch isFileArea skip parts placed areaParts areaRecords keep all same once volumeOf
     versions newest counting idsOf agree allAgree goodArea disjoint allDisjoint goodAreas fileAreas scratchAreas firstRefusal recordsIn
     acceptedRecords volume badDescription sharedAreaId wrongAreas shortScratch tooManyIds noRoot mountChecks mountNumber erasedEnd
-    damagedBytes damaged areaDamage areaClean ascend climb fateOf lineage namesOf splitByte pieces goodPiece goodPieces isAbsolute
+    damagedBytes damaged areaDamage areaClean ascend climb fateOf lineage namesOf splitByte segments goodSegment goodSegments isAbsolute
     absoluteNames goodAbsolute goodPath pathNames isEntry isChild children owns owned unnamed lastBlock chainBack fileBlocks textOf
     headersFrom giveBlocks give touched stepsTo crowded ambiguous below isInside outside onlyInside allClean emptied noneNew isDamage
     isSpared isUnharmed only

@@ -8,3 +8,8 @@ use Rattle.format.specs.BlockSize.{greatestBlock}
 pub block-bounds : (shortest : ℕ) → 128 ≤ shortest → (1 ≤ greatestBlock shortest) × (greatestBlock shortest ≤ longestData)
 unfolding greatestBlock
 block-bounds shortest h = (omega arith, omega arith)
+
+-- longer areas, no smaller blocks
+pub block-grows : (a b : ℕ) → a ≤ b → greatestBlock a ≤ greatestBlock b
+unfolding greatestBlock
+block-grows a b h = omega arith

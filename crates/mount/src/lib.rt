@@ -1,84 +1,75 @@
 // Mounting: checks 1 to 7, the places of all records, and the tables of the inodes and of the blocks that count.
 ghost use mathlib.Core.Path.{_≡_};
-ghost use Rattle.calls.specs.Areas.{areaList};
-ghost use Rattle.gather.specs.Gather.{tables};
-ghost use Rattle.mount.specs.Mount.{Slices, Lent, Gets, Mounts, refusedMount};
+ghost use Rattle.area_list.specs.Numbers.{areaList};
+ghost use Rattle.mount_state.specs.State.{Lent, Mounts, refusedMount};
+ghost use Rattle.mount.specs.Filling.{Ready, Fills};
 use area_kinds::check_areas;
+use area_pass::list_areas;
 use calls::Descriptor;
-use gather::gather;
-use listing::list_records;
-use table::Spot;
-use table::find;
+use calls::MOST_BLOCKS;
+use calls::MOST_INODES;
+use calls::NO_ROOT;
+use mount_state::INODE_IDS;
+use mount_state::Mounted;
+use mount_state::TABLES;
+use record_read::ROOT;
+use table_fill::gather;
+use table_rows::Spot;
+use table_rows::find;
+use table_words::taken;
 
-// The places of the inode table and of the block table, and the words that say which of them are taken.
-pub const MOST_INODES: usize = 64;
+// The words that say which rows are taken, 64 in each.
+const INODE_WORDS: usize = MOST_INODES / 64;
 
-pub const INODE_WORDS: usize = 1;
+const BLOCK_WORDS: usize = MOST_BLOCKS / 64;
 
-pub const MOST_BLOCKS: usize = 256;
-
-pub const BLOCK_WORDS: usize = 4;
-
-// The most records that areas of together 65,536 bytes can hold, each of 20 bytes or more.
-pub const MOST_RECORDS: usize = 3276;
-
-// No record of the root.
-const NO_ROOT: u32 = 7;
-
-// The answer of checks 5 to 7: the number of refusal, or 0 with the number of records.
-pub struct Records {
+// The answer of checks 5 to 7: the number of refusal, or 0 with the numbers of rows.
+pub struct Filled {
     pub number: u32,
-    pub count: usize,
+    pub inodes: usize,
+    pub blocks: usize,
 }
 
-// The answer of a mount: the number of refusal, or 0 with the numbers of file areas and of records and the scratch area.
-pub struct Mounted {
-    pub number: u32,
-    pub files: usize,
-    pub records: usize,
-    pub scratch: Descriptor,
-}
-
-// Checks 5 to 7 of the file areas, with empty tables lent.
-fn mount_records(
-    image: &[u8],
-    starts: &[u32],
-    spans: &[u32],
-    places: &mut [u32],
-    iwords: &mut [u64],
-    iids: &mut [u32],
-    ispots: &mut [u32],
-    bwords: &mut [u64],
-    bids: &mut [u32],
-    bspots: &mut [u32],
-) -> Records
-    requires { ⌜ Lent (now image) (now starts) (now spans) (now places) (tables (now iwords) (now iids) (now ispots) (now bwords) (now bids) (now bspots)) ⌝ }
-    ensures { λ r. ⌜ Gets (now (image .entry)) (now (starts .entry)) (now (spans .entry)) r (now (places .exit)) (tables (now (iwords .exit)) (now (iids .exit)) (now (ispots .exit)) (now (bwords .exit)) (now (bids .exit)) (now (bspots .exit))) ⌝ }
+// Checks 5 to 7 of the records at the first `n` places, and the tables of those that count.
+fn fill_tables(image: &[u8], places: &[u16], n: usize, rows: &mut [u32]) -> Filled
+    requires { ⌜ Ready (now image) (now places) n (now rows) ⌝ }
+    ensures { λ r. ⌜ Fills (now (image .entry)) (now (places .entry)) n r (now (rows .exit)) ⌝ }
 {
-    let count = list_records(image, starts, spans, &mut *places);
+    let mut iwords = [0u64; INODE_WORDS];
+    let mut bwords = [0u64; BLOCK_WORDS];
     let number = gather(
         image,
-        &*places,
-        count,
-        &mut *iwords,
-        &mut *iids,
-        &mut *ispots,
-        &mut *bwords,
-        &mut *bids,
-        &mut *bspots,
+        places,
+        n,
+        &mut iwords[..],
+        &mut bwords[..],
+        &mut *rows,
     );
     if number != 0 {
-        return Records { number, count: 0 };
+        return Filled {
+            number,
+            inodes: 0,
+            blocks: 0,
+        };
     }
-    let Spot::At(_) = find(&*iwords, &*iids, &*ispots, 0) else {
-        return Records {
+    let inodes = taken(&iwords[..]);
+    let blocks = taken(&bwords[..]);
+    let end = MOST_INODES + inodes;
+    let Spot::At(_) = find(&rows[0..inodes], &rows[MOST_INODES..end], ROOT) else {
+        return Filled {
             number: NO_ROOT,
-            count: 0,
+            inodes: 0,
+            blocks: 0,
         };
     };
-    Records { number: 0, count }
+    Filled {
+        number: 0,
+        inodes,
+        blocks,
+    }
 }
 
+// A refused mount.
 fn refused(number: u32) -> Mounted
     ensures { λ r. ⌜ r ≡ refusedMount number ⌝ }
 {
@@ -86,6 +77,8 @@ fn refused(number: u32) -> Mounted
         number,
         files: 0,
         records: 0,
+        inodes: 0,
+        blocks: 0,
         scratch: Descriptor {
             offset: 0,
             length: 0,
@@ -93,49 +86,28 @@ fn refused(number: u32) -> Mounted
     }
 }
 
-// Checks 1 to 7 of an image and a list of areas, with empty tables lent. Where none refuses, the file areas stand in the first places of
-// `starts` and `spans`, the places of their records in `places`, and the tables hold the records that count.
-pub fn mount(
-    image: &[u8],
-    areas: &[u32],
-    starts: &mut [u32],
-    spans: &mut [u32],
-    places: &mut [u32],
-    iwords: &mut [u64],
-    iids: &mut [u32],
-    ispots: &mut [u32],
-    bwords: &mut [u64],
-    bids: &mut [u32],
-    bspots: &mut [u32],
-) -> Mounted
-    requires { ⌜ Slices (now image) (now starts) (now spans) (now places) (tables (now iwords) (now iids) (now ispots) (now bwords) (now bids) (now bspots)) ⌝ }
-    ensures { λ r. ⌜ Mounts (now (image .entry)) (areaList (now (areas .entry))) r (now (starts .exit)) (now (spans .exit)) (now (places .exit)) (tables (now (iwords .exit)) (now (iids .exit)) (now (ispots .exit)) (now (bwords .exit)) (now (bids .exit)) (now (bspots .exit))) ⌝ }
+// Checks 1 to 7 of an image and a list of areas. Where none refuses, the lent slices hold the mounted volume.
+pub fn mount(image: &[u8], areas: &[u32], tables: &mut [u32], places: &mut [u16]) -> Mounted
+    requires { ⌜ Lent (now tables) (now places) ⌝ }
+    ensures { λ r. ⌜ Mounts (now (image .entry)) (areaList (now (areas .entry))) r (now (tables .exit)) (now (places .exit)) ⌝ }
 {
-    let found = check_areas(image, areas, &mut *starts, &mut *spans);
+    let found = check_areas(image, areas, &mut *tables);
     let files = found.files;
     if found.number != 0 {
         return refused(found.number);
     }
-    let records = mount_records(
-        image,
-        &starts[..files],
-        &spans[..files],
-        &mut *places,
-        &mut *iwords,
-        &mut *iids,
-        &mut *ispots,
-        &mut *bwords,
-        &mut *bids,
-        &mut *bspots,
-    );
-    if records.number != 0 {
-        return refused(records.number);
+    let records = list_areas(image, &mut *tables, files, &mut *places);
+    let filled = fill_tables(image, &*places, records, &mut tables[INODE_IDS..TABLES]);
+    if filled.number != 0 {
+        return refused(filled.number);
     }
     let scratch = found.scratch;
     Mounted {
         number: 0,
         files,
-        records: records.count,
+        records,
+        inodes: filled.inodes,
+        blocks: filled.blocks,
         scratch,
     }
 }

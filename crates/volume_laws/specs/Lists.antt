@@ -82,6 +82,12 @@ module _ {A : Type 0} where
   keep-none f [] h = refl
   keep-none f (b ∷ l) h = rw (h b (List·Memᴰ·head refl), keep-none f l (λ a m. h a (List·Memᴰ·tail m)))
 
+  -- a filter that all pass
+  pub keep-whole : (f : A → Bool) (l : List A) → ((a : A) → List·Memᴰ a l → f a ≡ true) → keep f l ≡ l
+  unfolding keep
+  keep-whole f [] h = refl
+  keep-whole f (a ∷ l) h = rw (h a (List·Memᴰ·head refl), keep-whole f l (λ b m. h b (List·Memᴰ·tail m)))
+
   pub keep-shorter : (f : A → Bool) (l : List A) → length (keep f l) ≤ length l
   unfolding keep
   keep-shorter f [] = omega arith
@@ -118,6 +124,10 @@ module _ {A : Type 0} where
   all-cong f g (a ∷ l) h = rw (h a (List·Memᴰ·head refl), all-cong f g l (λ b m. h b (List·Memᴰ·tail m)))
 
 module _ {A B : Type 0} (f : A → B) where
+  pub map-append : (l m : List A) → map f (l ++ m) ≡ map f l ++ map f m
+  map-append [] m = refl
+  map-append (a ∷ l) m = let e = map-append l m in λ i. f a ∷ e i
+
   -- filters and tests of an image of a list
   pub keep-map : (p : B → Bool) (l : List A) → keep p (map f l) ≡ map f (keep (λ a. p (f a)) l)
   unfolding keep

@@ -76,8 +76,8 @@ impl Maker {
         let mut list = self.good.clone();
         match self.r.below(20) {
             0 => list.extend([7, 0]),
-            1 => list.extend([0, 0, 3, 4, 5]),
-            2 => list.push(9),
+            1 => list.extend([0, 0, 3, 4, 5, 6]),
+            2 => list.extend([9, 0, 9, 9]),
             _ => {}
         }
         if self.r.chance(3) {
@@ -336,7 +336,7 @@ impl Maker {
 fn bad_list(r: &mut Random, good: &[u32], image: usize) -> Vec<u32> {
     let mut list = good.to_vec();
     if list.len() < 4 {
-        return r.pick(&[vec![], vec![0, 128], vec![0, 0], vec![0], vec![0, image as u32]]);
+        return r.pick(&[vec![], vec![0, 128], vec![0, 0], vec![1, 0], vec![0, image as u32]]);
     }
     let i = 2 * r.below(list.len() / 2);
     match r.below(12) {

@@ -1,258 +1,64 @@
-//! The proved calls, behind safe functions, as an engine beside the model.
+//! The calls of the crate `nffs`, as users link it, as engines beside the model.
 
+use nffs::{raw, Area, Kind, Refusal};
 use nffs_model::compare::Engine;
 use nffs_model::{Create, Handle, Lookup, Open, Read, Report};
 
-/// The exported calls and the layouts of their answers. A slice passes as a pointer and then a length.
-mod raw {
-    #[repr(C)]
-    pub struct Report {
-        pub number: u32,
-        pub inodes: u32,
-        pub live: u32,
-        pub stretches: u32,
-        pub skipped: u32,
-    }
-
-    /// Lookup's id and kind; open's id and position; a read's bytes given and headers followed.
-    #[repr(C)]
-    pub struct Three {
-        pub number: u32,
-        pub first: u32,
-        pub second: u32,
-    }
-
-    #[repr(C)]
-    pub struct Two {
-        pub number: u32,
-        pub id: u32,
-    }
-
-    /// A file handle, whose position a read moves.
-    #[repr(C)]
-    pub struct Handle {
-        pub id: u32,
-        pub position: u32,
-    }
-
-    extern "C" {
-        pub fn nffs_format(image: *mut u8, image_len: usize, areas: *const u32, areas_len: usize) -> u32;
-        pub fn nffs_report(image: *const u8, image_len: usize, areas: *const u32, areas_len: usize) -> Report;
-        pub fn nffs_lookup(
-            image: *const u8,
-            image_len: usize,
-            areas: *const u32,
-            areas_len: usize,
-            base: *const u8,
-            base_len: usize,
-            path: *const u8,
-            path_len: usize,
-        ) -> Three;
-        pub fn nffs_open(
-            image: *const u8,
-            image_len: usize,
-            areas: *const u32,
-            areas_len: usize,
-            base: *const u8,
-            base_len: usize,
-            path: *const u8,
-            path_len: usize,
-        ) -> Three;
-        pub fn nffs_read_at(
-            image: *const u8,
-            image_len: usize,
-            areas: *const u32,
-            areas_len: usize,
-            id: u32,
-            position: u32,
-            buffer: *mut u8,
-            buffer_len: usize,
-        ) -> Three;
-        pub fn nffs_read(
-            image: *const u8,
-            image_len: usize,
-            areas: *const u32,
-            areas_len: usize,
-            handle: *mut Handle,
-            buffer: *mut u8,
-            buffer_len: usize,
-        ) -> Three;
-        pub fn nffs_create(
-            image: *mut u8,
-            image_len: usize,
-            areas: *const u32,
-            areas_len: usize,
-            base: *const u8,
-            base_len: usize,
-            path: *const u8,
-            path_len: usize,
-            kind: u32,
-        ) -> Two;
-        pub fn nffs_append(
-            image: *mut u8,
-            image_len: usize,
-            areas: *const u32,
-            areas_len: usize,
-            base: *const u8,
-            base_len: usize,
-            path: *const u8,
-            path_len: usize,
-            text: *const u8,
-            text_len: usize,
-        ) -> u32;
-        pub fn nffs_unlink(
-            image: *mut u8,
-            image_len: usize,
-            areas: *const u32,
-            areas_len: usize,
-            base: *const u8,
-            base_len: usize,
-            path: *const u8,
-            path_len: usize,
-        ) -> u32;
-        pub fn nffs_collect(image: *mut u8, image_len: usize, areas: *const u32, areas_len: usize) -> u32;
-    }
+/// The model's list, offset and length in turn, as the calls take it.
+fn listed(numbers: &[u32]) -> Vec<Area> {
+    numbers.chunks_exact(2).map(|pair| Area { offset: pair[0], length: pair[1] }).collect()
 }
 
 pub fn format(image: &mut [u8], areas: &[u32]) -> u32 {
-    // SAFETY: the call stays inside the slices, and the image is lent to it alone.
-    unsafe { raw::nffs_format(image.as_mut_ptr(), image.len(), areas.as_ptr(), areas.len()) }
+    raw::format(image, &listed(areas))
 }
 
 pub fn report(image: &[u8], areas: &[u32]) -> Report {
-    // SAFETY: the call only reads, inside the slices.
-    let r = unsafe { raw::nffs_report(image.as_ptr(), image.len(), areas.as_ptr(), areas.len()) };
+    let r = raw::report(image, &listed(areas));
     Report { number: r.number, inodes: r.inodes, live: r.live, stretches: r.stretches, skipped: r.skipped }
 }
 
 pub fn lookup(image: &[u8], areas: &[u32], base: &[u8], path: &[u8]) -> Lookup {
-    // SAFETY: the call only reads, inside the slices.
-    let r = unsafe {
-        raw::nffs_lookup(
-            image.as_ptr(),
-            image.len(),
-            areas.as_ptr(),
-            areas.len(),
-            base.as_ptr(),
-            base.len(),
-            path.as_ptr(),
-            path.len(),
-        )
-    };
-    Lookup { number: r.number, id: r.first, kind: r.second }
+    let r = raw::lookup(image, &listed(areas), base, path);
+    Lookup { number: r.number, id: r.id, kind: r.kind }
 }
 
 pub fn open(image: &[u8], areas: &[u32], base: &[u8], path: &[u8]) -> Open {
-    // SAFETY: the call only reads, inside the slices.
-    let r = unsafe {
-        raw::nffs_open(
-            image.as_ptr(),
-            image.len(),
-            areas.as_ptr(),
-            areas.len(),
-            base.as_ptr(),
-            base.len(),
-            path.as_ptr(),
-            path.len(),
-        )
-    };
-    Open { number: r.number, id: r.first, position: r.second }
+    let r = raw::open(image, &listed(areas), base, path);
+    Open { number: r.number, id: r.id, position: r.position }
 }
 
 pub fn read_at(image: &[u8], areas: &[u32], id: u32, position: u32, buffer: &mut [u8]) -> Read {
-    // SAFETY: the call stays inside the slices, and the buffer is lent to it alone.
-    let r = unsafe {
-        raw::nffs_read_at(
-            image.as_ptr(),
-            image.len(),
-            areas.as_ptr(),
-            areas.len(),
-            id,
-            position,
-            buffer.as_mut_ptr(),
-            buffer.len(),
-        )
-    };
-    Read { number: r.number, given: r.first, headers: r.second }
+    let r = raw::read_at(image, &listed(areas), id, position, buffer);
+    Read { number: r.number, given: r.given, headers: r.headers }
 }
 
 pub fn read(image: &[u8], areas: &[u32], handle: &mut Handle, buffer: &mut [u8]) -> Read {
-    let mut moved = raw::Handle { id: handle.id, position: handle.position };
-    // SAFETY: the call stays inside the slices, and handle and buffer are lent to it alone.
-    let r = unsafe {
-        raw::nffs_read(
-            image.as_ptr(),
-            image.len(),
-            areas.as_ptr(),
-            areas.len(),
-            &mut moved,
-            buffer.as_mut_ptr(),
-            buffer.len(),
-        )
-    };
+    let mut moved = nffs::Handle { id: handle.id, position: handle.position };
+    let r = raw::read(image, &listed(areas), &mut moved, buffer);
     handle.id = moved.id;
     handle.position = moved.position;
-    Read { number: r.number, given: r.first, headers: r.second }
+    Read { number: r.number, given: r.given, headers: r.headers }
 }
 
 pub fn create(image: &mut [u8], areas: &[u32], base: &[u8], path: &[u8], kind: u32) -> Create {
-    // SAFETY: the call stays inside the slices, and the image is lent to it alone.
-    let r = unsafe {
-        raw::nffs_create(
-            image.as_mut_ptr(),
-            image.len(),
-            areas.as_ptr(),
-            areas.len(),
-            base.as_ptr(),
-            base.len(),
-            path.as_ptr(),
-            path.len(),
-            kind,
-        )
-    };
+    let r = raw::create(image, &listed(areas), base, path, kind);
     Create { number: r.number, id: r.id }
 }
 
 pub fn append(image: &mut [u8], areas: &[u32], base: &[u8], path: &[u8], data: &[u8]) -> u32 {
-    // SAFETY: the call stays inside the slices, and the image is lent to it alone.
-    unsafe {
-        raw::nffs_append(
-            image.as_mut_ptr(),
-            image.len(),
-            areas.as_ptr(),
-            areas.len(),
-            base.as_ptr(),
-            base.len(),
-            path.as_ptr(),
-            path.len(),
-            data.as_ptr(),
-            data.len(),
-        )
-    }
+    raw::append(image, &listed(areas), base, path, data)
 }
 
 pub fn unlink(image: &mut [u8], areas: &[u32], base: &[u8], path: &[u8]) -> u32 {
-    // SAFETY: the call stays inside the slices, and the image is lent to it alone.
-    unsafe {
-        raw::nffs_unlink(
-            image.as_mut_ptr(),
-            image.len(),
-            areas.as_ptr(),
-            areas.len(),
-            base.as_ptr(),
-            base.len(),
-            path.as_ptr(),
-            path.len(),
-        )
-    }
+    raw::unlink(image, &listed(areas), base, path)
 }
 
 pub fn collect(image: &mut [u8], areas: &[u32]) -> u32 {
-    // SAFETY: the call stays inside the slices, and the image is lent to it alone.
-    unsafe { raw::nffs_collect(image.as_mut_ptr(), image.len(), areas.as_ptr(), areas.len()) }
+    raw::collect(image, &listed(areas))
 }
 
-/// The calls of this crate as one engine.
+/// The answers as the archive gives them, those of refused calls too.
 pub struct Proved;
 
 impl Engine for Proved {
@@ -285,5 +91,71 @@ impl Engine for Proved {
     }
     fn collect(&self, image: &mut [u8], areas: &[u32]) -> u32 {
         collect(image, areas)
+    }
+}
+
+/// The functions that answer with a `Result`: a refusal has its number, and stands for an answer whose other numbers are 0.
+pub struct Safe;
+
+fn done(answer: Result<(), Refusal>) -> u32 {
+    answer.map_or_else(Refusal::number, |()| 0)
+}
+
+fn given(answer: Result<nffs::Given, Refusal>) -> Read {
+    match answer {
+        Ok(r) => Read { number: 0, given: r.bytes as u32, headers: r.headers },
+        Err(refusal) => Read { number: refusal.number(), given: 0, headers: 0 },
+    }
+}
+
+impl Engine for Safe {
+    fn format(&self, image: &mut [u8], areas: &[u32]) -> u32 {
+        done(nffs::format(image, &listed(areas)))
+    }
+    fn report(&self, image: &[u8], areas: &[u32]) -> Report {
+        match nffs::report(image, &listed(areas)) {
+            Ok(r) => {
+                Report { number: 0, inodes: r.inodes, live: r.live, stretches: r.stretches, skipped: r.skipped }
+            }
+            Err(refusal) => Report { number: refusal.number(), inodes: 0, live: 0, stretches: 0, skipped: 0 },
+        }
+    }
+    fn lookup(&self, image: &[u8], areas: &[u32], base: &[u8], path: &[u8]) -> Lookup {
+        match nffs::lookup(image, &listed(areas), base, path) {
+            Ok(r) => Lookup { number: 0, id: r.id, kind: r.kind as u32 },
+            Err(refusal) => Lookup { number: refusal.number(), id: 0, kind: 0 },
+        }
+    }
+    fn open(&self, image: &[u8], areas: &[u32], base: &[u8], path: &[u8]) -> Open {
+        match nffs::open(image, &listed(areas), base, path) {
+            Ok(r) => Open { number: 0, id: r.id, position: r.position },
+            Err(refusal) => Open { number: refusal.number(), id: 0, position: 0 },
+        }
+    }
+    fn read_at(&self, image: &[u8], areas: &[u32], id: u32, position: u32, buffer: &mut [u8]) -> Read {
+        given(nffs::read_at(image, &listed(areas), id, position, buffer))
+    }
+    fn read(&self, image: &[u8], areas: &[u32], handle: &mut Handle, buffer: &mut [u8]) -> Read {
+        let mut moved = nffs::Handle { id: handle.id, position: handle.position };
+        let answer = nffs::read(image, &listed(areas), &mut moved, buffer);
+        handle.id = moved.id;
+        handle.position = moved.position;
+        given(answer)
+    }
+    fn create(&self, image: &mut [u8], areas: &[u32], base: &[u8], path: &[u8], kind: u32) -> Create {
+        let kind = if kind == 0 { Kind::Directory } else { Kind::File };
+        match nffs::create(image, &listed(areas), base, path, kind) {
+            Ok(id) => Create { number: 0, id },
+            Err(refusal) => Create { number: refusal.number(), id: 0 },
+        }
+    }
+    fn append(&self, image: &mut [u8], areas: &[u32], base: &[u8], path: &[u8], data: &[u8]) -> u32 {
+        done(nffs::append(image, &listed(areas), base, path, data))
+    }
+    fn unlink(&self, image: &mut [u8], areas: &[u32], base: &[u8], path: &[u8]) -> u32 {
+        done(nffs::unlink(image, &listed(areas), base, path))
+    }
+    fn collect(&self, image: &mut [u8], areas: &[u32]) -> u32 {
+        done(nffs::collect(image, &listed(areas)))
     }
 }

@@ -186,7 +186,7 @@ fn an_older_version_read_last() {
 /// The command that README names, on the image that lies beside the program.
 #[test]
 fn the_command_of_the_readme() {
-    let output = Command::new("../../report").arg("../../crates/nffs_report/stdin").output().expect("the command");
+    let output = Command::new("../../report").arg("../../crates/program_report/stdin").output().expect("the command");
     assert!(output.status.success());
     assert_eq!(String::from_utf8(output.stdout).expect("text"), report(1, 1, 0, 0));
     assert_eq!(Command::new("../../report").arg("no-such-image").output().expect("the command").status.code(), Some(2));

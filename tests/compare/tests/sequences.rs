@@ -1,7 +1,7 @@
 //! Seeded sequences of calls on the proved code and on the model: answers, images, buffers and handles after each call.
 
-use nffs_compare::Proved;
-use nffs_model::compare::{compare, Model};
+use nffs_compare::{Proved, Safe};
+use nffs_model::compare::{compare, Engine, Model};
 
 /// The numbers that each call must have answered somewhere, so that no rule is passed over.
 const REACHED: [(&str, &[u32]); 10] = [
@@ -17,9 +17,9 @@ const REACHED: [(&str, &[u32]); 10] = [
     ("Collect", &[0, 1, 2, 3, 4, 5, 6, 7, 17]),
 ];
 
-fn run(seeds: std::ops::Range<u64>) {
+fn run(seeds: std::ops::Range<u64>, calls: &dyn Engine) {
     println!("seeds {seeds:?}");
-    let tally = compare(seeds, &Proved, &Model::default()).unwrap_or_else(|case| panic!("{case}"));
+    let tally = compare(seeds, calls, &Model::default()).unwrap_or_else(|case| panic!("{case}"));
     println!("{} calls: {:?}", tally.calls, tally.answers);
     for (call, numbers) in REACHED {
         for number in numbers {
@@ -30,10 +30,16 @@ fn run(seeds: std::ops::Range<u64>) {
 
 #[test]
 fn first_half() {
-    run(10_000_000..10_020_000);
+    run(10_000_000..10_020_000, &Proved);
 }
 
 #[test]
 fn second_half() {
-    run(20_000_000..20_020_000);
+    run(20_000_000..20_020_000, &Proved);
+}
+
+/// The functions that answer with a `Result`.
+#[test]
+fn by_results() {
+    run(30_000_000..30_010_000, &Safe);
 }

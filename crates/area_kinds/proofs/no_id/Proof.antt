@@ -3,9 +3,9 @@ use Prim.Native.Nat.{_-_}
 use mathlib.Core.Path.{_≡_, refl, sym, _∙_}
 use lib.ListN.{length, drop}
 use Rattle.volume.specs.Lists.{all}
-use Rattle.descriptors.specs.Described.{described, described-step, described-end}
-use Rattle.descriptors.specs.Steps.{all-passes, all-fails, all-ends}
-use Rattle.descriptors.specs.Good.{fits-at, header-at}
+use Rattle.area_list.specs.Described.{described, described-step, described-end}
+use Rattle.area_list.specs.Steps.{all-passes, all-fails, all-ends}
+use Rattle.area_list.specs.Good.{fits-at, header-at}
 use Rattle.area_kinds.specs.Kinds.{otherId, id-same, id-differs}
 use borrow.Author.Needs.{needs}
 use native.Mathlib.Omega.{arith}
@@ -13,10 +13,10 @@ use Rattle.area_kinds.proofs.no_id.Statement.{statement}
 use Rattle.area_kinds.proofs.no_id.Tie as tie
 
 abbrev Inv-loop : tie.InvT-loop
-Inv-loop image id offsets lengths i₀ i = all (otherId image id) (described (drop i offsets) (drop i lengths)) ≡ all (otherId image id) (described offsets lengths)
+Inv-loop image id starts spans i₀ i = all (otherId image id) (described (drop i starts) (drop i spans)) ≡ all (otherId image id) (described starts spans)
 
 abbrev μ-loop : tie.MeasureT-loop
-μ-loop image id offsets lengths i₀ i = length offsets - i
+μ-loop image id starts spans i₀ i = length starts - i
 
 loop-holds : tie.Need-loop-holds Inv-loop μ-loop
 loop-holds c = refl
@@ -25,7 +25,7 @@ area-id-requires : tie.Need-area-id-requires Inv-loop μ-loop
 area-id-requires c κs =
     let t = c .before in
     let s = t .before .before .before .before .before in
-    let f = fits-at (length (s .args .image .now)) (s .args .offsets .now) (s .args .lengths .now) (s .pre) (t .before .loop .i) (t .loop-test .taken) in
+    let f = fits-at (length (s .args .image .now)) (s .args .starts .now) (s .args .spans .now) (s .pre) (t .before .loop .i) (t .loop-test .taken) in
     omega arith
 
 returns : tie.Need-returns Inv-loop μ-loop
@@ -50,7 +50,7 @@ returns-2 : tie.Need-returns-2 Inv-loop μ-loop
 returns-2 c =
     let l = c .before in
     let s = l .before .before .before .before in
-    sym (all-ends (described-end (s .args .offsets .now) (s .args .lengths .now) _ (c .loop-test .left)) _) ∙ l .loop .inv
+    sym (all-ends (described-end (s .args .starts .now) (s .args .spans .now) _ (c .loop-test .left)) _) ∙ l .loop .inv
 
 pub no-id-spec : {M : Type 1} → statement M
 no-id-spec =

@@ -5,16 +5,16 @@ use lib.ListN.{length, drop, drop-of-length-le}
 use lib.Dec.{leb}
 use borrow.Author.Tests.{le-leb, lt-leb}
 use Rattle.volume.specs.Lists.{all}
-use Rattle.descriptors.specs.Steps.{drop-step, all-passes, all-fails, all-ends}
+use Rattle.area_list.specs.Steps.{drop-step, all-passes, all-fails, all-ends}
 use borrow.Author.Needs.{needs}
 use Rattle.area_kinds.proofs.none_longer.Statement.{statement}
 use Rattle.area_kinds.proofs.none_longer.Tie as tie
 
 abbrev Inv-loop : tie.InvT-loop
-Inv-loop lengths most i₀ i = all (λ n. leb n most) (drop i lengths) ≡ all (λ n. leb n most) lengths
+Inv-loop spans most i₀ i = all (λ n. leb n most) (drop i spans) ≡ all (λ n. leb n most) spans
 
 abbrev μ-loop : tie.MeasureT-loop
-μ-loop lengths most i₀ i = length lengths - i
+μ-loop spans most i₀ i = length spans - i
 
 loop-holds : tie.Need-loop-holds Inv-loop μ-loop
 loop-holds c = refl
@@ -34,7 +34,7 @@ loop-again c =
 returns-2 : tie.Need-returns-2 Inv-loop μ-loop
 returns-2 c =
     let l = c .before in
-    sym (all-ends (drop-of-length-le (l .before .args .lengths .now) (c .loop-test .left)) _) ∙ l .loop .inv
+    sym (all-ends (drop-of-length-le (l .before .args .spans .now) (c .loop-test .left)) _) ∙ l .loop .inv
 
 pub none-longer-spec : {M : Type 1} → statement M
 none-longer-spec =

@@ -7,9 +7,9 @@ use Rattle.volume.specs.Lists.{all}
 use Rattle.calls.specs.Mount.{sharedAreaId}
 use Rattle.format_laws.specs.Bytes.{rest-part}
 use Rattle.format_laws.specs.Tests.{via}
-use Rattle.descriptors.specs.Described.{areaOf, described, described-step, described-end}
-use Rattle.descriptors.specs.Steps.{pairwise, pairs-pass, pairs-fail, pairs-end}
-use Rattle.descriptors.specs.Good.{fits-at, header-at, good-later}
+use Rattle.area_list.specs.Described.{areaOf, described, described-step, described-end}
+use Rattle.area_list.specs.Steps.{pairwise, pairs-pass, pairs-fail, pairs-end}
+use Rattle.area_list.specs.Good.{fits-at, header-at, good-later}
 use Rattle.area_kinds.specs.Kinds.{ownId, shared-pairs}
 use borrow.Author.Needs.{needs}
 use native.Mathlib.Omega.{arith}
@@ -17,22 +17,22 @@ use Rattle.area_kinds.proofs.shared_id.Statement.{statement}
 use Rattle.area_kinds.proofs.shared_id.Tie as tie
 
 abbrev Inv-loop : tie.InvT-loop
-Inv-loop image offsets lengths i₀ i = not (pairwise (ownId image) (described (drop i offsets) (drop i lengths))) ≡ sharedAreaId image (described offsets lengths)
+Inv-loop image starts spans i₀ i = not (pairwise (ownId image) (described (drop i starts) (drop i spans))) ≡ sharedAreaId image (described starts spans)
 
 abbrev μ-loop : tie.MeasureT-loop
-μ-loop image offsets lengths i₀ i = length offsets - i
+μ-loop image starts spans i₀ i = length starts - i
 
 -- what was asked of the later areas
 tested : (c : tie.After-no-id Inv-loop μ-loop) → let l = c .before .before .before .before .before .before in let s = l .before .before .before .before in
     c .no-id .result
-    ≡ all (ownId (s .args .image .now) (areaOf (getD (s .args .offsets .now) (l .loop .i) 0) (getD (s .args .lengths .now) (l .loop .i) 0)))
-    (described (drop (l .loop .i + 1) (s .args .offsets .now)) (drop (l .loop .i + 1) (s .args .lengths .now)))
+    ≡ all (ownId (s .args .image .now) (areaOf (getD (s .args .starts .now) (l .loop .i) 0) (getD (s .args .spans .now) (l .loop .i) 0)))
+    (described (drop (l .loop .i + 1) (s .args .starts .now)) (drop (l .loop .i + 1) (s .args .spans .now)))
 tested c =
     let a = c .before .before .before in
     let t = a .before .before in
     let l = t .before in
     let s = l .before .before .before .before in
-    let e = rw (rest-part (s .args .offsets .now) (l .loop .i + 1), rest-part (s .args .lengths .now) (l .loop .i + 1)) at (c .no-id .ensures) in
+    let e = rw (rest-part (s .args .starts .now) (l .loop .i + 1), rest-part (s .args .spans .now) (l .loop .i + 1)) at (c .no-id .ensures) in
     rw (a .area-id .ensures .is _ (header-at _ _ _ (s .pre) _ (t .loop-test .taken))) at e
 
 loop-holds : tie.Need-loop-holds Inv-loop μ-loop
@@ -42,14 +42,14 @@ area-id-requires : tie.Need-area-id-requires Inv-loop μ-loop
 area-id-requires c κs =
     let t = c .before in
     let s = t .before .before .before .before .before in
-    let f = fits-at (length (s .args .image .now)) (s .args .offsets .now) (s .args .lengths .now) (s .pre) (t .before .loop .i) (t .loop-test .taken) in
+    let f = fits-at (length (s .args .image .now)) (s .args .starts .now) (s .args .spans .now) (s .pre) (t .before .loop .i) (t .loop-test .taken) in
     omega arith
 
 no-id-requires : tie.Need-no-id-requires Inv-loop μ-loop
 no-id-requires c κs =
     let l = c .before .before .before .before .before in
     let s = l .before .before .before .before in
-    rw (rest-part (s .args .offsets .now) (l .loop .i + 1), rest-part (s .args .lengths .now) (l .loop .i + 1)) (good-later _ _ _ (s .pre) (l .loop .i + 1))
+    rw (rest-part (s .args .starts .now) (l .loop .i + 1), rest-part (s .args .spans .now) (l .loop .i + 1)) (good-later _ _ _ (s .pre) (l .loop .i + 1))
 
 returns : tie.Need-returns Inv-loop μ-loop
 returns c =
@@ -71,7 +71,7 @@ returns-2 : tie.Need-returns-2 Inv-loop μ-loop
 returns-2 c =
     let l = c .before in
     let s = l .before .before .before .before in
-    sym (ap not (pairs-end (described-end (s .args .offsets .now) (s .args .lengths .now) _ (c .loop-test .left)) _)) ∙ l .loop .inv
+    sym (ap not (pairs-end (described-end (s .args .starts .now) (s .args .spans .now) _ (c .loop-test .left)) _)) ∙ l .loop .inv
 
 pub shared-id-spec : {M : Type 1} → statement M
 shared-id-spec =

@@ -1,16 +1,12 @@
 -- `collect_copies::is_dropped` meets its contract.
-use Prim.Native.Nat.{ℕ, _+_, _≤_}
+use Prim.Native.Nat.{ℕ}
 use mathlib.Core.Path.{_≡_, sym, ap, ap₂, _∙_}
 use mathlib.Core.Bool.{Bool}
-use native.Mathlib.Omega.{arith}
 use lib.ListN.{length}
 use borrow.Author.Needs.{needs}
 use Rattle.volume.specs.Fate.{isDead}
-use Rattle.place_view.specs.Place.{byPlace}
-use Rattle.place_view.specs.Laws.{size-least}
-use Rattle.table.specs.Table.{taken}
-use Rattle.fate.specs.Fates.{fateBy}
-use Rattle.gather.specs.Gather.{table}
+use Rattle.record_places.specs.Place.{byPlace}
+use Rattle.inode_fate.specs.Fates.{fateBy}
 use Rattle.collect_copies.specs.Copied.{unheld, bearer}
 use Rattle.collect_copies.specs.Steps.{dropped-not, dropped-if}
 use Rattle.collect_copies.proofs.is_dropped.Statement.{statement}
@@ -18,32 +14,22 @@ use Rattle.collect_copies.proofs.is_dropped.Tie as tie
 
 -- the arguments, from where the fate was asked
 abbrev start : tie.After-is-dead → tie.Start
-start d = d .before .before .before .before .before .before .before .before
-
--- the header lies in the image
-header : (s : tie.Start) → s .args .p + 20 ≤ length (s .args .image .now)
-header s = omega (arith, s .pre .1 .1, size-least (s .args .image .now) (s .args .p))
+start d = d .before .before .before .before .before .before .before
 
 -- what was answered of the fate
 told : (d : tie.After-is-dead) → let a = start d .args in
-    d .is-dead .result ≡ isDead (fateBy (byPlace (a .image .now)) (taken (a .words .now)) (a .ids .now) (a .spots .now) (bearer (a .image .now) (a .p)))
+    d .is-dead .result ≡ isDead (fateBy (byPlace (a .image .now)) (length (a .ids .now)) (a .ids .now) (a .spots .now) (bearer (a .image .now) (a .p)))
 told d =
     let a = start d .args in
     let f = d .before in
     d .is-dead .ensures
-    ∙ ap isDead (f .fate-of .ensures ∙ ap (fateBy (byPlace (a .image .now)) (taken (a .words .now)) (a .ids .now) (a .spots .now)) (f .before .bearer .ensures))
+    ∙ ap isDead (f .fate-of .ensures ∙ ap (fateBy (byPlace (a .image .now)) (length (a .ids .now)) (a .ids .now) (a .spots .now)) (f .before .bearer .ensures))
 
 returns : tie.Need-returns
 returns c =
     let a = start (c .before) .args in
-    dropped-not (a .image .now) (a .offset) (a .span) (a .places .now) (table (a .words .now) (a .ids .now) (a .spots .now)) (a .p)
+    dropped-not (a .image .now) (a .offset) (a .span) (a .places .now) (record { ids = a .ids .now; spots = a .spots .now }) (a .p)
     (sym (told (c .before)) ∙ c .if1 .left)
-
-load32-requires : tie.Need-load32-requires
-load32-requires c κs = omega (arith, header (start (c .before)))
-
-is-block-at-requires : tie.Need-is-block-at-requires
-is-block-at-requires c κs = omega (arith, header (start (c .before .before)))
 
 returns-2 : tie.Need-returns-2
 returns-2 c =
@@ -52,8 +38,8 @@ returns-2 c =
     let t = k .before in
     let a = start (t .before) .args in
     c .is-unheld .ensures
-    ∙ ap₂ (λ (i : ℕ) (x : Bool). unheld (a .image .now) (a .offset) (a .span) (a .places .now) i x) (k .load32 .ensures) (b .is-block-at .ensures)
-    ∙ dropped-if (a .image .now) (a .offset) (a .span) (a .places .now) (table (a .words .now) (a .ids .now) (a .spots .now)) (a .p)
+    ∙ ap₂ (λ (i : ℕ) (x : Bool). unheld (a .image .now) (a .offset) (a .span) (a .places .now) i x) (k .id-at .ensures) (b .is-block-at .ensures)
+    ∙ dropped-if (a .image .now) (a .offset) (a .span) (a .places .now) (record { ids = a .ids .now; spots = a .spots .now }) (a .p)
     (sym (told (t .before)) ∙ t .if1 .taken)
 
 pub is-dropped-spec : {M : Type 1} → statement M
@@ -64,8 +50,7 @@ is-dropped-spec =
     (λ c κs. search needs)
     (λ c κs. search needs)
     returns
-    (λ c. search needs)
-    load32-requires
-    is-block-at-requires
+    (λ c κs. search needs)
+    (λ c κs. search needs)
     (λ c κs. search needs)
     returns-2)

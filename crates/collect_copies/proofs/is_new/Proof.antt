@@ -1,6 +1,7 @@
 -- `collect_copies::is_new` meets its contract: no record is of the same bytes if none of those left is.
 use Prim.Native.Nat.{_-_}
 use mathlib.Core.Path.{_≡_, refl, sym, _∙_}
+use native.Mathlib.Omega.{arith}
 use lib.ListN.{length, drop}
 use borrow.Author.Needs.{needs}
 use Rattle.collect_copies.specs.Copied.{noneSame}
@@ -53,6 +54,7 @@ is-new-spec =
     loop-holds
     (λ c. search needs)
     (λ c. search needs)
+    (λ c. omega (arith, c .shared-slice-known3 .given (c .before .before .loop .i)))
     same-bytes-requires
     returns
     (λ c. search needs)

@@ -4,8 +4,7 @@ use mathlib.Core.Path.{_≡_, refl, sym, _∙_}
 use native.Mathlib.Omega.{arith}
 use lib.ListN.{length, drop}
 use borrow.Author.Needs.{needs}
-use Rattle.descriptors.specs.Described.{described}
-use Rattle.descriptors.specs.Good.{fits-at, header-at}
+use Rattle.area_list.specs.Described.{described}
 use Rattle.collect_source.specs.Source.{firstLeading, source-leads, first-here, first-later, first-nowhere}
 use Rattle.collect_source.proofs.choose_source.Statement.{statement}
 use Rattle.collect_source.proofs.choose_source.Tie as tie
@@ -22,7 +21,7 @@ abbrev start : tie.At-loop Inv-loop μ-loop → tie.Start Inv-loop μ-loop
 start l = l .before .before .before .before
 
 pairs : (l : tie.At-loop Inv-loop μ-loop) → length (start l .args .starts .now) ≡ length (start l .args .spans .now)
-pairs l = start l .pre .pairs
+pairs l = sym (start l .pre .pairs)
 
 loop-holds : tie.Need-loop-holds Inv-loop μ-loop
 loop-holds c = refl
@@ -31,8 +30,9 @@ leads-requires : tie.Need-leads-requires Inv-loop μ-loop
 leads-requires c κs =
     let t = c .before .before in
     let s = start (t .before) in
-    let f = fits-at _ _ _ (s .pre) (t .before .loop .i) (t .loop-test .taken) in
-    (s .pre, (omega (arith, f .long, f .inside), header-at _ _ _ (s .pre) (t .before .loop .i) (t .loop-test .taken)))
+    let h = s .pre .long (t .before .loop .i) (t .loop-test .taken) in
+    let f = s .pre .inside (t .before .loop .i) (t .loop-test .taken) in
+    (s .pre, (omega arith, omega arith))
 
 returns : tie.Need-returns Inv-loop μ-loop
 returns c =

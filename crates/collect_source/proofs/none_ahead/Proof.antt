@@ -4,8 +4,7 @@ use mathlib.Core.Path.{_≡_, refl, sym, _∙_}
 use native.Mathlib.Omega.{arith}
 use lib.ListN.{length, drop}
 use borrow.Author.Needs.{needs}
-use Rattle.descriptors.specs.Described.{described}
-use Rattle.descriptors.specs.Good.{fits-at, header-at}
+use Rattle.area_list.specs.Described.{described}
 use Rattle.collect_source.specs.Source.{noneAhead, none-fails, none-passes, none-ends}
 use Rattle.collect_source.proofs.none_ahead.Statement.{statement}
 use Rattle.collect_source.proofs.none_ahead.Tie as tie
@@ -25,14 +24,15 @@ abbrev start : tie.At-loop Inv-loop μ-loop → tie.Start Inv-loop μ-loop
 start l = l .before .before .before .before
 
 pairs : (l : tie.At-loop Inv-loop μ-loop) → length (start l .args .starts .now) ≡ length (start l .args .spans .now)
-pairs l = start l .pre .pairs
+pairs l = sym (start l .pre .pairs)
 
 is-ahead-requires : tie.Need-is-ahead-requires Inv-loop μ-loop
 is-ahead-requires c κs =
     let t = c .before .before in
     let s = start (t .before) in
-    let f = fits-at _ _ _ (s .pre) (t .before .loop .i) (t .loop-test .taken) in
-    (omega (arith, f .long, f .inside), header-at _ _ _ (s .pre) (t .before .loop .i) (t .loop-test .taken))
+    let h = s .pre .long (t .before .loop .i) (t .loop-test .taken) in
+    let f = s .pre .inside (t .before .loop .i) (t .loop-test .taken) in
+    (omega arith, omega arith)
 
 returns : tie.Need-returns Inv-loop μ-loop
 returns c =

@@ -22,11 +22,12 @@ turn k = k .before .before .before
 loop-holds : tie.Need-loop-holds Inv-loop μ-loop
 loop-holds c = moving-begins _ _ _
 
+-- a place fits 16 bits
 cast-p : tie.Need-cast-p Inv-loop μ-loop
-cast-p c =
-    let t = c .before in
-    let l = t .before in
-    omega (arith, moving-lies _ _ _ _ _ _ (l .loop .inv) (start l .pre) (t .loop-test .taken), l .loop .inv .long, l .before .before)
+cast-p c = omega (arith, c .shared-slice-known2 .given (c .before .before .loop .i))
+
+cast-copy : tie.Need-cast-copy Inv-loop μ-loop
+cast-copy c = let w = c .before .before .before in omega (arith, w .shared-slice-known2 .given (w .before .before .loop .i))
 
 size-at-requires : tie.Need-size-at-requires Inv-loop μ-loop
 size-at-requires c κs =
@@ -71,6 +72,7 @@ copy-records-spec =
     (λ c. omega (arith, c .before .loop-test .taken))
     cast-p
     size-at-requires
+    cast-copy
     copy-requires
     add-at
     (λ c. omega (arith, turn (c .before .before .before .before) .loop-test .taken))

@@ -1,0 +1,2 @@
+-- What a header over an erased area is.
+pub mod Headed

@@ -1,3 +1,0 @@
--- What the code of areas answers, and its laws.
-pub mod Area
-pub mod Laws

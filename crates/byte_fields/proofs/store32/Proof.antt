@@ -1,0 +1,28 @@
+-- `byte_fields::store32` meets its contract.
+use native.Mathlib.Omega.{arith}
+use native.Mathlib.Numerals.{towards-suc}
+use lib.ListN.{length-set}
+use borrow.Author.Needs.{needs}
+use Rattle.byte_fields.proofs.store32.Statement.{statement}
+use Rattle.byte_fields.proofs.store32.Tie as tie
+
+returns : tie.Need-returns
+returns c = simp towards-suc
+
+pub store32-spec : {M : Type 1} → statement M
+store32-spec =
+    tie.close
+    (tie.spec
+    (λ c. search needs)
+    (λ c. search needs)
+    (λ c. search needs)
+    (λ c. search needs)
+    (λ c. simp length-set (omega arith))
+    (λ c. search needs)
+    (λ c. search needs)
+    (λ c. simp length-set (omega arith))
+    (λ c. search needs)
+    (λ c. search needs)
+    (λ c. simp length-set (omega arith))
+    (λ c. search needs)
+    returns)

@@ -1,0 +1,2 @@
+-- Bytes stored one by one.
+pub mod Storing

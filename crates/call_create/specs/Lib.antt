@@ -1,0 +1,2 @@
+-- Create by the tables of a mounted volume.
+pub mod Creating

@@ -1,0 +1,95 @@
+-- `call_format::write_areas` meets its contract.
+use Prim.Native.Nat.{_+_, _*_, _-_, _≤_, _<_}
+use mathlib.Core.Path.{sym, _∙_}
+use native.Mathlib.Omega.{arith}
+use lib.ListN.{length, getD}
+use Rattle.format.specs.AreaHeader.{areaHeaderSize}
+use Rattle.calls.specs.Areas.{largestImage}
+use Rattle.call_format.specs.Areas.{Writing, writing-begins, writing-room, writing-scratch, writing-file, writing-ends}
+use borrow.Author.Needs.{needs}
+use Rattle.call_format.proofs.write_areas.Statement.{statement}
+use Rattle.call_format.proofs.write_areas.Tie as tie
+
+abbrev Inv-loop : tie.InvT-loop
+Inv-loop image₀ pairs most placed₀ next₀ i₀ image placed next i = Writing image₀ pairs most image placed next i
+
+abbrev μ-loop : tie.MeasureT-loop
+μ-loop image₀ pairs most placed₀ next₀ i₀ image placed next i = length pairs - i
+
+abbrev start : tie.At-loop Inv-loop μ-loop → tie.Start Inv-loop μ-loop
+start l = l .before .before .before
+
+loop-holds : tie.Need-loop-holds Inv-loop μ-loop
+loop-holds c = writing-begins _ _ _
+
+-- the area of a turn is in the list, has room for its header and lies in the image
+module _ (c : tie.In-loop Inv-loop μ-loop) where
+  here : c .before .loop .i * 2 + 1 < length (start (c .before) .args .pairs .now)
+  here = omega (arith, c .loop-test .taken)
+
+  room : (getD (start (c .before) .args .pairs .now) (c .before .loop .i * 2) 0 + getD (start (c .before) .args .pairs .now) (c .before .loop .i * 2 + 1) 0 ≤ length (c .before .loop .image))
+      × (areaHeaderSize ≤ getD (start (c .before) .args .pairs .now) (c .before .loop .i * 2 + 1) 0) × (length (c .before .loop .image) ≤ largestImage)
+  room = writing-room _ _ _ _ _ _ _ (c .before .loop .inv) (start (c .before) .pre) here
+
+write-area-requires : tie.Need-write-area-requires Inv-loop μ-loop
+write-area-requires c κs = room (c .before .before .before .before .before)
+
+loop-again : tie.Need-loop-again Inv-loop μ-loop
+loop-again c =
+    let w = c .before .before in
+    let t = w .before .before in
+    let s = t .before in
+    let n = s .before .before .before in
+    let l = n .before in
+    rw (w .write-area .ensures)
+    (writing-scratch _ _ _ _ _ _ _ (l .loop .inv) (start l .pre) (here n) (sym (s .is-scratch .ensures) ∙ t .if1 .taken))
+
+write-area-requires-2 : tie.Need-write-area-requires-2 Inv-loop μ-loop
+write-area-requires-2 c κs = room (c .before .before .before .before .before)
+
+add-next : tie.Need-add-next Inv-loop μ-loop
+add-next c =
+    let n = c .before .before .before .before .before .before .before .before in
+    let f = n .before .loop .inv .few in
+    let g = start (n .before) .pre .few in
+    omega (arith, n .loop-test .taken)
+
+loop-again-2 : tie.Need-loop-again-2 Inv-loop μ-loop
+loop-again-2 c =
+    let w = c .before .before in
+    let t = w .before .before in
+    let s = t .before in
+    let n = s .before .before .before in
+    let l = n .before in
+    rw (w .write-area2 .ensures)
+    (writing-file _ _ _ _ _ _ _ (l .loop .inv) (start l .pre) (here n) (sym (s .is-scratch .ensures) ∙ t .if1 .left))
+
+returns : tie.Need-returns Inv-loop μ-loop
+returns c = writing-ends _ _ _ _ _ _ _ (c .before .loop .inv) (start (c .before) .pre) (omega (arith, c .loop-test .left))
+
+pub write-areas-spec : {M : Type 1} → statement M
+write-areas-spec =
+    tie.close
+    (tie.spec
+    Inv-loop
+    μ-loop
+    loop-holds
+    (λ c. omega arith)
+    (λ c. omega arith)
+    (λ c. omega arith)
+    (λ c. omega arith)
+    (λ c. omega arith)
+    (λ c. omega arith)
+    (λ c. omega arith)
+    (λ c κs. search needs)
+    write-area-requires
+    (λ c. omega arith)
+    (λ c. omega arith)
+    loop-again
+    write-area-requires-2
+    add-next
+    (λ c. omega arith)
+    (λ c. omega arith)
+    loop-again-2
+    (λ c. c .before .loop .inv .long)
+    returns)

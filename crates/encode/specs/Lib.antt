@@ -1,3 +1,0 @@
--- What is written into an image, and that it reads as what was meant.
-pub mod Pieces
-pub mod Written

@@ -1,4 +1,0 @@
--- What stores do to an image.
-pub mod Apart
-pub mod Laws
-pub mod Storing

@@ -1,2 +1,0 @@
--- A read's answer together with the position after it.
-pub mod Moved

@@ -1,0 +1,1 @@
+// Theorems only, in specs/: what bytes put into an image make of it.

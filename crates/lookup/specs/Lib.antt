@@ -1,3 +1,0 @@
--- Directories and paths by the mounted inode table: what the code answers, and its laws.
-pub mod Found
-pub mod Laws

@@ -1,3 +1,0 @@
--- Lookup, open and read by mounted tables.
-pub mod Paths
-pub mod Reads

@@ -1,2 +1,0 @@
--- The mounted state, as the calls use it.
-pub mod State

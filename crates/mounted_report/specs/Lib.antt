@@ -1,3 +1,0 @@
--- The damage of areas, and the report of a mounted volume.
-pub mod Damage
-pub mod Summary

@@ -1,2 +1,0 @@
--- Lookup and open.
-pub mod Calls

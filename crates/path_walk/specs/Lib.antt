@@ -1,0 +1,3 @@
+-- Directories and paths by the mounted inode table: what the code answers, and its laws.
+pub mod Resolved
+pub mod Laws

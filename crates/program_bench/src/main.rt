@@ -1,0 +1,210 @@
+// Document 01, "Measured on the bench": the check's published value, and the area of 4,096 bytes, as it is and with each named flip.
+ghost use mathlib.Core.Path.{_≡_};
+ghost use lib.ListN.{length};
+use area_pass::list_area;
+use area_read::HEADER_SIZE;
+use area_read::next_record;
+use byte_crc16::check;
+
+// The area's header, the root at 24, the file "a" at 44, its block of 10 at 65 and its block of 5 at 99; FF follows.
+const BENCH: [u8; 128] = [
+    0xe2,
+    0x31,
+    0x8a,
+    0xb9,
+    0x8c,
+    0x42,
+    0xb0,
+    0x7f,
+    0x53,
+    0x82,
+    0xe0,
+    0xac,
+    0x8e,
+    0xfc,
+    0x85,
+    0xb1,
+    0x00,
+    0x10,
+    0x00,
+    0x00,
+    0x00,
+    0x00,
+    0x00,
+    0x00,
+    0xc0,
+    0x8b,
+    0x5f,
+    0x92,
+    0x00,
+    0x00,
+    0x00,
+    0x00,
+    0x00,
+    0x00,
+    0x00,
+    0x00,
+    0xff,
+    0xff,
+    0xff,
+    0xff,
+    0x00,
+    0x00,
+    0x17,
+    0x51,
+    0xc0,
+    0x8b,
+    0x5f,
+    0x92,
+    0x00,
+    0x00,
+    0x00,
+    0x10,
+    0x00,
+    0x00,
+    0x00,
+    0x00,
+    0x00,
+    0x00,
+    0x00,
+    0x00,
+    0x00,
+    0x01,
+    0xf0,
+    0xc5,
+    0x61,
+    0xb9,
+    0x23,
+    0xba,
+    0x53,
+    0x00,
+    0x00,
+    0x00,
+    0x80,
+    0x00,
+    0x00,
+    0x00,
+    0x00,
+    0x00,
+    0x00,
+    0x00,
+    0x10,
+    0xff,
+    0xff,
+    0xff,
+    0xff,
+    0x0a,
+    0x00,
+    0xfa,
+    0x49,
+    0x41,
+    0x41,
+    0x41,
+    0x41,
+    0x41,
+    0x41,
+    0x41,
+    0x41,
+    0x41,
+    0x41,
+    0xb9,
+    0x23,
+    0xba,
+    0x53,
+    0x01,
+    0x00,
+    0x00,
+    0x80,
+    0x00,
+    0x00,
+    0x00,
+    0x00,
+    0x00,
+    0x00,
+    0x00,
+    0x10,
+    0x00,
+    0x00,
+    0x00,
+    0x80,
+    0x05,
+    0x00,
+    0x26,
+    0x63,
+    0x41,
+    0x41,
+    0x41,
+    0x41,
+    0x41,
+];
+
+// More places than an area of 4,096 bytes has records: none is shorter than 20 bytes.
+const PLACES: usize = 205;
+
+const DIGITS: [u8; 9] = [0x31, 0x32, 0x33, 0x34, 0x35, 0x36, 0x37, 0x38, 0x39];
+
+// Prints a word and a number.
+fn show(word: &[u8], n: usize) {
+    io::write_all(1, word);
+    io::print_decimal(1, n as u64);
+}
+
+// The record found at `at`, and where the next one is sought.
+fn show_record(at: usize, size: usize) -> usize {
+    show(b"record ", at);
+    show(b"+", size);
+    io::write_all(1, b"\n");
+    if at < 65536 {
+        if size < 65536 {
+            return at + size;
+        }
+    }
+    65536
+}
+
+// What the reading of an area comes to: stretches of damage, their bytes, and where free space starts.
+fn show_reading(area: &[u8])
+    requires { ⌜ length (now area) ≡ 4096 ⌝ }
+{
+    let mut places = [0u16; PLACES];
+    let pass = list_area(area, 0, &mut places[..], 0);
+    let reading = pass.reading;
+    show(b"stretches ", reading.stretches);
+    show(b" skipped ", reading.skipped);
+    show(b" free ", reading.free);
+    io::write_all(1, b"\n");
+}
+
+// The first records of an area, then what its reading comes to.
+fn show_area(area: &[u8])
+    requires { ⌜ length (now area) ≡ 4096 ⌝ }
+{
+    let mut at = HEADER_SIZE;
+    let mut left: usize = 8;
+    while 0 < left {
+        let next = next_record(area, at);
+        if next.size != 0 {
+            at = show_record(next.at, next.size);
+        }
+        left -= 1;
+    }
+    show_reading(area);
+}
+
+// The check of document 01's nine digits; then the bench area as it is, and with one bit changed at a time.
+fn main() {
+    io::print_hex(1, check(&DIGITS, b"") as u64, 4);
+    io::write_all(1, b"\n");
+    let mut area = [0xffu8; 4096];
+    let mut i = 0;
+    while i < 128 {
+        area[i] = BENCH[i];
+        i += 1;
+    }
+    show_area(&area);
+    area[70] = area[70] ^ 1;
+    show_area(&area);
+    area[70] = area[70] ^ 1;
+    area[103] = area[103] ^ 1;
+    show_area(&area);
+}

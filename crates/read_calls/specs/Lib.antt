@@ -1,2 +1,0 @@
--- The read by the tables of a mount.
-pub mod Calls

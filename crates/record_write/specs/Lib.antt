@@ -1,0 +1,3 @@
+-- What is written into an image, and that it reads as what was meant.
+pub mod Sealed
+pub mod Written

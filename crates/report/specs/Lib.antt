@@ -1,2 +1,0 @@
--- The report by the tables of a mount.
-pub mod Counts

@@ -1,4 +1,0 @@
--- Tables: what their rows are, one record more, and the laws of both.
-pub mod Table
-pub mod Snoc
-pub mod Laws

@@ -1,0 +1,244 @@
+-- The loops of an append: places taken, ids taken, and the pieces stored, one after the other.
+use Prim.Native.Nat.{ℕ, suc, _+_, _-_, _≤_, _<_}
+use mathlib.Core.Path.{_≡_, refl, sym, ap, subst, _∙_}
+use mathlib.Core.Bool.{Bool, true, false}
+use mathlib.Core.List.{List, [], _∷_, _++_, append-nil, append-assoc}
+use mathlib.Core.Option.{Option, none, some}
+use native.Mathlib.Omega.{arith}
+use native.Mathlib.Numerals.{add-one}
+use native.Mathlib.Nat.{sub-zero}
+use lib.ListN.{length, take, drop, getD, set, length-take, length-drop, length-set, drop-of-length-le}
+use lib.Seq.{take-suc-set, take-all, drop-cons}
+use Rattle.format.specs.Bytes.{Bytes}
+use Rattle.format.specs.Ids.{firstBlockId}
+use Rattle.format.specs.Record.{block, longestData}
+use Rattle.format.specs.Encoding.{blockBytes}
+use Rattle.format_laws.specs.Encoding.{block-size}
+use Rattle.volume.specs.Lists.{bind}
+use Rattle.calls.specs.Image.{put}
+use Rattle.calls.specs.Areas.{fileAreas}
+use Rattle.calls.specs.Storing.{Space, spaces, firstFit, storeAll, unusedId}
+use Rattle.calls.specs.declared.Descriptor.{Descriptor}
+use Rattle.mount_state.specs.State.{Safe, Holds}
+use Rattle.mount_state.specs.declared.Mounted.{Mounted}
+use Rattle.image_laws.specs.Laws.{length-put}
+use Rattle.table_words.specs.Occupancy.{bits, capacity, firstZero}
+use Rattle.write_ids.specs.Window.{Marks}
+use Rattle.write_ids.specs.Laws.{unused-within}
+use Rattle.write_room.specs.Spaces.{spacesOf, fitOf}
+use Rattle.write_room.specs.Rows.{rowSpaces, rows-within, rows-are}
+use Rattle.write_room.specs.declared.Place.{Place}
+use Rattle.write_room.specs.declared.Place.the-variants.{At, Nowhere}
+use Rattle.write_pieces.specs.Cut.{pieces, nextLength, next-some, pieces-next, pieces-end}
+use Rattle.write_pieces.specs.Plan.{idsFor, placeThen, placesFor, storesOf, Ends, Planned, PlannedAt, places-planned}
+
+-- what an answer of `take_places` says
+abbrev pub plannedOf : Bool → List ℕ → Option (List ℕ)
+plannedOf true qs = some qs
+plannedOf false qs = none
+
+-- places behind others
+abbrev pub behind : List ℕ → Option (List ℕ) → Option (List ℕ)
+behind l none = none
+behind l (some m) = some (l ++ m)
+
+-- ---- places
+
+-- the pieces before start have their places, and those to come make the whole
+pub record Planning (n : ℕ) (text : Bytes) (es fs₀ qs₀ fs qs : List ℕ) (start i : ℕ) : Type 0 where
+  pub starts-long : length fs ≡ length fs₀
+  pub places-long : length qs ≡ length qs₀
+  pub count : i + length (pieces n (drop start text)) ≡ length qs₀
+  pub left : behind (take i qs) (placesFor (spacesOf fs es) (pieces n (drop start text))) ≡ placesFor (spacesOf fs₀ es) (pieces n text)
+
+pub planning-begins : (n : ℕ) (text : Bytes) (es fs qs : List ℕ) → length qs ≡ length (pieces n text) → Planning n text es fs qs fs qs 0 0
+planning-begins n text es fs qs e = record { starts-long = refl; places-long = refl; count = omega arith; left = go (placesFor (spacesOf fs es) (pieces n text)) }
+  where
+    go : (o : Option (List ℕ)) → behind [] o ≡ o
+    go none = refl
+    go (some m) = refl
+
+module _ (n : ℕ) (some-room : 1 ≤ n) (text : Bytes) (es fs₀ qs₀ fs qs : List ℕ) (start i : ℕ) (g : Planning n text es fs₀ qs₀ fs qs start i) where
+  module _ (h : start < length text) (k : ℕ) (next : k ≡ nextLength n (length text - start)) where
+    abbrev piece : Bytes
+    piece = take k (drop start text)
+
+    abbrev later : List Bytes
+    later = pieces n (drop (start + k) text)
+
+    more : pieces n (drop start text) ≡ piece ∷ later
+    more = pieces-next n some-room text start k next h
+
+    piece-long : length piece ≡ k
+    piece-long = omega (arith, length-take k (drop start text), length-drop start text, next-some n some-room text start k next h)
+
+    -- there is a place in the plan for the piece
+    pub planning-room : i < length qs
+    planning-room = omega (arith, g .count, ap length more, g .places-long)
+
+    tried : (r : Place) (fs′ : List ℕ) → firstFit (block .headerSize + k) (spacesOf fs es) ≡ fitOf r (spacesOf fs′ es)
+        → behind (take i qs) (bind (fitOf r (spacesOf fs′ es)) (λ f. placeThen (f .place) (placesFor (f .left) later))) ≡ placesFor (spacesOf fs₀ es) (pieces n text)
+    unfolding placesFor
+    tried r fs′ e =
+        let w = rw more at (g .left) in
+        let v : behind (take i qs) (bind (firstFit (block .headerSize + k) (spacesOf fs es)) (λ f. placeThen (f .place) (placesFor (f .left) later))) ≡ placesFor (spacesOf fs₀ es) (pieces n text) =
+        rw piece-long at w in
+        rw e at v
+
+    pub planning-fails : (r : Place) (fs′ : List ℕ) → firstFit (block .headerSize + k) (spacesOf fs es) ≡ fitOf r (spacesOf fs′ es) → r ≡ Nowhere
+        → placesFor (spacesOf fs₀ es) (pieces n text) ≡ none
+    planning-fails r fs′ e q = sym (rw q at (tried r fs′ e))
+
+    pub planning-on : (r : Place) (fs′ : List ℕ) → length fs′ ≡ length fs → firstFit (block .headerSize + k) (spacesOf fs es) ≡ fitOf r (spacesOf fs′ es)
+        → (q : ℕ) → r ≡ At q → Planning n text es fs₀ qs₀ fs′ (set qs i q) (start + k) (i + 1)
+    planning-on r fs′ l e q a = record {
+      starts-long = l ∙ g .starts-long;
+      places-long = length-set qs i q ∙ g .places-long;
+      count = omega (arith, g .count, ap length more);
+      left = go (placesFor (spacesOf fs′ es) later) (rw a at (tried r fs′ e));
+    }
+      where
+        go : (o : Option (List ℕ)) → behind (take i qs) (placeThen q o) ≡ placesFor (spacesOf fs₀ es) (pieces n text)
+            → behind (take (i + 1) (set qs i q)) o ≡ placesFor (spacesOf fs₀ es) (pieces n text)
+        go none w = w
+        go (some m) w =
+            let b : take (i + 1) (set qs i q) ++ m ≡ take i qs ++ (q ∷ m) = rw (add-one, take-suc-set qs i q planning-room) (append-assoc (take i qs) (q ∷ []) m) in
+            ap some b ∙ w
+
+  pub planning-ends : length text ≤ start → placesFor (spacesOf fs₀ es) (pieces n text) ≡ some qs
+  unfolding placesFor
+  planning-ends h =
+      let z = pieces-end n text start h in
+      let a : length qs ≤ i = omega (arith, g .count, ap length z, g .places-long) in
+      let w : some (take i qs ++ []) ≡ placesFor (spacesOf fs₀ es) (pieces n text) = rw z at (g .left) in
+      sym w ∙ ap some (append-nil (take i qs) ∙ take-all i qs a)
+
+-- places in the free space of a mounted volume, by its rows
+pub rows-planned : {image : Bytes} {m : Mounted} {t : List ℕ} → Safe image m t → (fs es : List ℕ) (ps : List Bytes) (r : Bool) (qs : List ℕ)
+    → spacesOf fs es ≡ rowSpaces t 0 (m .files) → placesFor (spacesOf fs es) ps ≡ plannedOf r qs
+    → ((ds : List Descriptor) → Holds image ds m t → placesFor (spaces image (fileAreas image ds)) ps ≡ plannedOf r qs) × PlannedAt (length image) ps (plannedOf r qs)
+rows-planned {image} {m} {t} s fs es ps r qs e q =
+    let here : placesFor (rowSpaces t 0 (m .files)) ps ≡ plannedOf r qs = rw e at q in (
+      (λ ds h. ap (λ (ss : List Space). placesFor ss ps) (sym (rows-are s h)) ∙ here),
+      subst (PlannedAt (length image) ps) here (places-planned (length image) (rowSpaces t 0 (m .files)) ps (rows-within s)),
+    )
+
+-- ---- ids
+
+-- i ids are taken of those that are not among the names, and marked
+pub record Taking (names₀ words₀ ids₀ words ids : List ℕ) (i : ℕ) : Type 0 where
+  pub names : List ℕ
+  pub words-long : length words ≡ length words₀
+  pub ids-long : length ids ≡ length ids₀
+  pub within : i ≤ length ids₀
+  pub few : length names ≡ length names₀ + i
+  pub marks : Marks firstBlockId names words
+  pub left : take i ids ++ idsFor names (length ids₀ - i) ≡ idsFor names₀ (length ids₀)
+
+pub taking-begins : (names words ids : List ℕ) → Marks firstBlockId names words → Taking names words ids words ids 0
+taking-begins names words ids m = record {
+  names = names;
+  words-long = refl;
+  ids-long = refl;
+  within = omega arith;
+  few = omega arith;
+  marks = m;
+  left = rw (sub-zero (length ids));
+}
+
+module _ {names₀ words₀ ids₀ words ids : List ℕ} {i : ℕ} (g : Taking names₀ words₀ ids₀ words ids i) where
+  module _ (room : length names₀ + length ids₀ < capacity words₀) (h : i < length ids₀) where
+    enough : length (g .names) < capacity words
+    enough = omega (arith, g .few, g .words-long)
+
+    pub taking-room : firstZero (bits words) < capacity words
+    taking-room = unused-within firstBlockId (g .names) words (g .marks) enough
+
+    pub taking-on : {words′ : List ℕ} (r : ℕ) → length words′ ≡ length words
+        → ((names : List ℕ) → Marks firstBlockId names words → length names < capacity words → (r ≡ unusedId firstBlockId names) × Marks firstBlockId (r ∷ names) words′)
+        → Taking names₀ words₀ ids₀ words′ (set ids i r) (i + 1)
+    unfolding idsFor
+    taking-on {words′} r long took =
+        let t = took (g .names) (g .marks) enough in
+        let d : length ids₀ - i ≡ suc (length ids₀ - (i + 1)) = omega arith in
+        let front : take (i + 1) (set ids i r) ≡ take i ids ++ (r ∷ []) = rw add-one (take-suc-set ids i r (omega (arith, g .ids-long))) in
+        let w : take i ids ++ (unusedId firstBlockId (g .names) ∷ idsFor (unusedId firstBlockId (g .names) ∷ g .names) (length ids₀ - (i + 1))) ≡ idsFor names₀ (length ids₀) =
+        rw d at (g .left) in
+        record {
+          names = r ∷ g .names;
+          words-long = long ∙ g .words-long;
+          ids-long = length-set ids i r ∙ g .ids-long;
+          within = omega arith;
+          few = omega (arith, g .few);
+          marks = t .1;
+          left =
+              ap (λ (l : List ℕ). l ++ idsFor (r ∷ g .names) (length ids₀ - (i + 1))) front
+              ∙ append-assoc (take i ids) (r ∷ []) (idsFor (r ∷ g .names) (length ids₀ - (i + 1)))
+              ∙ rw (t .0) w;
+        }
+
+  pub taking-ends : length ids₀ ≤ i → ids ≡ idsFor names₀ (length ids₀)
+  unfolding idsFor
+  taking-ends h =
+      let d : length ids₀ - i ≡ 0 = omega arith in
+      let w : take i ids ++ [] ≡ idsFor names₀ (length ids₀) = rw d at (g .left) in
+      sym (append-nil (take i ids) ∙ take-all i ids (omega (arith, g .ids-long))) ∙ w
+
+-- ---- stores
+
+-- the pieces before start are stored, and those to come make the whole
+pub record Storing (n : ℕ) (text : Bytes) (is qs : List ℕ) (f last : ℕ) (x₀ x : Bytes) (previous start i : ℕ) : Type 0 where
+  pub long : length x ≡ length x₀
+  pub count : i + length (pieces n (drop start text)) ≡ length is
+  pub ends : Ends (length x₀) (pieces n (drop start text)) (drop i qs)
+  pub left : storeAll x (storesOf (drop i is) f previous (pieces n (drop start text)) (drop i qs)) ≡ storeAll x₀ (storesOf is f last (pieces n text) qs)
+
+-- as many ids and places as pieces, and the places in the image
+pub record Ready (n : ℕ) (text : Bytes) (is qs : List ℕ) (x : Bytes) : Type 0 where
+  pub some-room : 1 ≤ n
+  pub small : n ≤ longestData
+  pub ids-count : length is ≡ length (pieces n text)
+  pub planned : Planned (length x) (pieces n text) qs
+
+pub storing-begins : {n : ℕ} {text : Bytes} {is qs : List ℕ} {x : Bytes} (f last : ℕ) → Ready n text is qs x → Storing n text is qs f last x x last 0 0
+storing-begins f last r = record { long = refl; count = omega (arith, r .ids-count); ends = r .planned .ends; left = refl }
+
+module _ {n : ℕ} {text : Bytes} {is qs : List ℕ} {f last : ℕ} {x₀ x : Bytes} {previous start i : ℕ} (ready : Ready n text is qs x₀)
+    (g : Storing n text is qs f last x₀ x previous start i) where
+  module _ (h : start < length text) (k : ℕ) (next : k ≡ nextLength n (length text - start)) where
+    abbrev stored : Bytes
+    stored = take k (drop start text)
+
+    rest : pieces n (drop start text) ≡ stored ∷ pieces n (drop (start + k) text)
+    rest = pieces-next n (ready .some-room) text start k next h
+
+    pub stored-long : length stored ≡ k
+    stored-long = omega (arith, length-take k (drop start text), length-drop start text, next-some n (ready .some-room) text start k next h)
+
+    pub storing-room : (i < length is) × (i < length qs)
+    storing-room = (omega (arith, g .count, ap length rest), omega (arith, g .count, ap length rest, ready .ids-count, ready .planned .count))
+
+    both-end : (getD qs i 0 + (block .headerSize + length stored) ≤ length x₀) × Ends (length x₀) (pieces n (drop (start + k) text)) (drop (i + 1) qs)
+    unfolding Ends
+    both-end = rw add-one (rw (rest, drop-cons qs i 0 (storing-room .1)) at (g .ends))
+
+    pub storing-fits : getD qs i 0 + (block .headerSize + length stored) ≤ length x
+    storing-fits = rw (g .long) (both-end .0)
+
+    pub storing-on : Storing n text is qs f last x₀ (put x (getD qs i 0) (blockBytes (getD is i 0) 0 f previous stored)) (getD is i 0) (start + k) (i + 1)
+    unfolding storesOf storeAll
+    storing-on = record {
+      long =
+          length-put x (getD qs i 0) (blockBytes (getD is i 0) 0 f previous stored) (rw (block-size (getD is i 0) 0 f previous stored) storing-fits)
+          ∙ g .long;
+      count = omega (arith, g .count, ap length rest);
+      ends = both-end .1;
+      left = rw add-one (rw (rest, drop-cons qs i 0 (storing-room .1), drop-cons is i 0 (storing-room .0)) at (g .left));
+    }
+
+  pub storing-ends : length text ≤ start → x ≡ storeAll x₀ (storesOf is f last (pieces n text) qs)
+  unfolding storesOf storeAll
+  storing-ends h =
+      let z = pieces-end n text start h in
+      let e : drop i is ≡ [] = drop-of-length-le is {i = i} (omega (arith, g .count, ap length z)) in
+      rw (z, e) at (g .left)

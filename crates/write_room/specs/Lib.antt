@@ -1,0 +1,4 @@
+-- The free space of areas in two slices, and the first of it with room.
+pub mod Spaces
+pub mod First
+pub mod Rows

@@ -1,0 +1,87 @@
+-- Free space as two lists of numbers, and where a record goes. Document 01, "Create, append, unlink".
+use Prim.Native.Nat.{ℕ, _+_, _≤_, _<_}
+use mathlib.Core.Path.{_≡_, refl, ap, subst}
+use mathlib.Core.Bool.{Bool, true, false, cond}
+use mathlib.Core.Option.{Option, none, some}
+use mathlib.Core.List.{List, [], _∷_, _++_}
+use native.Mathlib.Omega.{arith}
+use native.Mathlib.Numerals.{add-one}
+use lib.ListN.{length, take, set, length-take}
+use lib.Seq.{take-suc-set}
+use lib.Dec.{leb}
+use borrow.Author.Tests.{leb-true}
+use Rattle.calls.specs.Storing.{Space, Fit, keepSpace, firstFit}
+use Rattle.calls_laws.specs.Storing.{kept-fit}
+use Rattle.write_room.specs.declared.Place.{Place}
+use Rattle.write_room.specs.declared.Place.the-variants.{At, Nowhere}
+
+-- the spaces that two slices hold: where each starts and where it ends
+unfoldable pub spacesOf : List ℕ → List ℕ → List Space
+spacesOf [] es = []
+spacesOf (f ∷ fs) [] = []
+spacesOf (f ∷ fs) (e ∷ es) = record { from = f; end = e } ∷ spacesOf fs es
+
+-- what an answer of `take_place` says, with the spaces left
+abbrev pub fitOf : Place → List Space → Option Fit
+fitOf (At p) left = some (record { place = p; left = left })
+fitOf Nowhere left = none
+
+-- what an answer of `place_one` says
+abbrev pub placeOf : Place → Option ℕ
+placeOf (At p) = some p
+placeOf Nowhere = none
+
+-- the place of a fit
+abbrev pub placeIn : Option Fit → Option ℕ
+placeIn none = none
+placeIn (some f) = some (f .place)
+
+pub place-of-fit : (r : Place) (left : List Space) → placeOf r ≡ placeIn (fitOf r left)
+place-of-fit (At p) left = refl
+place-of-fit Nowhere left = refl
+
+-- n bytes at the place end within m
+abbrev pub EndsAt : ℕ → ℕ → Place → Type 0
+EndsAt n m (At p) = p + n ≤ m
+EndsAt n m Nowhere = Unit {0}
+
+-- every space ends within m
+abbrev pub Within : ℕ → List Space → Type 0
+Within m [] = Unit {0}
+Within m (s ∷ ss) = (s .end ≤ m) × Within m ss
+
+-- what fits lies within what the spaces lie within, and so do the spaces left
+pub fit-within : (n m : ℕ) (ss : List Space) (f : Fit) → firstFit n ss ≡ some f → Within m ss → (f .place + n ≤ m) × Within m (f .left)
+unfolding firstFit
+fit-within n m [] f e w = let z : _≡_ {A = ℕ} 0 1 = cc in absurd (omega arith)
+fit-within n m (s ∷ ss) f e w = go (leb (s .from + n) (s .end)) refl (λ g q. fit-within n m ss g q (w .1)) e
+  where
+    go : (b : Bool) → leb (s .from + n) (s .end) ≡ b → ((g : Fit) → firstFit n ss ≡ some g → (g .place + n ≤ m) × Within m (g .left))
+        → cond b (some (record { place = s .from; left = record { from = s .from + n; end = s .end } ∷ ss })) (keepSpace s (firstFit n ss)) ≡ some f
+        → (f .place + n ≤ m) × Within m (f .left)
+    go true t ih q =
+        let r : _≡_ {A = Fit} (record { place = s .from; left = record { from = s .from + n; end = s .end } ∷ ss }) f = cc in
+        subst (λ (x : Fit). (x .place + n ≤ m) × Within m (x .left)) r (omega (arith, leb-true (s .from + n) (s .end) t, w .0), w)
+    go false t ih q =
+        let k = kept-fit s (firstFit n ss) f q in
+        let h = ih (k .0) (k .1) in
+        (rw (k .2) (h .0), rw (k .3) (w .0, h .1))
+
+pub fit-place : (n m : ℕ) (ss : List Space) (r : Place) (left : List Space) → firstFit n ss ≡ fitOf r left → Within m ss → EndsAt n m r
+fit-place n m ss (At p) left e w = fit-within n m ss _ e w .0
+fit-place n m ss Nowhere left e w = tt
+
+-- one space more behind
+join-one : (fs es : List ℕ) (f e : ℕ) → length fs ≡ length es
+    → spacesOf (fs ++ (f ∷ [])) (es ++ (e ∷ [])) ≡ spacesOf fs es ++ (record { from = f; end = e } ∷ [])
+unfolding spacesOf
+join-one [] [] f e h = refl
+join-one [] (m ∷ es) f e h = absurd (omega arith)
+join-one (p ∷ fs) [] f e h = absurd (omega arith)
+join-one (p ∷ fs) (m ∷ es) f e h = ap (λ (l : List Space). record { from = p; end = m } ∷ l) (join-one fs es f e (omega arith))
+
+pub spaces-more : (fs es : List ℕ) (k f e : ℕ) → k < length fs → k < length es
+    → spacesOf (take (k + 1) (set fs k f)) (take (k + 1) (set es k e)) ≡ spacesOf (take k fs) (take k es) ++ (record { from = f; end = e } ∷ [])
+spaces-more fs es k f e h g =
+    rw (add-one, take-suc-set fs k f h, take-suc-set es k e g)
+    (join-one (take k fs) (take k es) f e (omega (arith, length-take k fs, length-take k es)))

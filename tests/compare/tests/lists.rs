@@ -1,0 +1,75 @@
+//! Lists of areas of every length up to 12 entries, with the mark that ends them at each place, on the proved calls and on the model.
+
+use nffs_compare::Proved;
+use nffs_model::compare::{run, show, Call, Case, Model, Tally};
+
+/// The most entries of a list here; a good one has 8 at most.
+const MOST: u32 = 12;
+const LENGTH: u32 = 256;
+
+/// Every call once, and format last.
+fn calls() -> Vec<Call> {
+    let (base, root, file) = (Vec::new(), b"/".to_vec(), b"/f".to_vec());
+    vec![
+        Call::Report,
+        Call::Lookup { base: base.clone(), path: root },
+        Call::Create { base: base.clone(), path: file.clone(), kind: 1 },
+        Call::Append { base: base.clone(), path: file.clone(), data: vec![7; 50] },
+        Call::Open { base: base.clone(), path: file.clone() },
+        Call::Read { length: 20 },
+        Call::ReadAt { id: 0x1000_0000, position: 10, length: 50 },
+        Call::Collect,
+        Call::Unlink { base, path: file },
+        Call::Format,
+    ]
+}
+
+fn entries(count: u32) -> Vec<u32> {
+    (0..count).flat_map(|i| [i * LENGTH, LENGTH]).collect()
+}
+
+/// All calls under a list, on an image that was formatted with its first `formatted` entries.
+fn compare(formatted: u32, areas: Vec<u32>, tally: &mut Tally) {
+    let mut image = vec![0; (MOST * LENGTH) as usize];
+    nffs_model::format(&mut image, &entries(formatted));
+    let case = Case { image, areas, calls: calls() };
+    let model = Model::default();
+    if run(&case, &Proved, &model, tally).is_some() {
+        panic!("{}", show(&case, &Proved, &model));
+    }
+}
+
+#[test]
+fn every_length_and_every_end() {
+    let mut tally = Tally::default();
+    for formatted in 2..=8 {
+        for count in 0..=MOST {
+            compare(formatted, entries(count), &mut tally);
+            for end in 0..count {
+                let mut ended = entries(count);
+                ended[2 * end as usize + 1] = 0;
+                compare(formatted, ended, &mut tally);
+            }
+        }
+    }
+    println!("{} calls: {:?}", tally.calls, tally.answers);
+    for call in ["Report", "Lookup", "Create", "Append", "Open", "Read", "ReadAt", "Collect", "Unlink", "Format"] {
+        for number in [0, 1, 3] {
+            assert!(tally.answers.contains_key(&(call, number)), "{call} never answered {number}");
+        }
+    }
+}
+
+/// The ninth entry refuses a list, wherever it lies, and what stands behind the end does not.
+#[test]
+fn the_ninth_entry() {
+    let mut image = vec![0; (MOST * LENGTH) as usize];
+    assert_eq!(nffs_compare::format(&mut image, &entries(8)), 0);
+    for count in 9..=MOST {
+        let mut list = entries(count);
+        assert_eq!(nffs_compare::report(&image, &list).number, 1);
+        list[2 * 8 + 1] = 0;
+        assert_eq!(nffs_compare::report(&image, &list).number, 0);
+    }
+    assert_eq!(nffs_compare::report(&image, &[]).number, 1);
+}
