@@ -1,8 +1,6 @@
 // Document 01's program: the state of the image on standard input, cut into areas of 4,096 bytes.
+ghost use Rattle.io.specs.Counts.{Counts};
 use program_input::report_input;
-
-// The longest input that can be an image.
-const LARGEST: usize = 65536;
 
 // Prints a word and a number.
 fn show(word: &[u8], n: u32) {
@@ -10,19 +8,57 @@ fn show(word: &[u8], n: u32) {
     io::print_decimal(1, n as u64);
 }
 
-// Reads what is left of standard input, so that its writer can end; answers whether there was any.
-fn drain() -> bool {
-    let mut any = false;
+// What came from standard input: how many bytes, and whether no read failed.
+struct Input {
+    good: bool,
+    count: usize,
+}
+
+// Reads standard input up to its end, or until the buffer is full.
+fn fill(buffer: &mut [u8]) -> Input
+    ensures { λ r. ⌜ Counts (r .count) (now (buffer .exit)) ⌝ }
+{
+    let mut n = 0;
+    while n < buffer.len() {
+        let got = libc::read(0, &mut buffer[n..]);
+        if got < 0 {
+            return Input {
+                good: false,
+                count: n,
+            };
+        }
+        let more = io::count(got, &buffer[n..]);
+        if more == 0 {
+            break;
+        }
+        n += more;
+    }
+    Input {
+        good: true,
+        count: n,
+    }
+}
+
+// Reads what is left of standard input, so that its writer can end; the count is not 0 where there was any.
+fn drain() -> Input {
+    let mut rest = Input {
+        good: true,
+        count: 0,
+    };
     let mut left: u64 = 0xffffffff;
     while 0 < left {
-        let mut rest = io::buffer();
-        if io::read_full(0, &mut rest) == 0 {
-            return any;
+        let mut buffer = io::buffer();
+        let input = fill(&mut buffer);
+        if !input.good {
+            return input;
         }
-        any = true;
+        if input.count == 0 {
+            return rest;
+        }
+        rest = input;
         left -= 1;
     }
-    any
+    rest
 }
 
 // Prints the report of an input.
@@ -39,11 +75,18 @@ fn print(image: &[u8]) {
     }
 }
 
-// Reads the image. Input longer than any image is answered as empty input is: it is no image.
+// Reads the image and reports on it. Input longer than any image is answered as empty input is: it is no image. Where a read fails, nothing
+// is known of the image, and nothing is reported.
 fn main() {
     let mut image = io::large_buffer();
-    let n = io::read_full(0, &mut image);
-    if drain() {
+    let input = fill(&mut image);
+    let rest = drain();
+    if !input.good || !rest.good {
+        io::write_all(2, b"standard input could not be read\n");
+        return;
+    }
+    let n = input.count;
+    if 0 < rest.count {
         print(b"");
         return;
     }

@@ -1,6 +1,9 @@
 //! Document 01's program, run on images on its standard input and compared with what that document says it prints.
 
+use std::fs::File;
 use std::io::Write;
+use std::os::fd::OwnedFd;
+use std::os::unix::net::UnixStream;
 use std::process::{Command, Stdio};
 
 use nffs_model::forge::Flash;
@@ -10,10 +13,13 @@ const FILE: u32 = 0x1000_0000;
 const BLOCK: u32 = 0x8000_0000;
 const NONE: u32 = 0xffff_ffff;
 
+fn command() -> Command {
+    Command::new(std::env::var("NFFS_PROGRAM").expect("NFFS_PROGRAM: the program's path"))
+}
+
 /// What the program prints for an input.
 fn program(input: &[u8]) -> String {
-    let path = std::env::var("NFFS_PROGRAM").expect("NFFS_PROGRAM: the program's path");
-    let mut child = Command::new(path).stdin(Stdio::piped()).stdout(Stdio::piped()).spawn().expect("the program");
+    let mut child = command().stdin(Stdio::piped()).stdout(Stdio::piped()).spawn().expect("the program");
     child.stdin.take().expect("standard input").write_all(input).expect("the program reads to the end of its input");
     let output = child.wait_with_output().expect("the program ends");
     assert!(output.status.success());
@@ -183,11 +189,34 @@ fn an_older_version_read_last() {
     assert_eq!(program(&flash.image), report(2, 1, 0, 0));
 }
 
+/// A read that fails is not the end of the input: whole areas may have come before it, and nothing is reported of them.
+#[test]
+fn input_that_cannot_be_read() {
+    let mut image = vec![0; 8192];
+    assert_eq!(nffs_compare::format(&mut image, &[0, 4096, 4096, 4096]), 0);
+    let fails = |input: Stdio| {
+        let output = command().stdin(input).output().expect("the program ends");
+        assert_eq!(String::from_utf8_lossy(&output.stdout), "");
+        assert_eq!(String::from_utf8_lossy(&output.stderr), "standard input could not be read\n");
+    };
+    fails(Stdio::from(File::open(".").expect("a folder, which no read takes")));
+    for length in [0, 4096, 8192] {
+        let (mut writer, reader) = UnixStream::pair().expect("a pair of sockets");
+        reader.set_nonblocking(true).expect("a reader that does not wait: its read fails where nothing has come yet");
+        writer.write_all(&image[..length]).expect("room for the image");
+        fails(Stdio::from(OwnedFd::from(reader)));
+    }
+}
+
 /// The command that README names, on the image that lies beside the program.
 #[test]
 fn the_command_of_the_readme() {
     let output = Command::new("../../report").arg("../../crates/program_report/stdin").output().expect("the command");
     assert!(output.status.success());
     assert_eq!(String::from_utf8(output.stdout).expect("text"), report(1, 1, 0, 0));
-    assert_eq!(Command::new("../../report").arg("no-such-image").output().expect("the command").status.code(), Some(2));
+    for image in ["no-such-image", "."] {
+        let output = Command::new("../../report").arg(image).output().expect("the command");
+        assert_eq!(output.status.code(), Some(2), "{image}");
+        assert!(output.stdout.is_empty(), "{image}");
+    }
 }

@@ -5,10 +5,10 @@ use Rattle.program_report.proofs.drain.Statement.{statement}
 use Rattle.program_report.proofs.drain.Tie as tie
 
 abbrev Inv-loop : tie.InvT-loop
-Inv-loop any₀ left₀ any left = left ≤ 4294967295
+Inv-loop rest₀ left₀ rest left = left ≤ 4294967295
 
 abbrev μ-loop : tie.MeasureT-loop
-μ-loop any₀ left₀ any left = left
+μ-loop rest₀ left₀ rest left = left
 
 pub drain-spec : {M : Type 1} → statement M
 drain-spec =
@@ -20,6 +20,7 @@ drain-spec =
     (λ c κs. search needs)
     (λ c. search needs)
     (λ c κs. search needs)
+    (λ c. search needs)
     (λ c. search needs)
     (λ c. search needs)
     (λ c. search needs)
