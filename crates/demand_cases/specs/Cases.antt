@@ -1,0 +1,107 @@
+-- What the demands say of some small volumes: each field is an instance of the field of a theorem that its comment names, or of a sentence of
+-- document 01, by computation. An edit of a definition that brings stale data back makes one of them false (tests/definitions), and with it the
+-- theorem.
+use mathlib.Core.Path.{_≡_, refl}
+use mathlib.Core.List.{List, [], _∷_}
+use mathlib.Core.Option.{some}
+use lib.ListN.{replicate}
+use Rattle.format.specs.Bytes.{Bytes, le16, le32}
+use Rattle.format.specs.Crc.{crcBit, crcByte, crcOver, check}
+use Rattle.format.specs.Ids.{isDirectoryId, isFileId, isInodeId, isBlockId}
+use Rattle.format.specs.Record.{recordSize, nameGood, inodeRule, previousRule, blockRule, inodeRules, blockRules, checkRight, wellFormed, acceptable}
+use Rattle.format.specs.AreaHeader.{magicsRight, validHeader, isScratch, isFileArea}
+use Rattle.format.specs.Encoding.{inodeFront, blockFront, sealed, inodeBytes, blockBytes, areaHeader}
+use Rattle.format.specs.Reading.{skip, parts, placed, erasedEnd, freeSize, damagedBytes, damaged, areaParts, areaRecords, areaDamage, areaFree}
+use Rattle.format.specs.Reading.{areaClean}
+use Rattle.format.specs.BlockSize.{greatestBlock}
+use Rattle.volume.specs.Lists.{keep, all, same, once, only}
+use Rattle.volume.specs.Counting.{volumeOf, versions, newest, counting, idsOf, agree, allAgree}
+use Rattle.volume.specs.Fate.{ascend, climb, fateOf, blockDead}
+use Rattle.volume.specs.Path.{splitByte, segments, goodSegment, goodSegments, isAbsolute, absoluteNames, goodAbsolute, goodPath, pathNames}
+use Rattle.volume.specs.Tree.{isEntry, isChild, children, walk, lookupNames}
+use Rattle.volume.specs.Contents.{owns, owned, unnamed, lastBlock, chainBack, fileBlocks}
+use Rattle.calls.specs.Image.{put}
+use Rattle.calls.specs.Areas.{goodArea, disjoint, allDisjoint, goodAreas, fileAreas, scratchAreas}
+use Rattle.calls.specs.Refusal.{firstRefusal}
+use Rattle.calls.specs.Mount.{recordsIn, acceptedRecords, volume, badDescription, sharedAreaId, wrongAreas, shortScratch, tooManyIds, noRoot}
+use Rattle.calls.specs.Mount.{mountChecks, mountNumber}
+use Rattle.calls.specs.Storing.{spaces, firstFit, placeAll, storeAll, namedByInodes, namedByBlocks, namedIds, isAmong, unusedFrom, unusedId}
+use Rattle.calls.specs.Format.{emptyArea, formatNumber, longestLength, numbered, labelled, blanked, rooted, formatted, imageFormatted}
+use Rattle.calls.specs.Attempt.{attemptAt}
+use Rattle.calls.specs.Create.{lastName, namesBefore, firstIdOf, newId, newInode, createIn, creating, createOf, imageCreated}
+use Rattle.calls.specs.Append.{shortestLength, cutInto, piecesOf, blockRecords, newBlocks, appendTo, appending, appendOf, imageAppended}
+use Rattle.calls.specs.Rewrite.{rewritten, rewritePlan, rewriteNumber, imageRewritten}
+use Rattle.calls.specs.Unlink.{deletion, unlinkOne, unlinking, unlinkOf, imageUnlinked}
+use Rattle.calls.specs.Collect.{eligible, precedes, firstLowest, sourceOf, isOther, recordsElsewhere, counts, firstPlaces, dropsBlock, namesInode}
+use Rattle.calls.specs.Collect.{dropsInode, drops, copies, isBlank, resetStores, readyStores, recordStores, nextCount, collectStores, collected}
+use Rattle.calls.specs.Collect.{collecting, collectOf, imageCollected}
+use Rattle.calls.specs.Areas.{areaBytes}
+use Rattle.calls.specs.Mount.{bytesOf, recordsOf}
+use Rattle.calls.specs.Lookup.{resolve}
+use Rattle.calls.specs.Read.{given, readGiven, give, giveBlocks}
+use Rattle.volume.specs.View.{byBytes}
+use Rattle.volume.specs.Counting.{inodeOf}
+use Rattle.volume.specs.Fate.{orphan}
+use Rattle.volume.specs.Tree.{absent}
+use Rattle.volume.specs.Contents.{textOf, headersFrom}
+use Rattle.demand_cases.specs.Volumes.{holding, area₀, two, three, rootRecord, file, other, a, b, slash}
+use Rattle.demand_cases.specs.Volumes.{oneByte, deleted, torn, orphaned, olderLast, usedScratch, clashing, twoFiles, firstHit, twins, looping}
+
+pub record Cases : Type 0 where
+  -- AfterFormat.records
+  pub format-writes-the-root : acceptedRecords (imageFormatted (replicate 320 0) two) two ≡ rootRecord ∷ []
+  -- AreasKept.reads: the untouched records, at their old places
+  pub untouched-read : bytesOf (recordsOf firstHit area₀) ≡ rootRecord ∷ inodeBytes other 0 0 b ∷ []
+  -- Greatest.top
+  pub greatest-counts : inodeOf byBytes (volume olderLast two) file ≡ some (inodeBytes file 1 0 a)
+  -- "no missing or looping parent"; were it live, FileKept.path would have it found at the names above it, which lead nowhere
+  pub loop-orphan : fateOf byBytes (volume looping two) file ≡ orphan
+  -- FileKept.path: "refused as ambiguous exactly when .. a name on it belongs to two or more live children"
+  pub twins-ambiguous : resolve twins two [] (slash a) ≡ absent 10
+  -- AfterAppend.reads-both: "the file reads as its old contents and then the new data"
+  pub append-reads : readGiven (imageAppended oneByte two [] (slash a) (0x6b ∷ [])) two file 0 9 ≡ given (0x6f ∷ 0x6b ∷ []) 2
+  -- AfterUnlink.path-lost
+  pub unlink-loses : resolve (imageUnlinked oneByte two [] (slash a)) two [] (slash a) ≡ absent 9
+  -- AfterCreate.went, RecordFits.clean: "a damaged area waits for collection"
+  pub create-leaves-torn : areaBytes (imageCreated torn three [] (slash a) 1) area₀ ≡ areaBytes torn area₀
+  -- AfterCreate.unused: the directory id 1 is named as a parent
+  pub create-takes-unnamed : createOf orphaned two [] (slash b) 0 .id ≡ 2
+  -- AfterCollect.now-scratch
+  pub collect-frees : scratchAreas (imageCollected oneByte two) two ≡ area₀ ∷ []
+  -- AfterCollect.no-new-life
+  pub collect-keeps-deleted : resolve (imageCollected deleted three) three [] (slash a) ≡ absent 9
+  -- AfterCollect.paths: scratch, which is erased, held nothing that counts
+  pub collect-of-used-scratch : resolve (imageCollected usedScratch two) two [] (slash a) ≡ resolve usedScratch two [] (slash a)
+  -- AfterCollect.paths: where versions clash, which of them counts would change with the areas' order
+  pub collect-of-clashing : resolve (imageCollected clashing three) three [] (slash a) ≡ resolve clashing three [] (slash a)
+
+pub cases : Cases
+unfolding
+    holding oneByte deleted torn orphaned olderLast usedScratch clashing twoFiles firstHit twins looping resolve readGiven give giveBlocks textOf
+    headersFrom areaHeader inodeBytes blockBytes sealed inodeFront blockFront le16 le32 crcBit crcByte crcOver check isDirectoryId isFileId
+    isInodeId isBlockId recordSize nameGood inodeRule previousRule blockRule inodeRules blockRules checkRight wellFormed acceptable magicsRight
+    validHeader isScratch isFileArea skip parts placed erasedEnd freeSize damagedBytes damaged areaParts areaRecords areaDamage areaFree areaClean
+    greatestBlock keep all same once only volumeOf versions newest counting idsOf agree allAgree ascend climb fateOf blockDead splitByte segments
+    goodSegment goodSegments isAbsolute absoluteNames goodAbsolute goodPath pathNames isEntry isChild children walk lookupNames owns owned unnamed
+    lastBlock chainBack fileBlocks put goodArea disjoint allDisjoint goodAreas fileAreas scratchAreas firstRefusal recordsIn acceptedRecords volume
+    badDescription sharedAreaId wrongAreas shortScratch tooManyIds noRoot mountChecks mountNumber spaces firstFit placeAll storeAll namedByInodes
+    namedByBlocks namedIds isAmong unusedFrom unusedId emptyArea formatNumber longestLength numbered labelled blanked rooted formatted
+    imageFormatted attemptAt lastName namesBefore firstIdOf newId newInode createIn creating createOf imageCreated shortestLength cutInto piecesOf
+    blockRecords newBlocks appendTo appending appendOf imageAppended deletion rewritten rewritePlan rewriteNumber imageRewritten unlinkOne unlinking
+    unlinkOf imageUnlinked eligible precedes firstLowest sourceOf isOther recordsElsewhere counts firstPlaces dropsBlock namesInode dropsInode drops
+    copies isBlank resetStores readyStores recordStores nextCount collectStores collected collecting collectOf imageCollected
+cases = record {
+  format-writes-the-root = refl;
+  untouched-read = refl;
+  greatest-counts = refl;
+  loop-orphan = refl;
+  twins-ambiguous = refl;
+  append-reads = refl;
+  unlink-loses = refl;
+  create-leaves-torn = refl;
+  create-takes-unnamed = refl;
+  collect-frees = refl;
+  collect-keeps-deleted = refl;
+  collect-of-used-scratch = refl;
+  collect-of-clashing = refl;
+}

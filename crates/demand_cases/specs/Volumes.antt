@@ -1,0 +1,95 @@
+-- Small volumes for the cases: areas of 160 bytes, the last of them scratch.
+use Prim.Native.Nat.{ℕ, _-_}
+use mathlib.Core.List.{List, [], _∷_, _++_}
+use lib.ListN.{length, set, replicate}
+use Rattle.format.specs.Bytes.{Bytes}
+use Rattle.format.specs.Ids.{NONE}
+use Rattle.format.specs.Reading.{ERASED}
+use Rattle.format.specs.Encoding.{inodeBytes, blockBytes, areaHeader}
+use Rattle.calls.specs.declared.Descriptor.{Descriptor}
+
+-- an area with a collection count and an id: records one behind the other, and then free space
+unfoldable pub holding : ℕ → ℕ → Bytes → Bytes
+holding count id records = let front = areaHeader 160 count id ++ records in front ++ replicate (160 - length front) ERASED
+
+abbrev pub area₀ : Descriptor
+area₀ = record { offset = 0; length = 160 }
+
+abbrev pub area₁ : Descriptor
+area₁ = record { offset = 160; length = 160 }
+
+abbrev pub area₂ : Descriptor
+area₂ = record { offset = 320; length = 160 }
+
+-- a file area and scratch, and two file areas and scratch
+abbrev pub two : List Descriptor
+two = area₀ ∷ area₁ ∷ []
+
+abbrev pub three : List Descriptor
+three = area₀ ∷ area₁ ∷ area₂ ∷ []
+
+-- ---- records
+
+abbrev pub rootRecord : Bytes
+rootRecord = inodeBytes 0 0 NONE []
+
+-- the file a, and the names "a" and "b"
+abbrev pub file : ℕ
+file = 0x10000000
+
+abbrev pub other : ℕ
+other = 0x10000001
+
+abbrev pub a : Bytes
+a = 0x61 ∷ []
+
+abbrev pub b : Bytes
+b = 0x62 ∷ []
+
+abbrev pub slash : Bytes → Bytes
+slash name = 0x2f ∷ name
+
+-- ---- volumes
+
+-- the file a with a block of one byte
+unfoldable pub oneByte : Bytes
+oneByte = holding 0 0 (rootRecord ++ (inodeBytes file 0 0 a ++ blockBytes 0x80000000 0 file NONE (0x6f ∷ []))) ++ holding 0 255 []
+
+-- a was deleted; its deletion record lies in the area that is collected, its older record in the other
+unfoldable pub deleted : Bytes
+deleted = holding 0 0 (rootRecord ++ inodeBytes file 1 NONE []) ++ (holding 1 1 (inodeBytes file 0 0 a) ++ holding 0 255 [])
+
+-- the first area ends in a torn record
+unfoldable pub torn : Bytes
+torn = holding 0 0 (rootRecord ++ (0xc0 ∷ 0x8b ∷ [])) ++ (holding 1 1 [] ++ holding 0 255 [])
+
+-- a file below the directory 1, of which there is no record
+unfoldable pub orphaned : Bytes
+orphaned = holding 0 0 (rootRecord ++ inodeBytes file 0 1 a) ++ holding 0 255 []
+
+-- the file was named b and is named a: the older record is read last
+unfoldable pub olderLast : Bytes
+olderLast = holding 0 0 (rootRecord ++ (inodeBytes file 1 0 a ++ inodeBytes file 0 0 b)) ++ holding 0 255 []
+
+-- scratch still holds a record of a
+unfoldable pub usedScratch : Bytes
+usedScratch = holding 0 0 rootRecord ++ holding 0 255 (inodeBytes file 0 0 a)
+
+-- two versions of one sequence, one in each file area
+unfoldable pub clashing : Bytes
+clashing = holding 0 0 (rootRecord ++ inodeBytes file 0 0 a) ++ (holding 1 1 (inodeBytes file 0 0 b) ++ holding 0 255 [])
+
+-- two files, and the first one's record overwritten in a byte: its name's length, by which more than the other file would be skipped
+unfoldable pub twoFiles : Bytes
+twoFiles = holding 0 0 (rootRecord ++ (inodeBytes file 0 0 a ++ inodeBytes other 0 0 b)) ++ holding 0 255 []
+
+unfoldable pub firstHit : Bytes
+firstHit = set twoFiles 61 200
+
+-- two files of one name
+unfoldable pub twins : Bytes
+twins = holding 0 0 (rootRecord ++ (inodeBytes file 0 0 a ++ inodeBytes other 0 0 a)) ++ holding 0 255 []
+
+-- the directories 1 and 2, each below the other, and a file in one
+unfoldable pub looping : Bytes
+looping = holding 0 0 (rootRecord ++ (inodeBytes 1 0 2 a ++ (inodeBytes 2 0 1 b ++ inodeBytes file 0 1 a))) ++ holding 0 255 []

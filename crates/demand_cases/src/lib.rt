@@ -1,0 +1,1 @@
+// Worked cases only, in specs/: what the demands say of some small volumes, by computation.
