@@ -45,8 +45,8 @@ typedef struct nffs_handle {
     uint32_t position;
 } nffs_handle;
 
-/* The number in an answer: 0, or why the call was refused. The checks are made in this order, and the first that fails is answered, but
-   that create and append ask 5 again just before 15, with the new records counted in, and unlink asks 16 before 15. */
+/* The number in an answer: 0, or why the call was refused. The first check that fails is answered; with each call below stands which it
+   makes, and in which order, which is not always that of the numbers. */
 enum {
     NFFS_OK = 0,
     NFFS_BAD_AREAS = 1,           /* image over 65,536 bytes, or areas not good */
@@ -114,45 +114,49 @@ typedef struct nffs_create_answer {
 
 /* The calls of the archive. Behind each pointer to more than one element stands how many there are: bytes, or areas. */
 
-/* Erases the areas and makes an empty volume of them: the longest, first among equals, is scratch, and the others are file areas. Needs two
-   areas. */
+/* Erases the areas and makes an empty volume of them: the longest, first among equals, is scratch, and the others are file areas. Needs
+   two areas. Checks in order: 1, 3. */
 uint32_t nffs_format(uint8_t *image, size_t image_length, const nffs_area *areas, size_t areas_count);
 
-/* The state of a volume: whether it mounts, and what is in it. */
+/* The state of a volume: whether it mounts, and what is in it. Checks in order: 1 to 7. */
 nffs_report_answer nffs_report(const uint8_t *image, size_t image_length, const nffs_area *areas, size_t areas_count);
 
-/* What a path leads to: id and kind. */
+/* What a path leads to: id and kind. Checks in order: 1 to 7, 8, then 9, 10 or 11 at the first step of the path that fails. */
 nffs_lookup_answer nffs_lookup(const uint8_t *image, size_t image_length, const nffs_area *areas, size_t areas_count,
                                const uint8_t *base, size_t base_length, const uint8_t *path, size_t path_length);
 
-/* Opens the file of a path, at position 0. */
+/* Opens the file of a path, at position 0. Checks in order: 1 to 7, 8, then 9, 10 or 11 at the first step of the path that fails, 11
+   for a directory. */
 nffs_open_answer nffs_open(const uint8_t *image, size_t image_length, const nffs_area *areas, size_t areas_count,
                            const uint8_t *base, size_t base_length, const uint8_t *path, size_t path_length);
 
-/* Reads from the handle's position on into the front of the buffer, as much as buffer and file allow, and moves the position behind what
-   was given. At the end of the file it gives 0 bytes. */
+/* Reads from the handle's position on into the front of the buffer, as much as buffer and file allow, and moves the position behind
+   what was given. At the end of the file it gives 0 bytes. Checks in order: 1 to 7, 9, 11, 13, 14. */
 nffs_read_answer nffs_read(const uint8_t *image, size_t image_length, const nffs_area *areas, size_t areas_count,
                            nffs_handle *handle, uint8_t *buffer, size_t buffer_length);
 
-/* The same with id and position by value. */
+/* The same with id and position by value. Checks in order: 1 to 7, 9, 11, 13, 14. */
 nffs_read_answer nffs_read_at(const uint8_t *image, size_t image_length, const nffs_area *areas, size_t areas_count,
                               uint32_t id, uint32_t position, uint8_t *buffer, size_t buffer_length);
 
-/* Creates an empty directory or file. */
+/* Creates an empty directory or file. Checks in order: 1 to 7, 8, then 9, 10 or 11 at the first step before the last name that fails,
+   11 where the last name is asked for below a file, 12, 5 with the new inode counted in, 15. */
 nffs_create_answer nffs_create(uint8_t *image, size_t image_length, const nffs_area *areas, size_t areas_count,
                                const uint8_t *base, size_t base_length, const uint8_t *path, size_t path_length, uint32_t kind);
 
-/* Appends data to a file, all of it or nothing; at most NFFS_APPEND_MOST bytes. */
+/* Appends data to a file, all of it or nothing; at most NFFS_APPEND_MOST bytes. Checks in order: 1 to 7, 8, then 9, 10 or 11 at the
+   first step of the path that fails, 11 for a directory, 13, 5 with the new blocks counted in, 15. */
 uint32_t nffs_append(uint8_t *image, size_t image_length, const nffs_area *areas, size_t areas_count,
                      const uint8_t *base, size_t base_length, const uint8_t *path, size_t path_length,
                      const uint8_t *data, size_t data_length);
 
-/* Deletes a file, or a directory with what lies below it. */
+/* Deletes a file, or a directory with what lies below it. Checks in order: 1 to 7, 8, then 9, 10 or 11 at the first step of the path
+   that fails, 16, 15. */
 uint32_t nffs_unlink(uint8_t *image, size_t image_length, const nffs_area *areas, size_t areas_count,
                      const uint8_t *base, size_t base_length, const uint8_t *path, size_t path_length);
 
-/* Copies what counts in one file area into scratch and erases that area, which becomes scratch: superseded records leave room,
-   deleted ones as soon as nothing else names them, and the damage of that area goes. One call collects one area. */
+/* Copies what counts in one file area into scratch and erases that area, which becomes scratch: superseded records leave room, deleted
+   ones as soon as nothing else names them, and the damage of that area goes. One call collects one area. Checks in order: 1 to 7, 17. */
 uint32_t nffs_collect(uint8_t *image, size_t image_length, const nffs_area *areas, size_t areas_count);
 
 #ifdef __cplusplus

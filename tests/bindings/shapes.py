@@ -1,4 +1,5 @@
-"""The exports as Rattle, C and Rust declare them, held against each other: functions, structs, refusals. Ends with the count."""
+"""The exports as Rattle, C and Rust declare them, held against each other: functions, structs, refusals, the order of checks. Ends with the
+count."""
 
 import re
 import sys
@@ -102,6 +103,19 @@ check("each number has its words", list(numbers), list(said))
 check("the numbers go from 0 on", list(numbers.values()), list(range(len(numbers))))
 listed = [(n, int(i), w) for n, i, w in re.findall(r'^\s+([A-Z_]+) (\d+) "([^"]*)";', refusal, re.M)]
 check("the refusals, C and Rust", [(n, i, said.get(n)) for n, i in numbers.items() if i > 0], listed)
+
+ORDER = r"Checks in order: [^.]*\."
+
+
+def orders(text, comment, function):
+    """The order of checks that stands above each function."""
+    found = re.findall(rf"{comment}{function}", text, re.M | re.S)
+    return {name: " ".join(re.search(ORDER, re.sub(r"\s*///\s?|\s+", " ", said)).group(0).split()) for said, name in found if re.search(r"Checks", said)}
+
+
+in_header = orders(header, r"/\*((?:(?!\*/).)*)\*/\n", r"\w+ nffs_(\w+)\(")
+check("the order of each call's checks, C and Rust", in_header, orders(crate, r"((?:^///[^\n]*\n)+)", r"pub fn (\w+)\("))
+check("each call says it", sorted("nffs_" + name for name in in_header), sorted(prototypes))
 
 print(f"{passed} passed, {failed} failed")
 sys.exit(failed != 0)

@@ -127,6 +127,8 @@ pub const APPEND_MOST: usize = 8192;
 /// Erases the areas and makes an empty volume of them. The longest area, first among equals, is
 /// scratch; there must be two at least. Bytes outside the areas stay.
 ///
+/// Checks in order: 1, 3.
+///
 /// ```
 /// use nffs::{Area, Refusal};
 ///
@@ -140,6 +142,8 @@ pub fn format(image: &mut [u8], areas: &[Area]) -> Result<(), Refusal> {
 }
 
 /// Whether a volume mounts, and what is in it.
+///
+/// Checks in order: 1 to 7.
 ///
 /// ```
 /// # use nffs::Area;
@@ -158,6 +162,8 @@ pub fn report(image: &[u8], areas: &[Area]) -> Result<Report, Refusal> {
 
 /// What a path leads to.
 ///
+/// Checks in order: 1 to 7, 8, then 9, 10 or 11 at the first step of the path that fails.
+///
 /// ```
 /// # use nffs::{Area, Kind, Refusal};
 /// # let mut flash = [0; 2 * 4096];
@@ -174,6 +180,9 @@ pub fn lookup(image: &[u8], areas: &[Area], base: &[u8], path: &[u8]) -> Result<
 }
 
 /// Opens the file of a path, at position 0.
+///
+/// Checks in order: 1 to 7, 8, then 9, 10 or 11 at the first step of the path that fails, 11 for a
+/// directory.
 ///
 /// ```
 /// # use nffs::{Area, Refusal};
@@ -192,6 +201,8 @@ pub fn open(image: &[u8], areas: &[Area], base: &[u8], path: &[u8]) -> Result<Ha
 
 /// Reads from the handle's position on into the front of the buffer, as much as buffer and file
 /// allow, and moves the position behind what was given.
+///
+/// Checks in order: 1 to 7, 9, 11, 13, 14.
 ///
 /// ```
 /// # use nffs::{Area, Kind};
@@ -219,6 +230,8 @@ pub fn read(
 
 /// The same as [`read`] with id and position by value.
 ///
+/// Checks in order: 1 to 7, 9, 11, 13, 14.
+///
 /// ```
 /// # use nffs::{Area, Kind, Refusal};
 /// # let mut flash = [0; 2 * 4096];
@@ -243,6 +256,9 @@ pub fn read_at(
 }
 
 /// Creates an empty directory or file, and gives its id.
+///
+/// Checks in order: 1 to 7, 8, then 9, 10 or 11 at the first step before the last name that fails,
+/// 11 where the last name is asked for below a file, 12, 5 with the new inode counted in, 15.
 ///
 /// ```
 /// # use nffs::{Area, Kind, Refusal};
@@ -270,6 +286,9 @@ pub fn create(
 
 /// Appends data to a file, all of it or nothing; at most [`APPEND_MOST`] bytes.
 ///
+/// Checks in order: 1 to 7, 8, then 9, 10 or 11 at the first step of the path that fails, 11 for a
+/// directory, 13, 5 with the new blocks counted in, 15.
+///
 /// ```
 /// # use nffs::{Area, Kind, Refusal};
 /// # let mut flash = [0; 2 * 4096];
@@ -294,6 +313,8 @@ pub fn append(
 
 /// Deletes a file, or a directory with what lies below it.
 ///
+/// Checks in order: 1 to 7, 8, then 9, 10 or 11 at the first step of the path that fails, 16, 15.
+///
 /// ```
 /// # use nffs::{Area, Kind, Refusal};
 /// # let mut flash = [0; 2 * 4096];
@@ -311,6 +332,8 @@ pub fn unlink(image: &mut [u8], areas: &[Area], base: &[u8], path: &[u8]) -> Res
 
 /// Copies what counts in one file area into scratch and erases that area, which becomes scratch:
 /// superseded and deleted records leave room, and damage goes. One call collects one area.
+///
+/// Checks in order: 1 to 7, 17.
 ///
 /// ```
 /// # use nffs::{Area, Kind, Refusal};

@@ -3,9 +3,9 @@
 use core::fmt;
 use core::num::NonZeroU32;
 
-/// Why a call was refused: a number, with a name and a meaning. The checks are made in the order
-/// of the numbers, and the first that fails is answered, but that create and append ask 5 again
-/// just before 15, with the new records counted in, and unlink asks 16 before 15.
+/// Why a call was refused: a number, with a name and a meaning. The first check that fails is
+/// answered; each call says which it makes, and in which order, which is not always that of the
+/// numbers.
 ///
 /// ```
 /// use nffs::Refusal;
