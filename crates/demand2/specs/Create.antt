@@ -44,7 +44,7 @@ use Rattle.calls_laws.specs.Unused.{Smallest, unused-smallest}
 use Rattle.demand2.specs.Unused.{Unused, unnamed-unused, few-named}
 use Rattle.demand2.specs.Names.{GoodName, good-name, last-mem, names-split}
 use Rattle.demand2.specs.Found.{passed-check, lookup-refused, root-there, found-lives, found-once, resolved, resolve-alike}
-use Rattle.demand2.specs.NewRecord.{IsInode, inode-made, WrittenOne, written-one, no-blocks}
+use Rattle.demand2.specs.NewRecord.{IsInode, inode-made, WrittenOne, written-one, octets-one, no-blocks}
 
 -- what an accepted create found
 pub record CreateGoes (image : Bytes) (ds : List Descriptor) (base path : Bytes) (kind : ℕ) : Type 0 where
@@ -143,6 +143,8 @@ pub record AfterCreate (image image′ : Bytes) (ds : List Descriptor) (base pat
   pub above : lookupNames byBytes (volume image ds) (namesBefore (pathNames base path)) ≡ found directory
   pub went : WrittenOne image image′ ds (inodeBytes id 0 directory (lastName (pathNames base path)))
   pub stored : OneStored image image′ ds (went .area) (inodeBytes id 0 directory (lastName (pathNames base path)))
+  -- an image of bytes stays one, for the next call
+  pub octets : Octets image → Octets image′
 
 module _ (image : Bytes) (ds : List Descriptor) (base path : Bytes) (kind : ℕ) (octets-base : Octets base) (octets-path : Octets path)
     (g : CreateGoes image ds base path kind) where
@@ -322,6 +324,7 @@ module _ (image : Bytes) (ds : List Descriptor) (base path : Bytes) (kind : ℕ)
     above = g .found-there;
     went = went-one;
     stored = stored-one;
+    octets = octets-one went-one (is .octets);
   }
     where
       same-paths : (c q : Bytes) → resolve image ds c q ≢ absent 9 → resolve image′ ds c q ≡ resolve image ds c q

@@ -13,6 +13,7 @@ use borrow.Author.Tests.{leb-true}
 use Rattle.format.specs.Bytes.{Bytes}
 use Rattle.format.specs.Record.{recordSize}
 use Rattle.format.specs.Reading.{Placed, areaFree, areaClean}
+use Rattle.format_laws.specs.Crc.{Octets}
 use Rattle.volume.specs.Lists.{keep, all, bind}
 use Rattle.volume_laws.specs.Tests.{true→T, not-is-false, or-is-false, and-T}
 use Rattle.volume_laws.specs.Lists.{all-mem, keep-mem}
@@ -22,6 +23,7 @@ use Rattle.calls.specs.Mount.{badDescription, recordsOf}
 use Rattle.calls.specs.Storing.{Space, Fit, Store, spaces, keepSpace, firstFit, prepend, placeAll, storeAll, noPlace}
 use Rattle.calls.specs.declared.Descriptor.{Descriptor}
 use Rattle.calls_laws.specs.Storing.{kept-fit}
+use Rattle.demand2.specs.Octet.{octets-put}
 use Rattle.demand2.specs.Area.{Whole}
 use Rattle.demand2.specs.Store.{OneStored, same-area, freePlace, RecordFits, one-stored, file-listed, same-file-areas, same-described}
 
@@ -185,6 +187,13 @@ pub data Written (ds : List Descriptor) : Bytes → List Bytes → Bytes → Typ
   all-written : {image : Bytes} → Written ds image [] image
   written : {image image′ b : Bytes} {bs : List Bytes} (area : Descriptor) → RecordFits image ds area b → Whole recordSize b
       → Written ds (put image (freePlace image area) b) bs image′ → Written ds image (b ∷ bs) image′
+
+-- records of bytes, stored into bytes
+pub octets-written : {ds : List Descriptor} {image image′ : Bytes} {bs : List Bytes} → Written ds image bs image′
+    → ((b : Bytes) → List·Memᴰ b bs → Octets b) → Octets image → Octets image′
+octets-written all-written h o = o
+octets-written {image = image} (written {b = b} area f w rest) h o =
+    octets-written rest (λ c m. h c (List·Memᴰ·tail m)) (octets-put image (freePlace image area) b o (h b (List·Memᴰ·head refl)))
 
 bound : {A B : Type 0} (o : Option A) (f : A → Option B) (b : B) → bind o f ≡ some b → (a : A) × (o ≡ some a) × (f a ≡ some b)
 bound none f b e = let z : _≡_ {A = ℕ} 0 1 = cc in absurd (omega arith)

@@ -128,8 +128,10 @@ pub record AfterUnlink (image image′ : Bytes) (ds : List Descriptor) (base pat
   -- the deletion record, and the clean file area that it went to
   pub went : WrittenOne image image′ ds (deletion (volume image ds) inode)
   pub stored : OneStored image image′ ds (went .area) (deletion (volume image ds) inode)
+  -- an image of bytes stays one, for the next call
+  pub octets : Octets image → Octets image′
 
-module _ (image : Bytes) (ds : List Descriptor) (base path : Bytes) (octets : Octets image) (g : UnlinkGoes image ds base path) where
+module _ (image : Bytes) (ds : List Descriptor) (base path : Bytes) (octets-image : Octets image) (g : UnlinkGoes image ds base path) where
   p : Passes image ds
   p = passes image ds (g .mounted)
 
@@ -182,7 +184,7 @@ module _ (image : Bytes) (ds : List Descriptor) (base path : Bytes) (octets : Oc
   -- what holds of every inode rewritten
   done : AfterRewrite image image′ ds i NONE []
   unfolding imageUnlinked
-  done = rw (imageUnlinked, g .goes) (rewrite image ds i NONE [] octets asked)
+  done = rw (imageUnlinked, g .goes) (rewrite image ds i NONE [] octets-image asked)
 
   -- the deletion record bears the inode's id
   id-is : recordId b ≡ i
@@ -255,6 +257,7 @@ module _ (image : Bytes) (ds : List Descriptor) (base path : Bytes) (octets : Oc
     contents = done .contents;
     went = done .went;
     stored = done .stored;
+    octets = done .octets;
   }
     where
       alone : (e : ℕ) (n : Bytes) → T (isChild byBytes v e n (recordId b)) → only (children byBytes v e n) ≡ one (recordId b)
