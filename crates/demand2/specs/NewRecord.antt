@@ -22,10 +22,11 @@ use Rattle.volume_laws.specs.Tests.{eqb-differ}
 use Rattle.volume_laws.specs.Lists.{keep-none}
 use Rattle.volume_laws.specs.Counting.{counting-mem}
 use Rattle.calls.specs.Image.{put}
+use Rattle.calls.specs.Areas.{fileAreas}
 use Rattle.calls.specs.declared.Descriptor.{Descriptor}
 use Rattle.demand2.specs.Octet.{octets-put, octets-inode, octets-block}
 use Rattle.demand2.specs.Area.{Whole}
-use Rattle.demand2.specs.Store.{freePlace, RecordFits}
+use Rattle.demand2.specs.Store.{freePlace, RecordFits, FirstWithRoom}
 use Rattle.demand2.specs.Places.{Written, written, all-written}
 
 pub record IsInode (b : Bytes) (id sequence parent : ℕ) (name : Bytes) : Type 0 where
@@ -82,14 +83,15 @@ block-made id sequence owner previous text m =
       octets = octets-block id sequence owner previous text (m .octets);
     }
 
--- one record, stored where it fits
+-- one record, stored where it fits first
 pub record WrittenOne (image image′ : Bytes) (ds : List Descriptor) (b : Bytes) : Type 0 where
   pub area : Descriptor
   pub fits : RecordFits image ds area b
+  pub first : FirstWithRoom image (fileAreas image ds) area b
   pub image-is : image′ ≡ put image (freePlace image area) b
 
 pub written-one : {ds : List Descriptor} {image image′ b : Bytes} → Written ds image (b ∷ []) image′ → WrittenOne image image′ ds b
-written-one (written area f w all-written) = record { area = area; fits = f; image-is = refl }
+written-one (written area f t w all-written) = record { area = area; fits = f; first = t; image-is = refl }
 
 pub octets-one : {image image′ b : Bytes} {ds : List Descriptor} → WrittenOne image image′ ds b → Octets b → Octets image → Octets image′
 octets-one {image} {b = b} w k o = rw (w .image-is) (octets-put image (freePlace image (w .area)) b o k)

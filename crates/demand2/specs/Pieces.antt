@@ -154,7 +154,7 @@ pub record WrittenFirst (ds : List Descriptor) (image : Bytes) (b : Bytes) (bs :
 
 written-first : {ds : List Descriptor} {image image′ b : Bytes} {bs : List Bytes} → Written ds image (b ∷ bs) image′
     → WrittenFirst ds image b bs image′
-written-first (written area f w r) = record { area = area; fits = f; rest = r }
+written-first (written area f t w r) = record { area = area; fits = f; rest = r }
 
 written-none : {ds : List Descriptor} {image image′ : Bytes} → Written ds image [] image′ → image′ ≡ image
 written-none all-written = refl

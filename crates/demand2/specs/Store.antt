@@ -42,6 +42,14 @@ pub record RecordFits (image : Bytes) (ds : List Descriptor) (area : Descriptor)
   pub clean : areaClean recordSize (areaBytes image area) ≡ true
   pub room : freePlace image area + length b ≤ areaEnd area
 
+-- "Each record goes to the first clean file area, in descriptor order, with room": of the file areas fs, no clean one before area has room for b
+pub record FirstWithRoom (image : Bytes) (fs : List Descriptor) (area : Descriptor) (b : Bytes) : Type 0 where
+  pub before : List Descriptor
+  pub behind : List Descriptor
+  pub split : fs ≡ before ++ (area ∷ behind)
+  pub no-room : (d : Descriptor) → List·Memᴰ d before → areaClean recordSize (areaBytes image d) ≡ true
+      → areaEnd d < freePlace image d + length b
+
 -- what becomes of the image when it is stored there
 pub record OneStored (image image′ : Bytes) (ds : List Descriptor) (area : Descriptor) (b : Bytes) : Type 0 where
   pub one-length : length image′ ≡ length image
