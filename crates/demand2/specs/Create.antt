@@ -10,7 +10,8 @@ use lib.ListN.{length}
 use lib.Dec.{eqb, ltb, nltb→le, ltb→lt, lt→ltb}
 use Rattle.format.specs.Bytes.{Bytes}
 use Rattle.format.specs.Ids.{NONE, rootId, firstFileId, isDirectoryId, firstBlockId, isInodeId}
-use Rattle.format.specs.Record.{inodeRule, recordId}
+use Rattle.format.specs.Record.{recordSize, inodeRule, recordId}
+use Rattle.format.specs.Reading.{areaClean}
 use Rattle.format.specs.Encoding.{inodeBytes}
 use Rattle.format_laws.specs.Crc.{Octets}
 use Rattle.format_laws.specs.Encoding.{MeantInode}
@@ -24,7 +25,7 @@ use Rattle.volume_laws.specs.Tests.{eqb-false, not-is-false, or-is-false, true�
 use Rattle.volume_laws.specs.Counting.{counting-mem}
 use Rattle.volume_laws.specs.Tree.{lookup-append, mem-children}
 use Rattle.calls.specs.Refusal.{firstRefusal}
-use Rattle.calls.specs.Areas.{fileAreas}
+use Rattle.calls.specs.Areas.{areaBytes, fileAreas}
 use Rattle.calls.specs.Mount.{mostInodes, volume, mountNumber, acceptedRecords}
 use Rattle.calls.specs.Storing.{Store, spaces, placeAll, noPlace, namedIds}
 use Rattle.calls.specs.Attempt.{goes}
@@ -38,7 +39,7 @@ use Rattle.calls_laws.specs.Attempt.{attempt-goes}
 use Rattle.demand2.specs.Added.{Same, Added, added-ids, same-count, same-contents}
 use Rattle.demand2.specs.Mounted.{agreed-inodes, agreed-blocks, accepted-kind, few-ids, ids-few, inodes-added, blocks-same, still-passes}
 use Rattle.demand2.specs.NewInode.{InodeNew, inode-new}
-use Rattle.demand2.specs.Store.{OneStored, one-stored}
+use Rattle.demand2.specs.Store.{OneStored, one-stored, same-file-areas, same-clean}
 use Rattle.demand2.specs.Places.{place-found, all-placed}
 use Rattle.calls_laws.specs.Unused.{Smallest, unused-smallest}
 use Rattle.demand2.specs.Unused.{Unused, unnamed-unused, few-named}
@@ -143,6 +144,9 @@ pub record AfterCreate (image image′ : Bytes) (ds : List Descriptor) (base pat
   pub above : lookupNames byBytes (volume image ds) (namesBefore (pathNames base path)) ≡ found directory
   pub went : WrittenOne image image′ ds (inodeBytes id 0 directory (lastName (pathNames base path)))
   pub stored : OneStored image image′ ds (went .area) (inodeBytes id 0 directory (lastName (pathNames base path)))
+  -- the file areas are the same, and each is as clean as it was
+  pub same-areas : fileAreas image′ ds ≡ fileAreas image ds
+  pub clean-after : (d : Descriptor) → List·Memᴰ d ds → areaClean recordSize (areaBytes image′ d) ≡ areaClean recordSize (areaBytes image d)
   -- an image of bytes stays one, for the next call
   pub octets : Octets image → Octets image′
 
@@ -324,6 +328,8 @@ module _ (image : Bytes) (ds : List Descriptor) (base path : Bytes) (kind : ℕ)
     above = g .found-there;
     went = went-one;
     stored = stored-one;
+    same-areas = same-file-areas stored-one;
+    clean-after = same-clean stored-one (went-one .fits .clean);
     octets = octets-one went-one (is .octets);
   }
     where

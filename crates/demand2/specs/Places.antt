@@ -25,7 +25,7 @@ use Rattle.calls.specs.declared.Descriptor.{Descriptor}
 use Rattle.calls_laws.specs.Storing.{kept-fit}
 use Rattle.demand2.specs.Octet.{octets-put}
 use Rattle.demand2.specs.Area.{Whole}
-use Rattle.demand2.specs.Store.{OneStored, same-area, freePlace, RecordFits, FirstWithRoom, one-stored, file-listed, same-file-areas, same-described}
+use Rattle.demand2.specs.Store.{OneStored, same-area, freePlace, RecordFits, FirstWithRoom, one-stored, file-listed, same-file-areas, same-clean, same-described}
 
 -- no area is listed twice
 abbrev pub Distinct : List Descriptor → Type 0
@@ -210,6 +210,22 @@ pub octets-written : {ds : List Descriptor} {image image′ : Bytes} {bs : List 
 octets-written all-written h o = o
 octets-written {image = image} (written {b = b} area f t w rest) h o =
     octets-written rest (λ c m. h c (List·Memᴰ·tail m)) (octets-put image (freePlace image area) b o (h b (List·Memᴰ·head refl)))
+
+-- the file areas are those that were, and each is as clean as it was
+module _ (ds : List Descriptor) where
+  pub written-areas : {image image′ : Bytes} {bs : List Bytes} → badDescription image ds ≡ false → Written ds image bs image′
+      → fileAreas image′ ds ≡ fileAreas image ds
+  written-areas described all-written = refl
+  written-areas {image} described (written {b = b} area f t w rest) =
+      let s = one-stored image ds described area b f w in
+      written-areas (same-described s ∙ described) rest ∙ same-file-areas s
+
+  pub written-clean : {image image′ : Bytes} {bs : List Bytes} → badDescription image ds ≡ false → Written ds image bs image′
+      → (d : Descriptor) → List·Memᴰ d ds → areaClean recordSize (areaBytes image′ d) ≡ areaClean recordSize (areaBytes image d)
+  written-clean described all-written d m = refl
+  written-clean {image} described (written {b = b} area f t w rest) d m =
+      let s = one-stored image ds described area b f w in
+      written-clean (same-described s ∙ described) rest d m ∙ same-clean s (f .clean) d m
 
 bound : {A B : Type 0} (o : Option A) (f : A → Option B) (b : B) → bind o f ≡ some b → (a : A) × (o ≡ some a) × (f a ≡ some b)
 bound none f b e = let z : _≡_ {A = ℕ} 0 1 = cc in absurd (omega arith)

@@ -154,6 +154,15 @@ module _ {image image′ : Bytes} {ds : List Descriptor} {area : Descriptor} {b 
       let l = same-area-ids fs (λ d m. h d (List·Memᴰ·tail m)) in
       λ i. e i ∷ l i
 
+  -- a clean area stays clean, and an unclean one as it is
+  pub same-clean : areaClean recordSize (areaBytes image area) ≡ true → (d : Descriptor) → List·Memᴰ d ds
+      → areaClean recordSize (areaBytes image′ d) ≡ areaClean recordSize (areaBytes image d)
+  same-clean c d m = go (same-area d area)
+    where
+      go : Dec (d ≡ area) → areaClean recordSize (areaBytes image′ d) ≡ areaClean recordSize (areaBytes image d)
+      go (yes e) = rw (e, s .clean, c)
+      go (no e) = rw (s .elsewhere d m e)
+
   pub same-described : badDescription image′ ds ≡ badDescription image ds
   unfolding badDescription
   same-described = rw (badDescription, s .one-length)
