@@ -30,7 +30,7 @@ use Rattle.calls.specs.Mount.{volume, mountNumber}
 use Rattle.calls.specs.Storing.{Store, spaces, placeAll, noPlace}
 use Rattle.calls.specs.Create.{isRoot}
 use Rattle.calls.specs.Lookup.{resolve}
-use Rattle.calls.specs.Read.{refused, give}
+use Rattle.calls.specs.Read.{refused, give, readGiven}
 use Rattle.calls.specs.Rewrite.{lastSequence, sequenceOf, rewritten, rewritePlan, rewriteNumber}
 use Rattle.calls.specs.Attempt.{goes}
 use Rattle.calls.specs.Unlink.{deletion, unlinkOne, unlinking, unlinkOf, imageUnlinked}
@@ -41,7 +41,7 @@ use Rattle.calls_laws.specs.Attempt.{attempt-goes}
 use Rattle.demand2.specs.Store.{OneStored}
 use Rattle.demand2.specs.Places.{place-found}
 use Rattle.demand2.specs.Mounted.{agreed-inodes}
-use Rattle.demand2.specs.Found.{passed-check, lookup-refused, root-there, found-lives, resolved}
+use Rattle.demand2.specs.Found.{passed-check, lookup-refused, root-there, found-lives, resolved, read-given, read-alike}
 use Rattle.demand2.specs.Deletion.{found-no-root, found-sole, InodeGone, inode-gone}
 use Rattle.demand2.specs.NewRecord.{WrittenOne}
 use Rattle.demand2.specs.Rewritten.{Rewrites, AfterRewrite, inode-low, rewrite}
@@ -109,12 +109,12 @@ pub record AfterUnlink (image image′ : Bytes) (ds : List Descriptor) (base pat
   pub lost : (b p : Bytes) (j : ℕ) → resolve image ds b p ≡ found j → List·Memᴰ inode (lineage byBytes (volume image ds) j)
       → resolve image′ ds b p ≡ absent 9
   pub unread : (j : ℕ) → List·Memᴰ inode (lineage byBytes (volume image ds) j) → (position room : ℕ)
-      → give (volume image′ ds) j position room ≡ refused 9
+      → readGiven image′ ds j position room ≡ refused 9
   -- "everything else that could be reached by path reads as before"
   pub paths : (b p : Bytes) (j : ℕ) → resolve image ds b p ≡ found j → ¬ List·Memᴰ inode (lineage byBytes (volume image ds) j)
       → resolve image′ ds b p ≡ found j
   pub reads : (j : ℕ) → ¬ List·Memᴰ inode (lineage byBytes (volume image ds) j) → (position room : ℕ)
-      → give (volume image′ ds) j position room ≡ give (volume image ds) j position room
+      → readGiven image′ ds j position room ≡ readGiven image ds j position room
   -- any other answer, 10 and 11 among them, stays or is 9 now
   pub otherwise : (b p : Bytes) → (resolve image′ ds b p ≡ resolve image ds b p) ⊎ (resolve image′ ds b p ≡ absent 9)
   pub stays : (j : ℕ) → ¬ List·Memᴰ inode (lineage byBytes (volume image ds) j)
@@ -247,11 +247,11 @@ module _ (image : Bytes) (ds : List Descriptor) (base path : Bytes) (octets-imag
     lost = λ c q j e m. let f = found-names c q j e in
         answers c q (absent 9) (f .0) (now .lost (pathNames c q) j (f .1)
         (own j m));
-    unread = λ j m position room. rw (give, below j m);
+    unread = λ j m position room. read-given image′ ds still j position room ∙ rw (give, below j m);
     paths = λ c q j e n. let f = found-names c q j e in
         answers c q (found j) (f .0) (now .stays (pathNames c q) j (f .1)
         (other j n));
-    reads = λ j n position room. rw (give, outside j n, done .contents j);
+    reads = λ j n. read-alike image image′ ds (g .mounted) still j (outside j n) (done .contents j);
     otherwise = either;
     stays = outside;
     no-new-life = now .no-life;
