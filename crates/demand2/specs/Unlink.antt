@@ -41,7 +41,7 @@ use Rattle.calls_laws.specs.Attempt.{attempt-goes}
 use Rattle.demand2.specs.Store.{OneStored}
 use Rattle.demand2.specs.Places.{place-found}
 use Rattle.demand2.specs.Mounted.{agreed-inodes}
-use Rattle.demand2.specs.Found.{passed-check, lookup-refused, root-there, found-lives, resolved, read-given, read-alike}
+use Rattle.demand2.specs.Found.{passed-check, lookup-refused, root-there, found-lives, found-once, resolved, resolve-alike, read-given, read-alike}
 use Rattle.demand2.specs.Deletion.{found-no-root, found-sole, InodeGone, inode-gone}
 use Rattle.demand2.specs.NewRecord.{WrittenOne}
 use Rattle.demand2.specs.Rewritten.{Rewrites, AfterRewrite, inode-low, rewrite}
@@ -104,6 +104,8 @@ pub record AfterUnlink (image image′ : Bytes) (ds : List Descriptor) (base pat
   pub found-at-path : resolve image ds base path ≡ found inode
   -- its path, and every path that goes on from there, finds nothing
   pub path-lost : (b p : Bytes) (ns : List Bytes) → goodPath b p ≡ true → pathNames b p ≡ pathNames base path ++ ns → resolve image′ ds b p ≡ absent 9
+  -- every other path is answered as before, whatever the answer
+  pub elsewhere : (b p : Bytes) → ((ns : List Bytes) → pathNames b p ≢ pathNames base path ++ ns) → resolve image′ ds b p ≡ resolve image ds b p
   -- "what lies below a directory goes with it": it is dead, found no more, and every read of it is refused
   pub dies : (j : ℕ) → List·Memᴰ inode (lineage byBytes (volume image ds) j) → fateOf byBytes (volume image′ ds) j ≡ dead
   pub lost : (b p : Bytes) (j : ℕ) → resolve image ds b p ≡ found j → List·Memᴰ inode (lineage byBytes (volume image ds) j)
@@ -243,6 +245,7 @@ module _ (image : Bytes) (ds : List Descriptor) (base path : Bytes) (octets-imag
     inode = i;
     found-at-path = resolved image ds base path (g .mounted) ∙ rw (g .good) (g .found-there);
     path-lost = λ c q ns r e. answers c q (absent 9) r (ap (lookupNames byBytes w) e ∙ lookup-append byBytes w (pathNames base path) ns ∙ rw gone);
+    elsewhere = same-elsewhere;
     dies = below;
     lost = λ c q j e m. let f = found-names c q j e in
         answers c q (absent 9) (f .0) (now .lost (pathNames c q) j (f .1)
@@ -270,6 +273,15 @@ module _ (image : Bytes) (ds : List Descriptor) (base path : Bytes) (octets-imag
       alone e n t =
           let u : T (isChild byBytes v e n i) = rw id-is at t in
           found-sole byBytes v (pathNames base path) i (g .named) (g .found-there) e n u ∙ ap one (sym id-is)
+
+      -- a lookup that came by it went by the unlinked names
+      same-elsewhere : (c q : Bytes) → ((ns : List Bytes) → pathNames c q ≢ pathNames base path ++ ns)
+          → resolve image′ ds c q ≡ resolve image ds c q
+      same-elsewhere c q n = resolve-alike image image′ ds c q (g .mounted) still
+          (λ e. now .elsewhere alone (pathNames c q) (λ ms rest f z.
+          let same-names : ms ≡ pathNames base path
+          = found-once byBytes v (volume-sound image ds) (root .0) (root .1) ms (pathNames base path) i (f ∙ ap found id-is) (g .found-there) in
+          n rest (z ∙ ap (λ l. l ++ rest) same-names)))
 
       either : (c q : Bytes) → (resolve image′ ds c q ≡ resolve image ds c q) ⊎ (resolve image′ ds c q ≡ absent 9)
       either c q = go (goodPath c q) refl
