@@ -31,7 +31,8 @@ use Rattle.calls.specs.Areas.{areaBytes, fileAreas}
 use Rattle.calls.specs.Mount.{mostBlocks, volume, mountNumber}
 use Rattle.calls.specs.Storing.{Store, spaces, placeAll, storeAll, noPlace, namedIds}
 use Rattle.calls.specs.Attempt.{Attempt, goes, refuses, leaves}
-use Rattle.calls.specs.Append.{mostAppended, shortestLength, cutInto, piecesOf, blockRecords, newBlocks, isBroken, appendTo, appending, appendImage, appendOf, imageAppended}
+use Rattle.calls.specs.Append.{mostAppended, shortestLength, cutInto, piecesOf, blockRecords, newBlocks, isBroken}
+use Rattle.calls.specs.Append.{appendTo, appending, appendImage, appendOf, imageAppended}
 use Rattle.calls.specs.declared.Descriptor.{Descriptor}
 use Rattle.calls.specs.Lookup.{resolve}
 use Rattle.calls.specs.Read.{given, refused, giveBlocks, give, readGiven}
@@ -47,8 +48,8 @@ use Rattle.demand2.specs.Mounted.{agreed-inodes}
 use Rattle.demand2.specs.Found.{passed-check, lookup-refused, root-there, found-lives, resolved, resolve-alike, read-given, read-alike}
 use Rattle.demand2.specs.NewRecord.{IsBlock}
 use Rattle.demand2.specs.Cut.{Sized, pieces-joined, pieces-sized, pieces-good}
-use Rattle.demand2.specs.Pieces.{Behind, nothing, a-block, mostNames, Made, made, made-each, made-texts, texts-joined, made-count, made-unnamed, BlocksName}
-use Rattle.demand2.specs.Pieces.{Chained, made-chain, lastId, last-is, Grown, all-grown}
+use Rattle.demand2.specs.Pieces.{Behind, nothing, a-block, mostNames, Made, made, made-each, made-texts, texts-joined, made-count, made-unnamed}
+use Rattle.demand2.specs.Pieces.{BlocksName, Chained, made-chain, lastId, last-is, Grown, all-grown}
 
 text-append : (bs cs : List Bytes) → textOf byBytes (bs ++ cs) ≡ textOf byBytes bs ++ textOf byBytes cs
 unfolding textOf
@@ -136,7 +137,8 @@ pub record AfterAppend (image image′ : Bytes) (ds : List Descriptor) (base pat
   pub old : List Bytes
   pub whole-before : fileBlocks byBytes (volume image ds) file ≡ some old
   pub whole-after : fileBlocks byBytes (volume image′ ds) file ≡ some (old ++ newBlocks image ds file text)
-  -- "After an append the file reads as its old contents and then the new data": at every position and with every buffer
+  -- "After an append the file reads as its old contents and then the new data": at every position and with every buffer. Headers are followed
+  -- back to the block of the first byte given, "0 if no byte is given"
   pub text-after : textOf byBytes (old ++ newBlocks image ds file text) ≡ textOf byBytes old ++ text
   pub reads-both : (position room : ℕ) → position ≤ length (textOf byBytes old ++ text)
       → readGiven image′ ds file position room
@@ -273,7 +275,9 @@ module _ (image : Bytes) (ds : List Descriptor) (base path text : Bytes) (octets
   file-given : (position room : ℕ) → readGiven image′ ds f position room
       ≡ cond (leb position (length (textOf byBytes (g .old) ++ text))) (giveBlocks (g .old ++ newBlocks image ds f text) position room) (refused 14)
   unfolding give
-  file-given position room = read-given image′ ds still-mounts f position room ∙ rw (give, new-fates f, lives, g .no-directory, grown .contents (g .old) (g .not-broken), both)
+  file-given position room =
+      read-given image′ ds still-mounts f position room
+      ∙ rw (give, new-fates f, lives, g .no-directory, grown .contents (g .old) (g .not-broken), both)
 
   after-append : AfterAppend image image′ ds base path text
   unfolding giveBlocks

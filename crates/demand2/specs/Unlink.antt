@@ -41,7 +41,8 @@ use Rattle.calls_laws.specs.Attempt.{attempt-goes}
 use Rattle.demand2.specs.Store.{OneStored}
 use Rattle.demand2.specs.Places.{place-found}
 use Rattle.demand2.specs.Mounted.{agreed-inodes}
-use Rattle.demand2.specs.Found.{passed-check, lookup-refused, root-there, found-lives, found-once, resolved, resolve-alike, read-given, read-alike}
+use Rattle.demand2.specs.Found.{passed-check, lookup-refused, root-there, found-lives, found-once}
+use Rattle.demand2.specs.Found.{resolved, resolve-alike, read-given, read-alike}
 use Rattle.demand2.specs.Deletion.{found-no-root, found-sole, InodeGone, inode-gone}
 use Rattle.demand2.specs.NewRecord.{WrittenOne}
 use Rattle.demand2.specs.Rewritten.{Rewrites, AfterRewrite, inode-low, rewrite}
