@@ -105,8 +105,9 @@ pub record AfterUnlink (image image′ : Bytes) (ds : List Descriptor) (base pat
   pub found-at-path : resolve image ds base path ≡ found inode
   -- its path, and every path that goes on from there, finds nothing
   pub path-lost : (b p : Bytes) (ns : List Bytes) → goodPath b p ≡ true → pathNames b p ≡ pathNames base path ++ ns → resolve image′ ds b p ≡ absent 9
-  -- every other path is answered as before, whatever the answer
+  -- every other path is answered as before, whatever the answer, and a bad one by 8
   pub elsewhere : (b p : Bytes) → ((ns : List Bytes) → pathNames b p ≢ pathNames base path ++ ns) → resolve image′ ds b p ≡ resolve image ds b p
+  pub bad-paths : (b p : Bytes) → goodPath b p ≡ false → resolve image′ ds b p ≡ absent 8
   -- "what lies below a directory goes with it": it is dead, found no more, and every read of it is refused
   pub dies : (j : ℕ) → List·Memᴰ inode (lineage byBytes (volume image ds) j) → fateOf byBytes (volume image′ ds) j ≡ dead
   pub lost : (b p : Bytes) (j : ℕ) → resolve image ds b p ≡ found j → List·Memᴰ inode (lineage byBytes (volume image ds) j)
@@ -247,6 +248,7 @@ module _ (image : Bytes) (ds : List Descriptor) (base path : Bytes) (octets-imag
     found-at-path = resolved image ds base path (g .mounted) ∙ rw (g .good) (g .found-there);
     path-lost = λ c q ns r e. answers c q (absent 9) r (ap (lookupNames byBytes w) e ∙ lookup-append byBytes w (pathNames base path) ns ∙ rw gone);
     elsewhere = same-elsewhere;
+    bad-paths = λ c q r. resolved image′ ds c q still ∙ rw r;
     dies = below;
     lost = λ c q j e m. let f = found-names c q j e in
         answers c q (absent 9) (f .0) (now .lost (pathNames c q) j (f .1)
