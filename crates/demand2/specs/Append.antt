@@ -45,7 +45,7 @@ use Rattle.demand2.specs.Places.{AreaGrown, areas-grown, place-found, Wr
 use Rattle.demand2.specs.Unused.{Unused, block-named, unnamed-unused, few-named}
 use Rattle.demand2.specs.Added.{same-inode, same-fate, same-lookup}
 use Rattle.demand2.specs.Mounted.{agreed-inodes}
-use Rattle.demand2.specs.Found.{passed-check, lookup-refused, root-there, found-lives, resolved, resolve-alike, read-given, read-alike}
+use Rattle.demand2.specs.Found.{passed-check, lookup-refused, root-there, found-lives, resolved, resolve-alike, read-given, read-kept}
 use Rattle.demand2.specs.NewRecord.{IsBlock}
 use Rattle.demand2.specs.Cut.{Sized, pieces-joined, pieces-sized, pieces-good}
 use Rattle.demand2.specs.Pieces.{Behind, nothing, a-block, mostNames, Made, made, made-each, made-texts, texts-joined, made-count, made-unnamed}
@@ -295,7 +295,7 @@ module _ (image : Bytes) (ds : List Descriptor) (base path text : Bytes) (octets
         ∙ rw (not-T→false {b = leb position (length (textOf byBytes (g .old) ++ text))} (λ t. let l = leb→le position _ t in omega arith));
     paths = λ b q. resolve-alike image image′ ds b q (g .mounted) still-mounts
         (λ e. same-lookup byBytes v (volume image′ ds) (grown .same-inodes) (agreed-inodes image ds p) (pathNames b q));
-    reads = λ i n. read-alike image image′ ds (g .mounted) still-mounts i (new-fates i) (grown .other-files i n);
+    reads = λ i n. read-kept image image′ ds (g .mounted) still-mounts i (new-fates i) (grown .other-files i n);
     inodes = same-inode byBytes v (volume image′ ds) (grown .same-inodes) (agreed-inodes image ds p);
     fates = new-fates;
     contents = grown .other-files;

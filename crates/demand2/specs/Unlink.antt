@@ -42,7 +42,7 @@ use Rattle.demand2.specs.Store.{OneStored}
 use Rattle.demand2.specs.Places.{place-found}
 use Rattle.demand2.specs.Mounted.{agreed-inodes}
 use Rattle.demand2.specs.Found.{passed-check, lookup-refused, root-there, found-lives, found-once}
-use Rattle.demand2.specs.Found.{resolved, resolve-alike, read-given, read-alike}
+use Rattle.demand2.specs.Found.{resolved, resolve-alike, read-given, read-kept}
 use Rattle.demand2.specs.Deletion.{found-no-root, found-sole, InodeGone, inode-gone}
 use Rattle.demand2.specs.NewRecord.{WrittenOne}
 use Rattle.demand2.specs.Rewritten.{Rewrites, AfterRewrite, inode-low, rewrite}
@@ -257,7 +257,7 @@ module _ (image : Bytes) (ds : List Descriptor) (base path : Bytes) (octets-imag
     paths = λ c q j e n. let f = found-names c q j e in
         answers c q (found j) (f .0) (now .stays (pathNames c q) j (f .1)
         (other j n));
-    reads = λ j n. read-alike image image′ ds (g .mounted) still j (outside j n) (done .contents j);
+    reads = λ j n. read-kept image image′ ds (g .mounted) still j (outside j n) (done .contents j);
     otherwise = either;
     stays = outside;
     no-new-life = now .no-life;
