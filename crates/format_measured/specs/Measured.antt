@@ -65,6 +65,7 @@ cases =
     ∷ case (yes-no (goodPath [] (0x2f ∷ []))) 1
     ∷ case (yes-no (goodPath [] (0x2f ∷ 0x61 ∷ []))) 1
     ∷ case (yes-no (goodPath [] [])) 0
+    ∷ case (yes-no (goodPath (0x2f ∷ []) [])) 0
     ∷ case (yes-no (goodPath [] (0x2f ∷ 0x2f ∷ 0x61 ∷ []))) 0
     ∷ case (yes-no (goodPath [] (0x2f ∷ 0x61 ∷ 0x2f ∷ []))) 0
     ∷ []

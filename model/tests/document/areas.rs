@@ -1,21 +1,18 @@
 //! "Acceptable record" and "How an area is read".
 
-use nffs_model::area::{read, Reading, Stretch};
+use nffs_model::area::{Reading, Stretch};
 use nffs_model::fault::Fault;
-use nffs_model::layout::{AreaHeader, Block, Inode, Record, NONE, ROOT};
+use nffs_model::forge::Flash;
+use nffs_model::layout::{AreaHeader, Block, Inode, NONE, ROOT};
 
 use crate::common::*;
 
-fn accepted(record: Vec<u8>) -> bool {
-    Record::acceptable(&record).is_some()
-}
-
 fn inode(id: u32, parent: u32, name: &[u8]) -> bool {
-    accepted(Inode::new(id, 3, parent, name).bytes())
+    accepted(&Inode::new(id, 3, parent, name).bytes())
 }
 
 fn block(id: u32, owner: u32, previous: u32) -> bool {
-    accepted(Block::new(id, 3, owner, previous, b"data").bytes())
+    accepted(&Block::new(id, 3, owner, previous, b"data").bytes())
 }
 
 #[test]
@@ -50,27 +47,31 @@ fn acceptable_blocks() {
 #[test]
 fn reserved_bytes() {
     let inode = Inode { reserved: 0xee, ..Inode::new(A, 0, ROOT, b"a") };
-    assert!(accepted(inode.bytes()));
+    assert!(accepted(&inode.bytes()));
     let mut flash = rooted(128);
     flash.head(0, 0, 9, 255);
     flash.head(1, 0, 8, 0);
     assert_eq!(mount(&flash), 0);
 }
 
-/// Magic, check and the end of the area.
+/// Magic, check and the end of the area: a record that the area's end cuts off is not taken.
 #[test]
 fn header_and_body_lie_inside_the_area() {
     for record in
         [Inode::new(A, 0, ROOT, b"abc").bytes(), Block::new(BLOCK, 0, A, NONE, b"abc").bytes()]
     {
-        assert!(accepted(record.clone()));
-        for end in 0..record.len() {
-            assert!(!accepted(record[..end].to_vec()));
+        assert!(accepted(&record));
+        for end in 1..record.len() + 1 {
+            let mut flash = rooted(128);
+            fill(&mut flash, 1, end);
+            assert!(flash.put(1, &record[..end]));
+            let stretches = report(&flash).stretches;
+            assert_eq!(stretches == 0, end == record.len(), "{end} bytes");
         }
         for i in 0..record.len() {
             let mut other = record.clone();
             other[i] ^= 4;
-            assert!(!accepted(other));
+            assert!(!accepted(&other), "byte {i}");
         }
     }
 }
@@ -96,17 +97,34 @@ fn root() -> Vec<u8> {
     Inode::new(ROOT, 0, NONE, b"").bytes()
 }
 
+/// The reading of an area; its damage is what a report of a volume counts in which it is the
+/// second of two file areas.
+fn read(area: &[u8]) -> Reading {
+    let reading = nffs_model::area::read(area, Fault::None);
+    let mut flash = Flash::of(&[area.len(); 3]);
+    flash.root(1);
+    let start = flash.offset(2);
+    flash.image[start..][..area.len()].copy_from_slice(area);
+    flash.image[start + 23] = 1;
+    let r = report(&flash);
+    let sum: usize = reading.damage.iter().map(|stretch| stretch.length).sum();
+    assert_eq!(
+        (r.number, r.stretches as usize, r.skipped as usize),
+        (0, reading.damage.len(), sum)
+    );
+    reading
+}
+
 #[test]
 fn an_empty_area_is_clean() {
-    let reading = read(&area_of(128, &[]), Fault::None);
+    let reading = read(&area_of(128, &[]));
     assert_eq!((places(&reading), damage(&reading), reading.free), (vec![], vec![], 24));
     assert!(reading.is_clean());
 }
 
 #[test]
 fn stretches_between_records_and_at_the_end() {
-    let reading =
-        read(&area_of(128, &[b"xyz", &root(), b"\xff\xff", &root(), b"\xffq"]), Fault::None);
+    let reading = read(&area_of(128, &[b"xyz", &root(), b"\xff\xff", &root(), b"\xffq"]));
     assert_eq!(places(&reading), vec![27, 49]);
     assert_eq!(damage(&reading), vec![(24, 3), (47, 2), (69, 2)]);
     assert_eq!((reading.free, reading.damage_bytes()), (71, 7));
@@ -117,7 +135,7 @@ fn stretches_between_records_and_at_the_end() {
 /// empty. A record may end exactly at the area's end.
 #[test]
 fn ff_before_a_record_that_ends_the_area() {
-    let reading = read(&area_of(128, &[&root(), &[0xff; 64], &root()]), Fault::None);
+    let reading = read(&area_of(128, &[&root(), &[0xff; 64], &root()]));
     assert_eq!((places(&reading), damage(&reading)), (vec![24, 108], vec![(44, 64)]));
     assert_eq!(reading.free, 128);
 }
@@ -125,7 +143,7 @@ fn ff_before_a_record_that_ends_the_area() {
 #[test]
 fn a_record_of_ff_bytes_that_ends_the_area() {
     let block = Block::new(BLOCK, 0, A, NONE, &[0xff; 80]).bytes();
-    let reading = read(&area_of(128, &[&block]), Fault::None);
+    let reading = read(&area_of(128, &[&block]));
     assert_eq!((places(&reading), damage(&reading), reading.free), (vec![24], vec![], 128));
 }
 
@@ -134,7 +152,7 @@ fn a_record_of_ff_bytes_that_ends_the_area() {
 fn a_bad_record_does_not_hide_the_next() {
     let mut bad = Inode::new(A, 0, ROOT, b"a").bytes();
     bad[17] = 40;
-    let reading = read(&area_of(200, &[&bad, &root()]), Fault::None);
+    let reading = read(&area_of(200, &[&bad, &root()]));
     assert_eq!((places(&reading), damage(&reading)), (vec![45], vec![(24, 21)]));
 }
 
@@ -142,32 +160,35 @@ fn a_bad_record_does_not_hide_the_next() {
 #[test]
 fn a_record_inside_a_block() {
     let block = Block::new(BLOCK, 0, A, NONE, &root()).bytes();
-    assert_eq!(places(&read(&area_of(128, &[&block]), Fault::None)), vec![24]);
+    assert_eq!(places(&read(&area_of(128, &[&block]))), vec![24]);
     let mut torn = block;
     torn[5] ^= 1;
-    let reading = read(&area_of(128, &[&torn]), Fault::None);
+    let reading = read(&area_of(128, &[&torn]));
     assert_eq!((places(&reading), damage(&reading)), (vec![48], vec![(24, 24)]));
 }
 
 #[test]
 fn zero_bytes_are_damage() {
-    let reading = read(&area_of(128, &[&[0; 104]]), Fault::None);
+    let reading = read(&area_of(128, &[&[0; 104]]));
     assert_eq!((damage(&reading), reading.free), (vec![(24, 104)], 128));
 }
 
+/// Of a header that is not valid, the area is passed over: of two areas no file area is left
+/// (3).
 #[test]
 fn valid_area_headers() {
-    let area = area_of(128, &[]);
-    assert!(AreaHeader::valid(&area).is_some());
-    for i in 0..21 {
-        let mut other = area.clone();
-        other[i] ^= 1;
-        assert!(AreaHeader::valid(&other).is_none(), "byte {i}");
-    }
-    for i in 21..24 {
-        let mut other = area.clone();
-        other[i] ^= 1;
-        assert!(AreaHeader::valid(&other).is_some(), "byte {i}");
+    let flash = rooted(128);
+    assert_eq!(mount(&flash), 0);
+    for i in 0..24 {
+        let mut other = rooted(128);
+        other.image[128 + i] ^= 1;
+        let area = &other.image[128..];
+        assert_eq!(AreaHeader::valid(area).is_some(), i >= 21, "byte {i}");
+        assert_eq!(mount(&other), if i >= 21 { 0 } else { 3 }, "byte {i}");
     }
     assert!(AreaHeader::valid(&area_of(128, &[])[..127]).is_none());
+    let mut shorter = Flash::over(flash.image, vec![0, 128, 129, 127]);
+    assert_eq!(mount(&shorter), 1);
+    shorter = Flash::over([&shorter.image[..], &[0xff]].concat(), vec![0, 128, 128, 129]);
+    assert_eq!(mount(&shorter), 3);
 }

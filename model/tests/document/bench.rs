@@ -2,7 +2,8 @@
 
 use nffs_model::compare::bytes;
 use nffs_model::crc::crc16;
-use nffs_model::layout::{is_block, is_directory, is_file, Block, Inode, Record, NONE};
+use nffs_model::forge::Flash;
+use nffs_model::layout::{is_block, is_directory, is_file, Block, Inode, NONE, ROOT};
 use nffs_model::mount::greatest_block;
 use nffs_model::path;
 
@@ -15,33 +16,55 @@ fn the_published_check_value() {
     assert_eq!(crc16([]), 0);
 }
 
-#[test]
-fn greatest_block_size_by_shortest_area() {
-    assert_eq!(greatest_block(128), 40);
-    assert_eq!(greatest_block(4096), 2024);
-    assert_eq!(greatest_block(4142), 2047);
-    assert_eq!(greatest_block(4144), 2048);
-    assert_eq!(greatest_block(4145), 2048);
-    assert_eq!(greatest_block(65_536), 2048);
+/// Asserts that an append of one byte more than this cuts them into a block of this size and
+/// one of the byte: the headers that a read follows tell where the second block begins.
+fn cuts_at(length: usize, size: usize) {
+    let mut flash = Flash::of(&vec![length; (65_536 / length).min(8)]);
+    flash.root(1);
+    assert_eq!(create(&mut flash, "/a", 1), Ok(A));
+    assert_eq!(append(&mut flash, "/a", &vec![7; size + 1]), 0);
+    let headers = |position| read(&flash, A, position as u32, 1).0.headers;
+    assert_eq!((headers(0), headers(size - 1), headers(size)), (2, 2, 1), "areas of {length}");
 }
 
-fn accepted(record: Vec<u8>) -> bool {
-    Record::acceptable(&record).is_some()
+#[test]
+fn greatest_block_size_by_shortest_area() {
+    for (length, size) in
+        [(128, 40), (4096, 2024), (4142, 2047), (4144, 2048), (4145, 2048), (32_768, 2048)]
+    {
+        assert_eq!(greatest_block(length), size);
+        cuts_at(length, size);
+    }
+    assert_eq!(greatest_block(65_536), 2048);
 }
 
 #[test]
 fn name_and_data_lengths() {
-    assert!(accepted(Inode::new(A, 0, 0, &[b'n'; 255]).bytes()));
-    assert!(!accepted(Inode::new(A, 0, 0, b"").bytes()));
+    assert!(accepted(&Inode::new(A, 0, 0, &[b'n'; 255]).bytes()));
+    assert!(!accepted(&Inode::new(A, 0, 0, b"").bytes()));
     let block = |n: usize| Block::new(BLOCK, 0, A, NONE, &vec![0; n]).bytes();
-    assert!(accepted(block(2048)));
-    assert!(accepted(block(1)));
-    assert!(!accepted(block(2049)));
-    assert!(!accepted(block(0)));
+    assert!(accepted(&block(2048)));
+    assert!(accepted(&block(1)));
+    assert!(!accepted(&block(2049)));
+    assert!(!accepted(&block(0)));
 }
 
+/// The ranges by the kind that a lookup tells of an inode, and by which ids an inode and a
+/// block may bear.
 #[test]
 fn id_ranges() {
+    for (id, kind) in [(1, 0), (0x0fff_ffff, 0), (0x1000_0000, 1), (0x7fff_ffff, 1)] {
+        let mut flash = rooted(4096);
+        assert!(flash.inode(1, id, 0, ROOT, b"x"));
+        let found = lookup(&flash, "/x");
+        assert_eq!((found.number, found.id, found.kind), (0, id, kind));
+    }
+    assert!(!accepted(&Inode::new(0x8000_0000, 0, 0, b"x").bytes()));
+    for (id, good) in
+        [(0x7fff_ffff, false), (0x8000_0000, true), (0xffff_fffe, true), (NONE, false)]
+    {
+        assert_eq!(accepted(&Block::new(id, 0, A, NONE, b"x").bytes()), good, "{id:x}");
+    }
     assert!(is_directory(0) && is_directory(0x0fff_ffff) && !is_directory(0x1000_0000));
     assert!(!is_file(0x0fff_ffff) && is_file(0x1000_0000) && is_file(0x7fff_ffff));
     assert!(!is_file(0x8000_0000) && is_block(0x8000_0000) && is_block(0xffff_fffe));
@@ -52,8 +75,13 @@ fn id_ranges() {
 fn the_named_paths() {
     assert_eq!(path::names(b"", b"/"), Ok(vec![]));
     assert_eq!(path::names(b"", b"/a"), Ok(vec![b"a".to_vec()]));
+    let flash = rooted(4096);
+    assert_eq!((find(&flash, "/"), find(&flash, "/a")), (Ok(ROOT), Err(9)));
     for bad in [&b""[..], b"//a", b"/a/"] {
-        assert!(path::names(b"/", bad).is_err());
+        for base in [&b""[..], b"/"] {
+            assert!(path::names(base, bad).is_err());
+            assert_eq!(calls::lookup(&flash.image, &flash.areas, base, bad).number, 8);
+        }
     }
 }
 
@@ -113,7 +141,7 @@ fn the_bytes_of_the_bench_area() {
 /// The calls write these very bytes.
 #[test]
 fn the_bytes_that_the_calls_write() {
-    let mut flash = nffs_model::forge::Flash::over(vec![0; 8192], vec![0, 4096, 4096, 4096]);
+    let mut flash = Flash::over(vec![0; 8192], vec![0, 4096, 4096, 4096]);
     assert_eq!(calls::format(&mut flash.image, &flash.areas), 0);
     assert_eq!(create(&mut flash, "/a", 1), Ok(A));
     assert_eq!(append(&mut flash, "/a", &[0x41; 10]), 0);

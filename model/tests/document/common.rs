@@ -3,7 +3,7 @@
 
 use crate::calls;
 use nffs_model::forge::Flash;
-use nffs_model::layout::{Block, Inode, NONE, ROOT};
+use nffs_model::layout::{Block, Inode, Record, NONE, ROOT};
 use nffs_model::{Handle, Lookup, Read, Report};
 
 pub const A: u32 = 0x1000_0000;
@@ -70,6 +70,19 @@ pub fn put_anywhere(flash: &mut Flash, record: &[u8]) -> bool {
 fn unchanged_if_refused(number: u32, before: &[u8], after: &[u8]) -> u32 {
     assert!(number == 0 || before == after, "refusal {number} changed the image");
     number
+}
+
+/// Whether a record behind the root, in an area of 4,096, is acceptable: it is taken, and
+/// nothing of it is damage.
+pub fn accepted(record: &[u8]) -> bool {
+    let mut flash = rooted(4096);
+    assert!(flash.put(1, record));
+    let r = report(&flash);
+    assert_eq!(r.number, 0);
+    let taken = (r.stretches, r.skipped) == (0, 0);
+    assert!(taken || r.skipped > 0);
+    assert_eq!(taken, Record::acceptable(record).is_some());
+    taken
 }
 
 pub fn report(flash: &Flash) -> Report {

@@ -6,6 +6,8 @@ use nffs_compare as calls;
 #[path = "../../../model/tests/document/common.rs"]
 mod common;
 
+#[path = "../../../model/tests/document/areas.rs"]
+mod areas;
 #[path = "../../../model/tests/document/bench.rs"]
 mod bench;
 #[path = "../../../model/tests/document/collecting.rs"]
