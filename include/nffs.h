@@ -25,9 +25,23 @@
 #ifndef NFFS_H
 #define NFFS_H
 
+#if !defined(__x86_64__) || defined(__ILP32__) || defined(_WIN32) || defined(__CYGWIN__)
+#error "libnffs.a is for x86-64 with the System V calling convention"
+#endif
+
 #include <stddef.h>
 #include <stdint.h>
 #include <string.h>
+
+/* Of the calls and their declarations here. */
+#define NFFS_VERSION "0.1.0"
+
+/* An answer that nobody looks at may be a refusal. */
+#if defined(__cplusplus) && __cplusplus >= 201703L
+#define NFFS_ANSWERS [[nodiscard]]
+#else
+#define NFFS_ANSWERS __attribute__((warn_unused_result))
+#endif
 
 #ifdef __cplusplus
 extern "C" {
@@ -116,48 +130,48 @@ typedef struct nffs_create_answer {
 
 /* Erases the areas and makes an empty volume of them: the longest, first among equals, is scratch, and the others are file areas. Needs
    two areas. Checks in order: 1, 3. */
-uint32_t nffs_format(uint8_t *image, size_t image_length, const nffs_area *areas, size_t areas_count);
+NFFS_ANSWERS uint32_t nffs_format(uint8_t *image, size_t image_length, const nffs_area *areas, size_t areas_count);
 
 /* The state of a volume: whether it mounts, and what is in it. Checks in order: 1 to 7. */
-nffs_report_answer nffs_report(const uint8_t *image, size_t image_length, const nffs_area *areas, size_t areas_count);
+NFFS_ANSWERS nffs_report_answer nffs_report(const uint8_t *image, size_t image_length, const nffs_area *areas, size_t areas_count);
 
 /* What a path leads to: id and kind. Checks in order: 1 to 7, 8, then 9, 10 or 11 at the first step of the path that fails. */
-nffs_lookup_answer nffs_lookup(const uint8_t *image, size_t image_length, const nffs_area *areas, size_t areas_count,
+NFFS_ANSWERS nffs_lookup_answer nffs_lookup(const uint8_t *image, size_t image_length, const nffs_area *areas, size_t areas_count,
                                const uint8_t *base, size_t base_length, const uint8_t *path, size_t path_length);
 
 /* Opens the file of a path, at position 0. Checks in order: 1 to 7, 8, then 9, 10 or 11 at the first step of the path that fails, 11
    for a directory. */
-nffs_open_answer nffs_open(const uint8_t *image, size_t image_length, const nffs_area *areas, size_t areas_count,
+NFFS_ANSWERS nffs_open_answer nffs_open(const uint8_t *image, size_t image_length, const nffs_area *areas, size_t areas_count,
                            const uint8_t *base, size_t base_length, const uint8_t *path, size_t path_length);
 
 /* Reads from the handle's position on into the front of the buffer, as much as buffer and file allow, and moves the position behind
    what was given. At the end of the file it gives 0 bytes. Checks in order: 1 to 7, 9, 11, 13, 14. */
-nffs_read_answer nffs_read(const uint8_t *image, size_t image_length, const nffs_area *areas, size_t areas_count,
+NFFS_ANSWERS nffs_read_answer nffs_read(const uint8_t *image, size_t image_length, const nffs_area *areas, size_t areas_count,
                            nffs_handle *handle, uint8_t *buffer, size_t buffer_length);
 
 /* The same with id and position by value. Checks in order: 1 to 7, 9, 11, 13, 14. */
-nffs_read_answer nffs_read_at(const uint8_t *image, size_t image_length, const nffs_area *areas, size_t areas_count,
+NFFS_ANSWERS nffs_read_answer nffs_read_at(const uint8_t *image, size_t image_length, const nffs_area *areas, size_t areas_count,
                               uint32_t id, uint32_t position, uint8_t *buffer, size_t buffer_length);
 
 /* Creates an empty directory or file. Checks in order: 1 to 7, 8, then 9, 10 or 11 at the first step before the last name that fails,
    11 where the last name is asked for below a file, 12, 5 with the new inode counted in, 15. */
-nffs_create_answer nffs_create(uint8_t *image, size_t image_length, const nffs_area *areas, size_t areas_count,
+NFFS_ANSWERS nffs_create_answer nffs_create(uint8_t *image, size_t image_length, const nffs_area *areas, size_t areas_count,
                                const uint8_t *base, size_t base_length, const uint8_t *path, size_t path_length, uint32_t kind);
 
 /* Appends data to a file, all of it or nothing; at most NFFS_APPEND_MOST bytes. Checks in order: 1 to 7, 8, then 9, 10 or 11 at the
    first step of the path that fails, 11 for a directory, 13, 5 with the new blocks counted in, 15. */
-uint32_t nffs_append(uint8_t *image, size_t image_length, const nffs_area *areas, size_t areas_count,
+NFFS_ANSWERS uint32_t nffs_append(uint8_t *image, size_t image_length, const nffs_area *areas, size_t areas_count,
                      const uint8_t *base, size_t base_length, const uint8_t *path, size_t path_length,
                      const uint8_t *data, size_t data_length);
 
 /* Deletes a file, or a directory with what lies below it. Checks in order: 1 to 7, 8, then 9, 10 or 11 at the first step of the path
    that fails, 16, 15. */
-uint32_t nffs_unlink(uint8_t *image, size_t image_length, const nffs_area *areas, size_t areas_count,
+NFFS_ANSWERS uint32_t nffs_unlink(uint8_t *image, size_t image_length, const nffs_area *areas, size_t areas_count,
                      const uint8_t *base, size_t base_length, const uint8_t *path, size_t path_length);
 
 /* Copies what counts in one file area into scratch and erases that area, which becomes scratch: superseded records leave room, deleted
    ones as soon as nothing else names them, and the damage of that area goes. One call collects one area. Checks in order: 1 to 7, 17. */
-uint32_t nffs_collect(uint8_t *image, size_t image_length, const nffs_area *areas, size_t areas_count);
+NFFS_ANSWERS uint32_t nffs_collect(uint8_t *image, size_t image_length, const nffs_area *areas, size_t areas_count);
 
 #ifdef __cplusplus
 #define NFFS_HOLDS(what, words) static_assert(what, words)
@@ -165,7 +179,6 @@ uint32_t nffs_collect(uint8_t *image, size_t image_length, const nffs_area *area
 #define NFFS_HOLDS(what, words) _Static_assert(what, words)
 #endif
 
-NFFS_HOLDS(sizeof(size_t) == 8 && sizeof(void *) == 8, "the archive is for x86-64");
 NFFS_HOLDS(sizeof(nffs_area) == 8, "layout of nffs_area");
 NFFS_HOLDS(sizeof(nffs_handle) == 8, "layout of nffs_handle");
 NFFS_HOLDS(sizeof(nffs_report_answer) == 20, "layout of nffs_report_answer");
@@ -233,20 +246,20 @@ static inline size_t nffs_text_length(const char *text) {
 
 /* The calls on a volume. base and path are C strings; a null base is an empty one. */
 
-static inline uint32_t nffs_volume_format(const nffs_volume *v) {
+NFFS_ANSWERS static inline uint32_t nffs_volume_format(const nffs_volume *v) {
     return nffs_format(NFFS_IMAGE_(v));
 }
 
-static inline nffs_report_answer nffs_volume_report(const nffs_volume *v) {
+NFFS_ANSWERS static inline nffs_report_answer nffs_volume_report(const nffs_volume *v) {
     return nffs_report(NFFS_IMAGE_(v));
 }
 
-static inline nffs_lookup_answer nffs_volume_lookup(const nffs_volume *v, const char *base, const char *path) {
+NFFS_ANSWERS static inline nffs_lookup_answer nffs_volume_lookup(const nffs_volume *v, const char *base, const char *path) {
     return nffs_lookup(NFFS_IMAGE_(v), NFFS_TEXT_(base), NFFS_TEXT_(path));
 }
 
 /* Opens the file of a path; the handle is changed only where the answer is 0. */
-static inline uint32_t nffs_volume_open(const nffs_volume *v, const char *base, const char *path, nffs_handle *handle) {
+NFFS_ANSWERS static inline uint32_t nffs_volume_open(const nffs_volume *v, const char *base, const char *path, nffs_handle *handle) {
     const nffs_open_answer opened = nffs_open(NFFS_IMAGE_(v), NFFS_TEXT_(base), NFFS_TEXT_(path));
     if (opened.number == NFFS_OK) {
         handle->id = opened.id;
@@ -255,33 +268,34 @@ static inline uint32_t nffs_volume_open(const nffs_volume *v, const char *base, 
     return opened.number;
 }
 
-static inline nffs_read_answer nffs_volume_read(const nffs_volume *v, nffs_handle *handle, void *buffer, size_t length) {
+NFFS_ANSWERS static inline nffs_read_answer nffs_volume_read(const nffs_volume *v, nffs_handle *handle, void *buffer, size_t length) {
     return nffs_read(NFFS_IMAGE_(v), handle, nffs_bytes_to_write(buffer, length), length);
 }
 
-static inline nffs_read_answer nffs_volume_read_at(const nffs_volume *v, uint32_t id, uint32_t position, void *buffer, size_t length) {
+NFFS_ANSWERS static inline nffs_read_answer nffs_volume_read_at(const nffs_volume *v, uint32_t id, uint32_t position, void *buffer, size_t length) {
     return nffs_read_at(NFFS_IMAGE_(v), id, position, nffs_bytes_to_write(buffer, length), length);
 }
 
-static inline nffs_create_answer nffs_volume_create(const nffs_volume *v, const char *base, const char *path, uint32_t kind) {
+NFFS_ANSWERS static inline nffs_create_answer nffs_volume_create(const nffs_volume *v, const char *base, const char *path, uint32_t kind) {
     return nffs_create(NFFS_IMAGE_(v), NFFS_TEXT_(base), NFFS_TEXT_(path), kind);
 }
 
-static inline uint32_t nffs_volume_append(const nffs_volume *v, const char *base, const char *path, const void *data, size_t length) {
+NFFS_ANSWERS static inline uint32_t nffs_volume_append(const nffs_volume *v, const char *base, const char *path, const void *data, size_t length) {
     return nffs_append(NFFS_IMAGE_(v), NFFS_TEXT_(base), NFFS_TEXT_(path), nffs_bytes(data, length), length);
 }
 
-static inline uint32_t nffs_volume_unlink(const nffs_volume *v, const char *base, const char *path) {
+NFFS_ANSWERS static inline uint32_t nffs_volume_unlink(const nffs_volume *v, const char *base, const char *path) {
     return nffs_unlink(NFFS_IMAGE_(v), NFFS_TEXT_(base), NFFS_TEXT_(path));
 }
 
-static inline uint32_t nffs_volume_collect(const nffs_volume *v) {
+NFFS_ANSWERS static inline uint32_t nffs_volume_collect(const nffs_volume *v) {
     return nffs_collect(NFFS_IMAGE_(v));
 }
 
 #undef NFFS_IMAGE_
 #undef NFFS_TEXT_
 #undef NFFS_HOLDS
+#undef NFFS_ANSWERS
 
 #ifdef __cplusplus
 }

@@ -8,7 +8,9 @@ from pathlib import Path
 top = Path(__file__).resolve().parents[2]
 rattle = (top / "crates/nffs/src/lib.rt").read_text()
 answers = (top / "crates/calls/src/lib.rt").read_text()
-header = (top / "include/nffs.h").read_text()
+whole = (top / "include/nffs.h").read_text()
+header = whole.replace("NFFS_ANSWERS ", "")
+manifest = (top / "bindings/rust/Cargo.toml").read_text()
 raw = (top / "bindings/rust/src/raw.rs").read_text()
 crate = (top / "bindings/rust/src/lib.rs").read_text()
 refusal = (top / "bindings/rust/src/refusal.rs").read_text()
@@ -103,6 +105,10 @@ check("each number has its words", list(numbers), list(said))
 check("the numbers go from 0 on", list(numbers.values()), list(range(len(numbers))))
 listed = [(n, int(i), w) for n, i, w in re.findall(r'^\s+([A-Z_]+) (\d+) "([^"]*)";', refusal, re.M)]
 check("the refusals, C and Rust", [(n, i, said.get(n)) for n, i in numbers.items() if i > 0], listed)
+
+check("the version, C and Rust", re.findall(r'#define NFFS_VERSION ("[^"]+")', whole), re.findall(r"^version = (.+)$", manifest, re.M))
+marked = re.findall(r"^NFFS_ANSWERS (?:static inline )?\w+ (nffs_\w+)\(", whole, re.M)
+check("calls whose answer must be looked at", sorted(marked), sorted(re.findall(r"^(?:static inline )?(?:uint32_t|nffs_\w+_answer) (nffs_\w+)\(", header, re.M)))
 
 ORDER = r"Checks in order: [^.]*\."
 

@@ -1,8 +1,9 @@
 """The stack that each exported call of an archive needs at most, from its code, the return address included.
 
 stack.py ARCHIVE prints 'call bytes'. Through each function the depth of the stack is followed along every jump; a call adds what its
-callee needs. What cannot be followed so, as recursion, jumps through tables or a computed stack pointer, is an error. What memset and
-the like need of their own, outside the archive, comes on top.
+callee needs, and what is used below the stack pointer (the red zone) is counted in. What cannot be followed so, as recursion, jumps through
+tables, a computed stack pointer or a return at another depth than the entry's, is an error. What memset and the like need of their own,
+outside the archive, comes on top.
 """
 
 import re
@@ -44,6 +45,11 @@ def step(name, operands):
     return 0
 
 
+def below(operands):
+    """How far below the stack pointer an instruction reads or writes."""
+    return max((int(by, 16) for by in re.findall(r"-(0x[0-9a-f]+)\(%rsp", operands)), default=0)
+
+
 def depths(code):
     """The depth before each instruction that is reached."""
     place = {at: i for i, (at, *_) in enumerate(code)}
@@ -61,6 +67,8 @@ def depths(code):
             if not target:
                 sys.exit(f"a jump whose target is not known: {operands}")
             todo.append((place[int(target.group(1), 16)], d))
+        if name == "ret" and d != 8:
+            sys.exit(f"a return at depth {d}")
         if name not in ("jmp", "ret", "ud2"):
             todo.append((i + 1, d + step(name, operands)))
     missed = [line for i, line in enumerate(code) if i not in depth and not PADDING.match(line[1] + " " + line[2])]
@@ -77,7 +85,7 @@ def need(name, code, known, under=()):
         most = 0
         for i, d in depths(code[name]).items():
             _, what, operands, symbol = code[name][i]
-            most = max(most, d)
+            most = max(most, d + below(operands))
             # a jump to another function is its last call, made in the place of this frame
             if what == "call" or (what.startswith("j") and symbol is not None):
                 if symbol not in code and symbol not in OUTSIDE:

@@ -30,8 +30,10 @@
 
 pub mod raw;
 mod refusal;
+mod volume;
 
 pub use refusal::Refusal;
+pub use volume::Volume;
 
 /// An area of the flash.
 ///
@@ -82,6 +84,7 @@ pub enum Kind {
 
 /// The state of a volume.
 #[derive(Clone, Copy, Debug, PartialEq, Eq)]
+#[non_exhaustive]
 pub struct Report {
     /// Distinct inode ids.
     pub inodes: u32,
@@ -95,6 +98,7 @@ pub struct Report {
 
 /// What a path leads to.
 #[derive(Clone, Copy, Debug, PartialEq, Eq)]
+#[non_exhaustive]
 pub struct Found {
     /// The id of the inode.
     pub id: u32,
@@ -114,6 +118,7 @@ pub struct Handle {
 
 /// What a read gave.
 #[derive(Clone, Copy, Debug, PartialEq, Eq)]
+#[non_exhaustive]
 pub struct Given {
     /// The number of bytes, in the front of the buffer; 0 at the end of the file.
     pub bytes: usize,

@@ -13,6 +13,9 @@
 
 use crate::{Area, Handle};
 
+#[cfg(not(all(target_arch = "x86_64", target_pointer_width = "64", not(windows))))]
+compile_error!("libnffs.a is for x86-64 with the System V calling convention");
+
 #[repr(C)]
 #[derive(Clone, Copy, Debug, PartialEq, Eq)]
 pub struct ReportAnswer {
