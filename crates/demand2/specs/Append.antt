@@ -10,7 +10,8 @@ use lib.ListN.{length, take, drop}
 use lib.Dec.{eqb, ltb, leb, nltb→le, leb→le, le→leb}
 use Rattle.format.specs.Bytes.{Bytes}
 use Rattle.format.specs.Ids.{NONE, firstFileId, firstBlockId, rootId, isDirectoryId}
-use Rattle.format.specs.Record.{recordId}
+use Rattle.format.specs.Reading.{areaClean}
+use Rattle.format.specs.Record.{recordSize, recordId}
 use Rattle.format_laws.specs.Crc.{Octets}
 use Rattle.volume.specs.Lists.{only, keep}
 use Rattle.volume.specs.View.{byBytes}
@@ -25,7 +26,7 @@ use Rattle.volume_laws.specs.Contents.{owned-owns}
 use Rattle.volume_laws.specs.Counting.{counting-mem}
 use Rattle.volume_laws.specs.Climb.{live-some}
 use Rattle.calls.specs.Refusal.{firstRefusal}
-use Rattle.calls.specs.Areas.{fileAreas}
+use Rattle.calls.specs.Areas.{areaBytes, fileAreas}
 use Rattle.calls.specs.Mount.{mostBlocks, volume, mountNumber}
 use Rattle.calls.specs.Storing.{Store, spaces, placeAll, storeAll, noPlace, namedIds}
 use Rattle.calls.specs.Attempt.{Attempt, goes, refuses, leaves}
@@ -36,13 +37,15 @@ use Rattle.calls.specs.Read.{given, refused, giveBlocks, give}
 use Rattle.calls_laws.specs.Checks.{Passes, passes, mounts}
 use Rattle.calls_laws.specs.Records.{volume-sound}
 use Rattle.calls_laws.specs.Attempt.{attempt-goes}
-use Rattle.demand2.specs.Places.{AreaGrown, areas-grown, place-found, Written, all-placed}
+use Rattle.demand2.specs.Area.{Whole}
+use Rattle.demand2.specs.Places.{AreaGrown, areas-grown, place-found, Written, all-placed, octets-written, written-areas, written-clean}
 use Rattle.demand2.specs.Unused.{Unused, block-named, unnamed-unused, few-named}
 use Rattle.demand2.specs.Added.{same-inode, same-fate, same-lookup}
 use Rattle.demand2.specs.Mounted.{agreed-inodes}
 use Rattle.demand2.specs.Found.{passed-check, lookup-refused, root-there, found-lives, resolved, resolve-alike}
+use Rattle.demand2.specs.NewRecord.{IsBlock}
 use Rattle.demand2.specs.Cut.{pieces-joined, pieces-good}
-use Rattle.demand2.specs.Pieces.{Behind, nothing, a-block, mostNames, Made, made, made-whole, made-text, made-count, made-unnamed, BlocksName}
+use Rattle.demand2.specs.Pieces.{Behind, nothing, a-block, mostNames, Made, made, made-each, made-text, made-count, made-unnamed, BlocksName}
 use Rattle.demand2.specs.Pieces.{Grown, all-grown}
 
 text-append : (bs cs : List Bytes) → textOf byBytes (bs ++ cs) ≡ textOf byBytes bs ++ textOf byBytes cs
@@ -136,13 +139,19 @@ pub record AfterAppend (image image′ : Bytes) (ds : List Descriptor) (base pat
   pub inodes : (i : ℕ) → inodeOf byBytes (volume image′ ds) i ≡ inodeOf byBytes (volume image ds) i
   pub fates : (i : ℕ) → fateOf byBytes (volume image′ ds) i ≡ fateOf byBytes (volume image ds) i
   pub contents : (f : ℕ) → f ≢ file → fileBlocks byBytes (volume image′ ds) f ≡ fileBlocks byBytes (volume image ds) f
-  -- each new record bears an id that no record named, and went to the start of the free space of a clean file area, one after the other
+  -- each new record bears an id that no record named, and went to the start of the free space of the first clean file area with room for it, one
+  -- after the other
   pub unused : (b : Bytes) → List·Memᴰ b (newBlocks image ds file text) → Unused (volume image ds) (recordId b)
   pub went : Written ds image (newBlocks image ds file text) image′
   -- so that each area reads as its old records followed by those that went there
   pub areas : (d : Descriptor) → List·Memᴰ d ds → AreaGrown image image′ d (newBlocks image ds file text)
+  -- the file areas are the same, and each is as clean as it was
+  pub same-areas : fileAreas image′ ds ≡ fileAreas image ds
+  pub clean-after : (d : Descriptor) → List·Memᴰ d ds → areaClean recordSize (areaBytes image′ d) ≡ areaClean recordSize (areaBytes image d)
+  -- an image of bytes stays one, for the next call
+  pub octets : Octets image → Octets image′
 
-module _ (image : Bytes) (ds : List Descriptor) (base path text : Bytes) (octets : Octets text) (g : AppendGoes image ds base path text) where
+module _ (image : Bytes) (ds : List Descriptor) (base path text : Bytes) (octets-text : Octets text) (g : AppendGoes image ds base path text) where
   p : Passes image ds
   p = passes image ds (g .mounted)
 
@@ -213,12 +222,17 @@ module _ (image : Bytes) (ds : List Descriptor) (base path text : Bytes) (octets
   names-few = omega (arith, few-named image ds (p .described), counted, g .few)
 
   all-made : Made (namedIds v) f (last .0) pieces
-  all-made = made f file-id pieces (namedIds v) (last .0) names-few behind (pieces-good image ds p text octets)
+  all-made = made f file-id pieces (namedIds v) (last .0) names-few behind (pieces-good image ds p text octets-text)
+
+  -- what holds of a block as it was meant holds of each
+  each : (P : Bytes → Type 0) → ((b : Bytes) (id previous : ℕ) (t : Bytes) → IsBlock b id 0 f previous t → P b)
+      → (b : Bytes) → List·Memᴰ b (newBlocks image ds f text) → P b
+  each P h b m = made-each P f h pieces (namedIds v) (last .0) all-made b (rw records-are at m)
 
   all-went : Written ds image (newBlocks image ds f text) image′
   unfolding imageAppended
   all-went = rw (imageAppended, g .goes, g .placed) (all-placed ds image (newBlocks image ds f text) (g .stores) (p .described)
-      (λ b m. made-whole pieces (namedIds v) f (last .0) all-made b (rw records-are at m)) (g .placed))
+      (each (Whole recordSize) (λ b id previous t k. k .whole)) (g .placed))
 
   grown : Grown image image′ ds f (newBlocks image ds f text)
   grown = rw records-are (all-grown ds f pieces image image′ (namedIds v) (last .0) p named behind (last .1) names-few
@@ -267,6 +281,9 @@ module _ (image : Bytes) (ds : List Descriptor) (base path text : Bytes) (octets
     unused = λ b m. unnamed-unused v (recordId b) (made-unnamed pieces (namedIds v) f (last .0) all-made b (rw records-are at m));
     went = all-went;
     areas = areas-grown ds (p .described) all-went;
+    same-areas = written-areas ds (p .described) all-went;
+    clean-after = written-clean ds (p .described) all-went;
+    octets = octets-written all-went (each Octets (λ b id previous t k. k .octets));
   }
     where
       headers : ℕ → ℕ → ℕ

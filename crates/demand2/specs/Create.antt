@@ -1,5 +1,5 @@
 -- Create. Demand 2: "Creating .. do[es] what is written there, and everything else that could be reached by path reads as before."
-use Prim.Native.Nat.{ℕ, suc, _+_, _≤_, _<_}
+use Prim.Native.Nat.{ℕ, zero, suc, _+_, _≤_, _<_}
 use mathlib.Core.Path.{_≡_, refl, sym, ap, _∙_}
 use mathlib.Core.Logic.{_≢_, ⊎-elim}
 use mathlib.Core.Bool.{Bool, true, false, cond, not, _||_}
@@ -8,9 +8,11 @@ use mathlib.Core.List.{List, [], _∷_, _++_, List·Memᴰ, List·Memᴰ·eq-of-
 use native.Mathlib.Omega.{arith}
 use lib.ListN.{length}
 use lib.Dec.{eqb, ltb, nltb→le, ltb→lt, lt→ltb}
+use borrow.Author.Tests.{lt-leb}
 use Rattle.format.specs.Bytes.{Bytes}
 use Rattle.format.specs.Ids.{NONE, rootId, firstFileId, isDirectoryId, firstBlockId, isInodeId}
-use Rattle.format.specs.Record.{inodeRule, recordId}
+use Rattle.format.specs.Record.{recordSize, inodeRule, recordId}
+use Rattle.format.specs.Reading.{areaClean}
 use Rattle.format.specs.Encoding.{inodeBytes}
 use Rattle.format_laws.specs.Crc.{Octets}
 use Rattle.format_laws.specs.Encoding.{MeantInode}
@@ -19,32 +21,39 @@ use Rattle.volume.specs.Counting.{Volume, inodeOf, inodeIds}
 use Rattle.volume.specs.Path.{goodPath, pathNames}
 use Rattle.volume.specs.Tree.{found, absent, children, walk, lookupNames, isChild}
 use Rattle.volume.specs.Fate.{live, fateOf}
-use Rattle.volume.specs.Contents.{fileBlocks}
+use Rattle.volume.specs.Contents.{fileBlocks, textOf}
 use Rattle.volume_laws.specs.Tests.{eqb-false, not-is-false, or-is-false, true→T, T→true, not-T→false, eqb-differ}
 use Rattle.volume_laws.specs.Counting.{counting-mem}
 use Rattle.volume_laws.specs.Tree.{lookup-append, mem-children}
 use Rattle.calls.specs.Refusal.{firstRefusal}
-use Rattle.calls.specs.Areas.{fileAreas}
+use Rattle.calls.specs.Areas.{areaBytes, fileAreas}
 use Rattle.calls.specs.Mount.{mostInodes, volume, mountNumber, acceptedRecords}
 use Rattle.calls.specs.Storing.{Store, spaces, placeAll, noPlace, namedIds}
 use Rattle.calls.specs.Attempt.{goes}
 use Rattle.calls.specs.Create.{lastName, namesBefore, isRoot, firstIdOf, newId, newInode, createIn, creating, createOf, imageCreated}
 use Rattle.calls.specs.declared.Descriptor.{Descriptor}
 use Rattle.calls.specs.Lookup.{resolve}
-use Rattle.calls.specs.Read.{give}
+use Rattle.calls.specs.Read.{given, refused, giveBlocks, giveFile, give, readGiven}
 use Rattle.calls_laws.specs.Checks.{Passes, passes, mounts}
 use Rattle.calls_laws.specs.Records.{volume-sound}
 use Rattle.calls_laws.specs.Attempt.{attempt-goes}
 use Rattle.demand2.specs.Added.{Same, Added, added-ids, same-count, same-contents}
 use Rattle.demand2.specs.Mounted.{agreed-inodes, agreed-blocks, accepted-kind, few-ids, ids-few, inodes-added, blocks-same, still-passes}
 use Rattle.demand2.specs.NewInode.{InodeNew, inode-new}
-use Rattle.demand2.specs.Store.{OneStored, one-stored}
+use Rattle.demand2.specs.Store.{OneStored, one-stored, same-file-areas, same-clean}
 use Rattle.demand2.specs.Places.{place-found, all-placed}
 use Rattle.calls_laws.specs.Unused.{Smallest, unused-smallest}
 use Rattle.demand2.specs.Unused.{Unused, unnamed-unused, few-named}
 use Rattle.demand2.specs.Names.{GoodName, good-name, last-mem, names-split}
-use Rattle.demand2.specs.Found.{passed-check, lookup-refused, root-there, found-lives, found-once, resolved, resolve-alike}
-use Rattle.demand2.specs.NewRecord.{IsInode, inode-made, WrittenOne, written-one, no-blocks}
+use Rattle.demand2.specs.Found.{passed-check, lookup-refused, root-there, found-lives, found-once, resolved, resolve-alike, read-given, read-alike}
+use Rattle.demand2.specs.NewRecord.{IsInode, inode-made, WrittenOne, written-one, octets-one, no-blocks}
+
+-- a read of no block: "position equal to size reads 0 bytes; one more is 14"
+empty-given : (position room : ℕ) → giveFile (some []) position room ≡ cond (eqb position 0) (given [] 0) (refused 14)
+unfolding giveBlocks textOf
+empty-given zero zero = refl
+empty-given zero (suc room) = refl
+empty-given (suc position) room = rw (lt-leb (suc position) 0 (omega arith), eqb-differ (suc position) 0 (λ e. omega arith))
 
 -- what an accepted create found
 pub record CreateGoes (image : Bytes) (ds : List Descriptor) (base path : Bytes) (kind : ℕ) : Type 0 where
@@ -124,7 +133,11 @@ pub record AfterCreate (image image′ : Bytes) (ds : List Descriptor) (base pat
   -- it is live, found at its path, and empty
   pub lives : fateOf byBytes (volume image′ ds) id ≡ live
   pub found-at-path : resolve image′ ds base path ≡ found id
+  pub found-at-names : (b p : Bytes) → goodPath b p ≡ true → pathNames b p ≡ pathNames base path → resolve image′ ds b p ≡ found id
   pub empty : fileBlocks byBytes (volume image′ ds) id ≡ some []
+  -- a new file gives no byte at position 0 and is refused by 14 after it, whatever the room; a new directory is refused by 11
+  pub reads-new : (position room : ℕ) → readGiven image′ ds id position room
+      ≡ cond (eqb kind 0) (refused 11) (cond (eqb position 0) (given [] 0) (refused 14))
   -- "everything else that could be reached by path reads as before": a path that was found finds the same, one refused by another
   -- number than 9 is refused by that number still, and every read of another inode answers alike
   pub paths : (b p : Bytes) → resolve image ds b p ≢ absent 9 → resolve image′ ds b p ≡ resolve image ds b p
@@ -133,7 +146,7 @@ pub record AfterCreate (image image′ : Bytes) (ds : List Descriptor) (base pat
   -- below the new directory nothing is found (9), and the new file is no directory (11)
   pub below : (b p n : Bytes) (ns : List Bytes) → goodPath b p ≡ true → pathNames b p ≡ pathNames base path ++ (n ∷ ns)
       → resolve image′ ds b p ≡ absent (cond (eqb kind 0) 9 11)
-  pub reads : (i : ℕ) → i ≢ id → (position room : ℕ) → give (volume image′ ds) i position room ≡ give (volume image ds) i position room
+  pub reads : (i : ℕ) → i ≢ id → (position room : ℕ) → readGiven image′ ds i position room ≡ readGiven image ds i position room
   pub inodes : (i : ℕ) → i ≢ id → inodeOf byBytes (volume image′ ds) i ≡ inodeOf byBytes (volume image ds) i
   pub fates : (i : ℕ) → i ≢ id → fateOf byBytes (volume image′ ds) i ≡ fateOf byBytes (volume image ds) i
   pub contents : (f : ℕ) → fileBlocks byBytes (volume image′ ds) f ≡ fileBlocks byBytes (volume image ds) f
@@ -141,8 +154,14 @@ pub record AfterCreate (image image′ : Bytes) (ds : List Descriptor) (base pat
   -- reads as its old records followed by this one, and every other as before
   pub directory : ℕ
   pub above : lookupNames byBytes (volume image ds) (namesBefore (pathNames base path)) ≡ found directory
+  pub counts : inodeOf byBytes (volume image′ ds) id ≡ some (inodeBytes id 0 directory (lastName (pathNames base path)))
   pub went : WrittenOne image image′ ds (inodeBytes id 0 directory (lastName (pathNames base path)))
   pub stored : OneStored image image′ ds (went .area) (inodeBytes id 0 directory (lastName (pathNames base path)))
+  -- the file areas are the same, and each is as clean as it was
+  pub same-areas : fileAreas image′ ds ≡ fileAreas image ds
+  pub clean-after : (d : Descriptor) → List·Memᴰ d ds → areaClean recordSize (areaBytes image′ d) ≡ areaClean recordSize (areaBytes image d)
+  -- an image of bytes stays one, for the next call
+  pub octets : Octets image → Octets image′
 
 module _ (image : Bytes) (ds : List Descriptor) (base path : Bytes) (kind : ℕ) (octets-base : Octets base) (octets-path : Octets path)
     (g : CreateGoes image ds base path kind) where
@@ -283,6 +302,16 @@ module _ (image : Bytes) (ds : List Descriptor) (base path : Bytes) (kind : ℕ)
   it-found = ap (lookupNames byBytes (volume image′ ds)) split-names
       ∙ (rw (is .name-is, is .id-is) at (now .found-there (namesBefore (pathNames base path)) (g .found-there ∙ ap found (sym (is .parent-is)))))
 
+  is-empty : fileBlocks byBytes (volume image′ ds) id ≡ some []
+  is-empty = new-contents id ∙ no-blocks byBytes v id (free-id .no-owner)
+
+  new-reads : (position room : ℕ) → readGiven image′ ds id position room
+      ≡ cond (eqb kind 0) (refused 11) (cond (eqb position 0) (given [] 0) (refused 14))
+  unfolding give
+  new-reads position room =
+      let l : fateOf byBytes (volume image′ ds) id ≡ live = rw (is .id-is) at (now .lives) in
+      read-given image′ ds (mounts image′ ds still) id position room ∙ rw (give, l, ranged .1, is-empty, empty-given position room)
+
   -- nothing is below it
   none-below : (n : Bytes) (ns : List Bytes)
       → lookupNames byBytes (volume image′ ds) (pathNames base path ++ (n ∷ ns)) ≡ absent (cond (eqb kind 0) 9 11)
@@ -301,7 +330,7 @@ module _ (image : Bytes) (ds : List Descriptor) (base path : Bytes) (kind : ℕ)
       ∙ sym (append-assoc (namesBefore (pathNames base path)) (name ∷ []) rest) ∙ ap (λ k. k ++ rest) (sym split-names)
 
   after-create : AfterCreate image image′ ds base path kind id
-  unfolding isInodeId resolve give
+  unfolding isInodeId
   after-create = record {
     mounts = mounts image′ ds still;
     smallest = least;
@@ -309,21 +338,30 @@ module _ (image : Bytes) (ds : List Descriptor) (base path : Bytes) (kind : ℕ)
     an-inode = T→true (lt→ltb id firstBlockId (ranged .0));
     of-kind = ranged .1;
     lives = rw (is .id-is) at (now .lives);
-    found-at-path = rw (resolve, mounts image′ ds still, g .good) it-found;
-    empty = new-contents id ∙ no-blocks byBytes v id (free-id .no-owner);
+    found-at-path = new-path base path (g .good) refl;
+    found-at-names = new-path;
+    empty = is-empty;
+    reads-new = new-reads;
     paths = same-paths;
     elsewhere = same-elsewhere;
     below = nothing-below;
-    reads = λ i n position room. rw (give, new-fates i n, new-contents i);
+    reads = λ i n. read-alike image image′ ds (g .mounted) (mounts image′ ds still) i (new-fates i n) (new-contents i);
     inodes = λ i n. now .inodes i (born-other i n);
     fates = new-fates;
     contents = new-contents;
     directory = g .directory;
     above = g .found-there;
+    counts = rw (is .id-is) at (now .counts);
     went = went-one;
     stored = stored-one;
+    same-areas = same-file-areas stored-one;
+    clean-after = same-clean stored-one (went-one .fits .clean);
+    octets = octets-one went-one (is .octets);
   }
     where
+      new-path : (c q : Bytes) → goodPath c q ≡ true → pathNames c q ≡ pathNames base path → resolve image′ ds c q ≡ found id
+      new-path c q t e = resolved image′ ds c q (mounts image′ ds still) ∙ rw (t, e) it-found
+
       same-paths : (c q : Bytes) → resolve image ds c q ≢ absent 9 → resolve image′ ds c q ≡ resolve image ds c q
       same-paths c q n = resolve-alike image image′ ds c q (g .mounted) (mounts image′ ds still)
           (λ e. now .lookups (pathNames c q) (λ z. n (resolved image ds c q (g .mounted) ∙ rw (e, z))))

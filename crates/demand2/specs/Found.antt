@@ -14,6 +14,7 @@ use Rattle.volume.specs.Lists.{same, has, Only, nobody, several, one, only}
 use Rattle.volume.specs.View.{View, byBytes}
 use Rattle.volume.specs.Counting.{Volume, inodeOf}
 use Rattle.volume.specs.Fate.{live, isLive, ascend, climb, fateOf}
+use Rattle.volume.specs.Contents.{fileBlocks}
 use Rattle.volume.specs.Tree.{found, absent, onward, isEntry, isChild, children, walk, lookupNames}
 use Rattle.volume.specs.Path.{goodPath, pathNames}
 use Rattle.volume_laws.specs.Tests.{true→T, and-T, eqb-differ, has-some}
@@ -24,6 +25,7 @@ use Rattle.volume_laws.specs.Tree.{mem-children, children-mem}
 use Rattle.volume_laws.specs.Sound.{Sound}
 use Rattle.calls.specs.Mount.{volume, noRoot, mountNumber}
 use Rattle.calls.specs.Lookup.{resolve}
+use Rattle.calls.specs.Read.{give, readGiven}
 use Rattle.calls.specs.declared.Descriptor.{Descriptor}
 
 -- a check with a number other than 0 that refuses nothing
@@ -181,3 +183,19 @@ resolve-alike image image′ ds base p m n h =
         ≡ cond b (lookupNames byBytes (volume image ds) (pathNames base p)) (absent 8)
     go true e = h e
     go false e = refl
+
+-- a read of an image that mounts
+pub read-given : (image : Bytes) (ds : List Descriptor) → mountNumber image ds ≡ 0 → (i position room : ℕ)
+    → readGiven image ds i position room ≡ give (volume image ds) i position room
+unfolding readGiven
+read-given image ds m i position room = rw (readGiven, m)
+
+-- two images that mount: where fate and blocks agree, the reads do
+pub read-alike : (image image′ : Bytes) (ds : List Descriptor) → mountNumber image ds ≡ 0 → mountNumber image′ ds ≡ 0 → (i : ℕ)
+    → fateOf byBytes (volume image′ ds) i ≡ fateOf byBytes (volume image ds) i
+    → fileBlocks byBytes (volume image′ ds) i ≡ fileBlocks byBytes (volume image ds) i
+    → (position room : ℕ) → readGiven image′ ds i position room ≡ readGiven image ds i position room
+unfolding give
+read-alike image image′ ds m n i f c position room =
+    let e : give (volume image′ ds) i position room ≡ give (volume image ds) i position room = rw (give, f, c) in
+    read-given image′ ds n i position room ∙ e ∙ sym (read-given image ds m i position room)

@@ -1,13 +1,13 @@
 -- Demand 2 for format, create, append and unlink. What each call promises is in the file named after it; the other files are their proof, in
 -- the order in which they build on one another, but for the records that those promises cite: Store.RecordFits and OneStored, Places.Written and
 -- AreaGrown, Unused.Unused, NewRecord.WrittenOne, and Smallest of the laws of calls.
+pub mod Octet
 -- one record stored in an area, in an image, and several one after the other
 pub mod Area
 pub mod Store
 pub mod Places
 -- ids and names
 pub mod Unused
-pub mod Octet
 pub mod Names
 -- one more record in a volume
 pub mod Added

@@ -3,7 +3,7 @@ use Prim.Native.Nat.{ℕ, _≤_}
 use mathlib.Core.Path.{_≡_, refl, sym, ap, _∙_}
 use mathlib.Core.Logic.{inr, _≢_}
 use mathlib.Core.Bool.{Bool, true, false, cond}
-use mathlib.Core.Option.{none}
+use mathlib.Core.Option.{none, some}
 use mathlib.Core.List.{List, [], _∷_, _++_, List·Memᴰ, List·Memᴰ·head, List·Memᴰ·not-nil, List·Memᴰ·eq-of-singleton}
 use native.Mathlib.Omega.{arith}
 use lib.Dec.{T, eqb, eqb→eq}
@@ -34,6 +34,8 @@ pub record InodeNew {A : Type 0} (F : View A) (v w : Volume A) (r : A) : Type 0 
       → lookupNames F w ns ≡ lookupNames F v ns
   -- where nothing is yet
   pub below : (n : Bytes) (ns : List Bytes) → walk F w (F .id r) (n ∷ ns) ≡ absent (cond (isDirectoryId (F .id r)) 9 11)
+  -- it counts, and of every other inode the record that did
+  pub counts : inodeOf F w (F .id r) ≡ some r
   pub inodes : (j : ℕ) → j ≢ F .id r → inodeOf F w j ≡ inodeOf F v j
   pub fates : (j : ℕ) → j ≢ F .id r → fateOf F w j ≡ fateOf F v j
 
@@ -216,6 +218,7 @@ module _ {A : Type 0} (F : View A) (v w : Volume A) (r : A) (a : Added F (v .ino
       lookups = fresh-lookup;
       elsewhere = lookup-elsewhere;
       below = nothing-below;
+      counts = changed .here;
       inodes = changed .others;
       fates = fresh-fate;
     }

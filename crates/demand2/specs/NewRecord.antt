@@ -10,6 +10,7 @@ use lib.Dec.{eqb}
 use Rattle.format.specs.Bytes.{Bytes}
 use Rattle.format.specs.Record.{inode, block, recordSize, recordId, recordSequence, acceptable}
 use Rattle.format.specs.Encoding.{inodeBytes, blockBytes}
+use Rattle.format_laws.specs.Crc.{Octets}
 use Rattle.format_laws.specs.Record.{kind-magic, inode-lawful, block-lawful}
 use Rattle.format_laws.specs.Encoding.{MeantInode, MeantBlock, inode-id, inode-sequence, inode-parent, inode-name, inode-written, inode-size}
 use Rattle.format_laws.specs.Encoding.{block-id, block-sequence, block-owner, block-previous, block-text, block-written, block-size}
@@ -21,9 +22,11 @@ use Rattle.volume_laws.specs.Tests.{eqb-differ}
 use Rattle.volume_laws.specs.Lists.{keep-none}
 use Rattle.volume_laws.specs.Counting.{counting-mem}
 use Rattle.calls.specs.Image.{put}
+use Rattle.calls.specs.Areas.{fileAreas}
 use Rattle.calls.specs.declared.Descriptor.{Descriptor}
+use Rattle.demand2.specs.Octet.{octets-put, octets-inode, octets-block}
 use Rattle.demand2.specs.Area.{Whole}
-use Rattle.demand2.specs.Store.{freePlace, RecordFits}
+use Rattle.demand2.specs.Store.{freePlace, RecordFits, FirstWithRoom}
 use Rattle.demand2.specs.Places.{Written, written, all-written}
 
 pub record IsInode (b : Bytes) (id sequence parent : ℕ) (name : Bytes) : Type 0 where
@@ -33,6 +36,7 @@ pub record IsInode (b : Bytes) (id sequence parent : ℕ) (name : Bytes) : Type 
   pub sequence-is : recordSequence b ≡ sequence
   pub parent-is : byBytes .parent b ≡ parent
   pub name-is : byBytes .name b ≡ name
+  pub octets : Octets b
 
 pub record IsBlock (b : Bytes) (id sequence owner previous : ℕ) (text : Bytes) : Type 0 where
   pub whole : Whole recordSize b
@@ -42,6 +46,7 @@ pub record IsBlock (b : Bytes) (id sequence owner previous : ℕ) (text : Bytes)
   pub owner-is : byBytes .owner b ≡ owner
   pub previous-is : byBytes .previous b ≡ previous
   pub text-is : byBytes .text b ≡ text
+  pub octets : Octets b
 
 pub inode-made : (id sequence parent : ℕ) (name : Bytes) → MeantInode id sequence parent name
     → IsInode (inodeBytes id sequence parent name) id sequence parent name
@@ -57,6 +62,7 @@ inode-made id sequence parent name m =
       sequence-is = rw e at (inode-sequence id sequence parent name m []);
       parent-is = rw e at (inode-parent id sequence parent name m []);
       name-is = inode-name id sequence parent name m;
+      octets = octets-inode id sequence parent name (m .name-fits) (m .octets);
     }
 
 pub block-made : (id sequence owner previous : ℕ) (text : Bytes) → MeantBlock id sequence owner previous text
@@ -74,16 +80,21 @@ block-made id sequence owner previous text m =
       owner-is = rw e at (block-owner id sequence owner previous text m []);
       previous-is = rw e at (block-previous id sequence owner previous text m []);
       text-is = block-text id sequence owner previous text m;
+      octets = octets-block id sequence owner previous text (m .octets);
     }
 
--- one record, stored where it fits
+-- one record, stored where it fits first
 pub record WrittenOne (image image′ : Bytes) (ds : List Descriptor) (b : Bytes) : Type 0 where
   pub area : Descriptor
   pub fits : RecordFits image ds area b
+  pub first : FirstWithRoom image (fileAreas image ds) area b
   pub image-is : image′ ≡ put image (freePlace image area) b
 
 pub written-one : {ds : List Descriptor} {image image′ b : Bytes} → Written ds image (b ∷ []) image′ → WrittenOne image image′ ds b
-written-one (written area f w all-written) = record { area = area; fits = f; image-is = refl }
+written-one (written area f t w all-written) = record { area = area; fits = f; first = t; image-is = refl }
+
+pub octets-one : {image image′ b : Bytes} {ds : List Descriptor} → WrittenOne image image′ ds b → Octets b → Octets image → Octets image′
+octets-one {image} {b = b} w k o = rw (w .image-is) (octets-put image (freePlace image (w .area)) b o k)
 
 -- "no blocks means empty"
 pub no-blocks : {A : Type 0} (F : View A) (v : Volume A) (f : ℕ) → ((r : A) → List·Memᴰ r (v .blocks) → F .owner r ≢ f) → fileBlocks F v f ≡ some []

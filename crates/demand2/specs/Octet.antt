@@ -1,17 +1,23 @@
 -- Lists of bytes, each below 256, by their members and in parts.
-use Prim.Native.Nat.{ℕ, suc, _+_, _^_, _<_}
+use Prim.Native.Nat.{ℕ, zero, suc, _+_, _^_, _<_}
 use mathlib.Core.Path.{refl}
-use mathlib.Core.List.{List, [], _∷_, List·Memᴰ, List·Memᴰ·head, List·Memᴰ·tail}
+use mathlib.Core.Logic.{⊎-elim}
+use mathlib.Core.List.{List, [], _∷_, _++_, List·Memᴰ, List·Memᴰ·head, List·Memᴰ·tail, List·Memᴰ·append-cases}
 use native.Mathlib.Omega.{arith}
 use native.Mathlib.Decide.{decLt}
 use lib.ListN.{length, take, drop, length-take, length-drop, List·getD-eq-default}
 use lib.Seq.{getD-take, getD-drop}
-use Rattle.format.specs.Bytes.{Bytes, byteAt, le32}
+use Rattle.format.specs.Bytes.{Bytes, byteAt, le32, enc16}
+use Rattle.format.specs.Crc.{check}
+use Rattle.format.specs.Reading.{ERASED}
 use Rattle.format.specs.Record.{recordSize}
+use Rattle.format.specs.AreaHeader.{areaMagic1, areaMagic2, areaMagic3, areaMagic4}
+use Rattle.format.specs.Encoding.{inodeFront, blockFront, sealed, inodeBytes, blockBytes, areaHeader}
 use Rattle.format_laws.specs.Crc.{Octets}
-use Rattle.format_laws.specs.Encoding.{octets-none, octets-cons}
+use Rattle.format_laws.specs.Encoding.{octets-none, octets-cons, octets16, octets32, inode-front-octets, block-front-octets}
 use Rattle.format_laws.specs.Reading.{records-lawful}
 use Rattle.format_laws.specs.Taken.{records-from, from-each}
+use Rattle.calls.specs.Image.{put, erased}
 use Rattle.calls.specs.Areas.{areaBytes, fileAreas}
 use Rattle.calls.specs.Mount.{acceptedRecords}
 use Rattle.calls.specs.declared.Descriptor.{Descriptor}
@@ -34,6 +40,41 @@ module _ (n : ℕ) (l : Bytes) (o : Octets l) where
 
   pub octets-drop : Octets (drop n l)
   octets-drop = record { at = λ i h. rw (getD-drop n l i 0) (o .at (n + i) (omega (arith, length-drop n l))) }
+
+pub octets-append : (a b : Bytes) → Octets a → Octets b → Octets (a ++ b)
+octets-append a b h k = octets (a ++ b) (λ x m. ⊎-elim (octet a h) (octet b k) (List·Memᴰ·append-cases a m))
+
+pub octets-erased : (n : ℕ) → Octets (erased n)
+octets-erased zero = octets-none
+octets-erased (suc n) = octets-cons ERASED (omega arith) (octets-erased n)
+
+-- bytes stored into bytes
+pub octets-put : (image : Bytes) (p : ℕ) (b : Bytes) → Octets image → Octets b → Octets (put image p b)
+unfolding put
+octets-put image p b o k =
+    octets-append (take p image) (b ++ drop (p + length b) image) (octets-take p image o)
+    (octets-append b (drop (p + length b) image) k (octets-drop (p + length b) image o))
+
+-- records and area headers as they are written
+octets-sealed : (front body : Bytes) → Octets front → Octets body → Octets (sealed front body)
+unfolding sealed
+octets-sealed front body f b = octets-append front (enc16 (check front body) body) f (octets16 (check front body) b)
+
+pub octets-inode : (id sequence parent : ℕ) (name : Bytes) → length name < 256 → Octets name → Octets (inodeBytes id sequence parent name)
+unfolding inodeBytes
+octets-inode id sequence parent name l o =
+    octets-sealed (inodeFront id sequence parent (length name)) name (inode-front-octets id sequence parent (length name) l) o
+
+pub octets-block : (id sequence owner previous : ℕ) (text : Bytes) → Octets text → Octets (blockBytes id sequence owner previous text)
+unfolding blockBytes
+octets-block id sequence owner previous text o =
+    octets-sealed (blockFront id sequence owner previous (length text)) text (block-front-octets id sequence owner previous (length text)) o
+
+pub octets-header : (size count id : ℕ) → count < 256 → id < 256 → Octets (areaHeader size count id)
+unfolding areaHeader
+octets-header size count id c i =
+    octets32 areaMagic1 (octets32 areaMagic2 (octets32 areaMagic3 (octets32 areaMagic4 (octets32 size
+    (octets-cons 0 (omega arith) (octets-cons count c (octets-cons 0 (omega arith) (octets-cons id i octets-none))))))))
 
 octet-at : (l : Bytes) → Octets l → (i : ℕ) → byteAt l i < 256
 octet-at l o i = go (decLt i (length l))

@@ -11,7 +11,7 @@ use lib.ListN.{length}
 use lib.Dec.{ltb, leb, lt→ltb, le→leb}
 use Rattle.format.specs.Bytes.{Bytes}
 use Rattle.format.specs.Ids.{NONE, firstFileId, firstBlockId, isFileId, isBlockId}
-use Rattle.format.specs.Record.{recordSize, recordId, recordSequence, blockPrevious, blockRule, previousRule, longestData}
+use Rattle.format.specs.Record.{recordId, recordSequence, blockPrevious, blockRule, previousRule, longestData}
 use Rattle.format.specs.Encoding.{blockBytes}
 use Rattle.format_laws.specs.Encoding.{MeantBlock}
 use Rattle.volume.specs.View.{byBytes}
@@ -26,7 +26,6 @@ use Rattle.image_laws.specs.Stores.{joinedBytes}
 use Rattle.calls.specs.declared.Descriptor.{Descriptor}
 use Rattle.calls_laws.specs.Checks.{Passes}
 use Rattle.calls_laws.specs.Records.{volume-sound}
-use Rattle.demand2.specs.Area.{Whole}
 use Rattle.demand2.specs.Store.{freePlace, RecordFits, OneStored, one-stored}
 use Rattle.demand2.specs.Places.{Written, written, all-written}
 use Rattle.calls_laws.specs.Unused.{Smallest, unused-smallest}
@@ -115,12 +114,14 @@ module _ (f : ℕ) (file : (firstFileId ≤ f) × (f < firstBlockId)) where
             (a-block (s .from) (omega (arith, s .near)) (List·Memᴰ·head refl)) (λ q k. g q (List·Memᴰ·tail k)),
       )
 
-pub made-whole : (ps : List Bytes) (names : List ℕ) (f previous : ℕ) → Made names f previous ps
-    → (b : Bytes) → List·Memᴰ b (blockRecords names f previous ps) → Whole recordSize b
+-- what holds of such a block holds of each
+pub made-each : (P : Bytes → Type 0) (f : ℕ) → ((b : Bytes) (id previous : ℕ) (p : Bytes) → IsBlock b id 0 f previous p → P b)
+    → (ps : List Bytes) (names : List ℕ) (previous : ℕ) → Made names f previous ps
+    → (b : Bytes) → List·Memᴰ b (blockRecords names f previous ps) → P b
 unfolding blockRecords
-made-whole [] names f previous m b k = absurd (List·Memᴰ·not-nil k)
-made-whole (p ∷ ps) names f previous m b k =
-    ⊎-elim (λ e. rw e (m .0 .whole)) (λ k. made-whole ps (next names ∷ names) f (next names) (m .1) b k) (List·Memᴰ·cases-cons k)
+made-each P f h [] names previous m b k = absurd (List·Memᴰ·not-nil k)
+made-each P f h (p ∷ ps) names previous m b k =
+    ⊎-elim (λ e. rw e (h _ _ _ _ (m .0))) (λ k. made-each P f h ps (next names ∷ names) (next names) (m .1) b k) (List·Memᴰ·cases-cons k)
 
 -- their texts joined are the pieces joined
 pub made-text : (ps : List Bytes) (names : List ℕ) (f previous : ℕ) → Made names f previous ps
@@ -153,7 +154,7 @@ pub record WrittenFirst (ds : List Descriptor) (image : Bytes) (b : Bytes) (bs :
 
 written-first : {ds : List Descriptor} {image image′ b : Bytes} {bs : List Bytes} → Written ds image (b ∷ bs) image′
     → WrittenFirst ds image b bs image′
-written-first (written area f w r) = record { area = area; fits = f; rest = r }
+written-first (written area f t w r) = record { area = area; fits = f; rest = r }
 
 written-none : {ds : List Descriptor} {image image′ : Bytes} → Written ds image [] image′ → image′ ≡ image
 written-none all-written = refl

@@ -1,5 +1,5 @@
 -- Several records stored one after the other, where `placeAll` says.
-use Prim.Native.Nat.{ℕ, _+_, _≤_}
+use Prim.Native.Nat.{ℕ, _+_, _≤_, _<_}
 use mathlib.Core.Path.{_≡_, refl, sym, ap, _∙_}
 use mathlib.Core.Logic.{⊎-elim}
 use mathlib.Core.Bool.{Bool, true, false, cond, not, _&&_, _||_}
@@ -9,10 +9,11 @@ use mathlib.Core.List.{List·Memᴰ·tail, Memᴰ·cast}
 use native.Mathlib.Omega.{arith}
 use lib.ListN.{length}
 use lib.Dec.{T, leb, ltb, leb→le}
-use borrow.Author.Tests.{leb-true}
+use borrow.Author.Tests.{leb-true, leb-false}
 use Rattle.format.specs.Bytes.{Bytes}
 use Rattle.format.specs.Record.{recordSize}
 use Rattle.format.specs.Reading.{Placed, areaFree, areaClean}
+use Rattle.format_laws.specs.Crc.{Octets}
 use Rattle.volume.specs.Lists.{keep, all, bind}
 use Rattle.volume_laws.specs.Tests.{true→T, not-is-false, or-is-false, and-T}
 use Rattle.volume_laws.specs.Lists.{all-mem, keep-mem}
@@ -22,8 +23,9 @@ use Rattle.calls.specs.Mount.{badDescription, recordsOf}
 use Rattle.calls.specs.Storing.{Space, Fit, Store, spaces, keepSpace, firstFit, prepend, placeAll, storeAll, noPlace}
 use Rattle.calls.specs.declared.Descriptor.{Descriptor}
 use Rattle.calls_laws.specs.Storing.{kept-fit}
+use Rattle.demand2.specs.Octet.{octets-put}
 use Rattle.demand2.specs.Area.{Whole}
-use Rattle.demand2.specs.Store.{OneStored, same-area, freePlace, RecordFits, one-stored, file-listed, same-file-areas, same-described}
+use Rattle.demand2.specs.Store.{OneStored, same-area, freePlace, RecordFits, FirstWithRoom, one-stored, file-listed, same-file-areas, same-clean, same-described}
 
 -- no area is listed twice
 abbrev pub Distinct : List Descriptor → Type 0
@@ -101,6 +103,7 @@ pub record Fitted (image : Bytes) (ds fs : List Descriptor) (b : Bytes) (f : Fit
   pub area : Descriptor
   pub among : List·Memᴰ area fs
   pub fits : RecordFits image ds area b
+  pub first : FirstWithRoom image fs area b
   pub placed-at : f .place ≡ freePlace image area
   pub left-is : spaces (put image (freePlace image area) b) fs ≡ f .left
 
@@ -122,22 +125,34 @@ module _ (image : Bytes) (ds : List Descriptor) (described : badDescription imag
       untouched a m t =
           one-stored image ds described a b t w .elsewhere d (listed d (List·Memᴰ·head refl)) (λ q. n .0 (Memᴰ·cast q m))
 
+      -- d was passed over
+      later : (a : Descriptor) → (areaClean recordSize (areaBytes image d) ≡ true → areaEnd d < freePlace image d + length b)
+          → FirstWithRoom image fs a b → FirstWithRoom image (d ∷ fs) a b
+      later a short t = record {
+        before = d ∷ t .before;
+        behind = t .behind;
+        split = ap (λ (l : List Descriptor). d ∷ l) (t .split);
+        no-room = λ e m c. ⊎-elim (λ q. rw q (short (rw q at c))) (λ k. t .no-room e k c) (List·Memᴰ·cases-cons m);
+      }
+
       passed-over : (g : Fit) → areaClean recordSize (areaBytes image d) ≡ false → Fitted image ds fs b g → Fitted image ds (d ∷ fs) b g
       passed-over g c t = record {
         area = t .area;
         among = List·Memᴰ·tail (t .among);
         fits = t .fits;
+        first = later (t .area) (λ k. absurd (rw c at (true→T k))) (t .first);
         placed-at = t .placed-at;
         left-is = rw (untouched (t .area) (t .among) (t .fits), c) (t .left-is);
       }
 
-      too-short : (g : Fit) → areaClean recordSize (areaBytes image d) ≡ true → Fitted image ds fs b g → f .place ≡ g .place
-          → f .left ≡ space ∷ g .left
+      too-short : (g : Fit) → areaClean recordSize (areaBytes image d) ≡ true → areaEnd d < freePlace image d + length b → Fitted image ds fs b g
+          → f .place ≡ g .place → f .left ≡ space ∷ g .left
           → Fitted image ds (d ∷ fs) b f
-      too-short g c t p l = record {
+      too-short g c short t p l = record {
         area = t .area;
         among = List·Memᴰ·tail (t .among);
         fits = t .fits;
+        first = later (t .area) (λ k. short) (t .first);
         placed-at = p ∙ t .placed-at;
         left-is = rw (untouched (t .area) (t .among) (t .fits), c, l, t .left-is);
       }
@@ -155,6 +170,7 @@ module _ (image : Bytes) (ds : List Descriptor) (described : badDescription imag
             area = d;
             among = List·Memᴰ·head refl;
             fits = t;
+            first = record { before = []; behind = fs; split = refl; no-room = λ e m. absurd (List·Memᴰ·not-nil m) };
             placed-at = p;
             left-is = rw (s .clean, s .free, z, k, l);
           }
@@ -172,7 +188,7 @@ module _ (image : Bytes) (ds : List Descriptor) (described : badDescription imag
                 spaces image fs;
           }) f = cc in
           taken c (leb-true _ _ r) (λ i. sym q i .place) (λ i. sym q i .left)
-      roomy false r c ih e = let g = kept-fit space (firstFit (length b) (spaces image fs)) f e in too-short (g .0) c (ih (g .0) (g .1)) (g .2) (g .3)
+      roomy false r c ih e = let g = kept-fit space (firstFit (length b) (spaces image fs)) f e in too-short (g .0) c (leb-false _ _ r) (ih (g .0) (g .1)) (g .2) (g .3)
 
       go : (x : Bool) → areaClean recordSize (areaBytes image d) ≡ x
           → ((g : Fit) → firstFit (length b) (spaces image fs) ≡ some g → Fitted image ds fs b g)
@@ -180,11 +196,36 @@ module _ (image : Bytes) (ds : List Descriptor) (described : badDescription imag
       go true c ih e = roomy (leb (freePlace image d + length b) (areaEnd d)) refl c ih e
       go false c ih e = passed-over f c (ih f e)
 
--- the records bs stored one after the other, each at the start of the free space of a clean file area
+-- the records bs stored one after the other, each at the start of the free space of the first clean file area with room for it, as the image stood
+-- when it was placed
 pub data Written (ds : List Descriptor) : Bytes → List Bytes → Bytes → Type 0 where
   all-written : {image : Bytes} → Written ds image [] image
-  written : {image image′ b : Bytes} {bs : List Bytes} (area : Descriptor) → RecordFits image ds area b → Whole recordSize b
+  written : {image image′ b : Bytes} {bs : List Bytes} (area : Descriptor) → RecordFits image ds area b
+      → FirstWithRoom image (fileAreas image ds) area b → Whole recordSize b
       → Written ds (put image (freePlace image area) b) bs image′ → Written ds image (b ∷ bs) image′
+
+-- records of bytes, stored into bytes
+pub octets-written : {ds : List Descriptor} {image image′ : Bytes} {bs : List Bytes} → Written ds image bs image′
+    → ((b : Bytes) → List·Memᴰ b bs → Octets b) → Octets image → Octets image′
+octets-written all-written h o = o
+octets-written {image = image} (written {b = b} area f t w rest) h o =
+    octets-written rest (λ c m. h c (List·Memᴰ·tail m)) (octets-put image (freePlace image area) b o (h b (List·Memᴰ·head refl)))
+
+-- the file areas are those that were, and each is as clean as it was
+module _ (ds : List Descriptor) where
+  pub written-areas : {image image′ : Bytes} {bs : List Bytes} → badDescription image ds ≡ false → Written ds image bs image′
+      → fileAreas image′ ds ≡ fileAreas image ds
+  written-areas described all-written = refl
+  written-areas {image} described (written {b = b} area f t w rest) =
+      let s = one-stored image ds described area b f w in
+      written-areas (same-described s ∙ described) rest ∙ same-file-areas s
+
+  pub written-clean : {image image′ : Bytes} {bs : List Bytes} → badDescription image ds ≡ false → Written ds image bs image′
+      → (d : Descriptor) → List·Memᴰ d ds → areaClean recordSize (areaBytes image′ d) ≡ areaClean recordSize (areaBytes image d)
+  written-clean described all-written d m = refl
+  written-clean {image} described (written {b = b} area f t w rest) d m =
+      let s = one-stored image ds described area b f w in
+      written-clean (same-described s ∙ described) rest d m ∙ same-clean s (f .clean) d m
 
 bound : {A B : Type 0} (o : Option A) (f : A → Option B) (b : B) → bind o f ≡ some b → (a : A) × (o ≡ some a) × (f a ≡ some b)
 bound none f b e = let z : _≡_ {A = ℕ} 0 1 = cc in absurd (omega arith)
@@ -208,10 +249,10 @@ all-placed ds image (b ∷ bs) l d w e =
     it : Whole recordSize b
     it = w b (List·Memᴰ·head refl)
 
-    at : (a : Descriptor) (p : ℕ) (m : List Store) → p ≡ freePlace image a → RecordFits image ds a b
+    at : (a : Descriptor) (p : ℕ) (m : List Store) → p ≡ freePlace image a → RecordFits image ds a b → FirstWithRoom image (fileAreas image ds) a b
         → Written ds (put image (freePlace image a) b) bs (storeAll (put image (freePlace image a) b) m)
         → Written ds image (b ∷ bs) (storeAll image (record { place = p; bytes = b } ∷ m))
-    at a p m q t ih = rw q (written a t it ih)
+    at a p m q t n ih = rw q (written a t n it ih)
 
     go : (f : Fit) → firstFit (length b) (spaces image (fileAreas image ds)) ≡ some f
         → (m : List Store) → placeAll (f .left) bs ≡ some m → l ≡ record { place = f .place; bytes = b } ∷ m
@@ -223,7 +264,7 @@ all-placed ds image (b ∷ bs) l d w e =
         let s = one-stored image ds d (t .area) b (t .fits) it in
         let y = put image (freePlace image (t .area)) b in
         let after : spaces y (fileAreas y ds) ≡ f .left = rw (same-file-areas s) (t .left-is) in
-        rw r (at (t .area) (f .place) m (t .placed-at) (t .fits) (ih y m (same-described s ∙ d) (λ c m. w c (List·Memᴰ·tail m)) (rw after p)))
+        rw r (at (t .area) (f .place) m (t .placed-at) (t .fits) (t .first) (ih y m (same-described s ∙ d) (λ c m. w c (List·Memᴰ·tail m)) (rw after p)))
 
 -- check 15 passed
 pub place-found : (o : Option (List Store)) → noPlace o ≡ false → (l : List Store) × (o ≡ some l)
@@ -240,7 +281,7 @@ pub areas-grown : (ds : List Descriptor) {image image′ : Bytes} {bs : List Byt
     → (d : Descriptor) → List·Memᴰ d ds → AreaGrown image image′ d bs
 areas-grown ds {image} described all-written d m =
     record { more = []; reads = sym (append-nil (recordsOf image d)); new = λ r k. absurd (List·Memᴰ·not-nil k) }
-areas-grown ds {image} {image′} described (written {b = b} {bs = bs} area f w rest) d m =
+areas-grown ds {image} {image′} described (written {b = b} {bs = bs} area f t w rest) d m =
     go (same-area d area) (areas-grown ds (same-described s ∙ described) rest d m)
   where
     s : OneStored image (put image (freePlace image area) b) ds area b

@@ -9,26 +9,28 @@ use native.Mathlib.Omega.{arith}
 use lib.ListN.{length}
 use Rattle.format.specs.Bytes.{Bytes}
 use Rattle.format.specs.Ids.{firstBlockId}
-use Rattle.format.specs.Record.{recordId, recordSequence, inodeRule, nameGood}
+use Rattle.format.specs.Reading.{areaClean}
+use Rattle.format.specs.Record.{recordSize, recordId, recordSequence, inodeRule, nameGood}
 use Rattle.format_laws.specs.Crc.{Octets}
 use Rattle.format_laws.specs.Encoding.{MeantInode}
 use Rattle.volume.specs.View.{byBytes}
 use Rattle.volume.specs.Counting.{Volume, inodeOf, inodeIds}
 use Rattle.volume.specs.Contents.{fileBlocks}
 use Rattle.volume_laws.specs.Counting.{counting-mem, counting-top, ids-of}
+use Rattle.calls.specs.Areas.{areaBytes, fileAreas}
 use Rattle.calls.specs.Mount.{acceptedRecords, volume, mountNumber}
 use Rattle.calls.specs.Storing.{Store}
 use Rattle.calls.specs.Rewrite.{lastSequence, sequenceOf, rewritten, rewritePlan, imageRewritten}
 use Rattle.calls.specs.declared.Descriptor.{Descriptor}
 use Rattle.calls_laws.specs.Checks.{Passes, passes}
 use Rattle.calls_laws.specs.Records.{volume-sound}
-use Rattle.demand2.specs.Store.{OneStored, one-stored}
+use Rattle.demand2.specs.Store.{OneStored, one-stored, same-file-areas, same-clean}
 use Rattle.demand2.specs.Places.{all-placed}
 use Rattle.demand2.specs.Octet.{le32-fits, record-octets}
 use Rattle.demand2.specs.Added.{Same, Added, Changed, added-changed, known-ids, same-count, same-contents}
 use Rattle.demand2.specs.Mounted.{agreed-inodes, agreed-blocks, inode-accepted, accepted-kind, few-ids, ids-few, inodes-added, blocks-same}
 use Rattle.demand2.specs.Mounted.{still-passes}
-use Rattle.demand2.specs.NewRecord.{IsInode, inode-made, WrittenOne, written-one}
+use Rattle.demand2.specs.NewRecord.{IsInode, inode-made, WrittenOne, written-one, octets-one}
 
 -- What is asked: a record of the inode counts, a sequence and a place are left, and parent and name are such as an inode may bear.
 pub record Rewrites (image : Bytes) (ds : List Descriptor) (i parent : ℕ) (name : Bytes) : Type 0 where
@@ -62,12 +64,17 @@ pub record AfterRewrite (image image′ : Bytes) (ds : List Descriptor) (i paren
   -- the block records are the old ones, and so every file has the blocks that it had
   pub same-blocks : Same (volume image ds .blocks) (volume image′ ds .blocks)
   pub contents : (f : ℕ) → fileBlocks byBytes (volume image′ ds) f ≡ fileBlocks byBytes (volume image ds) f
+  -- the file areas are the same, and each is as clean as it was
+  pub same-areas : fileAreas image′ ds ≡ fileAreas image ds
+  pub clean-after : (d : Descriptor) → List·Memᴰ d ds → areaClean recordSize (areaBytes image′ d) ≡ areaClean recordSize (areaBytes image d)
+  -- an image of bytes stays one, for the next call
+  pub octets : Octets image → Octets image′
 
 -- the id of an inode that counts is in the range of inodes
 pub inode-low : (image : Bytes) (ds : List Descriptor) (i : ℕ) (r : Bytes) → inodeOf byBytes (volume image ds) i ≡ some r → i < firstBlockId
 inode-low image ds i r e = let m = counting-mem byBytes (volume image ds .inodes) i r e in rw (m .1) at (volume-sound image ds .inode-id r (m .0))
 
-module _ (image : Bytes) (ds : List Descriptor) (i parent : ℕ) (name : Bytes) (octets : Octets image) (g : Rewrites image ds i parent name) where
+module _ (image : Bytes) (ds : List Descriptor) (i parent : ℕ) (name : Bytes) (octets-image : Octets image) (g : Rewrites image ds i parent name) where
   -- the checks of the mount, before
   p : Passes image ds
   p = passes image ds (g .mounted)
@@ -100,7 +107,7 @@ module _ (image : Bytes) (ds : List Descriptor) (i parent : ℕ) (name : Bytes) 
   sequence-low : sequenceOf (inodeOf byBytes v i) < lastSequence
   sequence-low =
       let r = g .record-before in
-      let h = le32-fits r (record-octets image ds octets r (inode-accepted image ds r was-there)) 8 in
+      let h = le32-fits r (record-octets image ds octets-image r (inode-accepted image ds r was-there)) 8 in
       let n : recordSequence r ≢ lastSequence = rw (g .counted) at (g .not-last) in
       let l : recordSequence r < lastSequence = omega arith in
       rw (g .counted) l
@@ -175,6 +182,9 @@ module _ (image : Bytes) (ds : List Descriptor) (i parent : ℕ) (name : Bytes) 
     others = λ j n. changed .others j (λ e. n (e ∙ made .id-is));
     same-blocks = kept-blocks;
     contents = same-contents byBytes v w kept-blocks (agreed-blocks image ds p);
+    same-areas = same-file-areas stored-one;
+    clean-after = same-clean stored-one (went-one .fits .clean);
+    octets = octets-one went-one (made .octets);
   }
 
 -- the image with the inode rewritten is as told above

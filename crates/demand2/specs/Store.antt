@@ -42,6 +42,14 @@ pub record RecordFits (image : Bytes) (ds : List Descriptor) (area : Descriptor)
   pub clean : areaClean recordSize (areaBytes image area) ≡ true
   pub room : freePlace image area + length b ≤ areaEnd area
 
+-- "Each record goes to the first clean file area, in descriptor order, with room": of the file areas fs, no clean one before area has room for b
+pub record FirstWithRoom (image : Bytes) (fs : List Descriptor) (area : Descriptor) (b : Bytes) : Type 0 where
+  pub before : List Descriptor
+  pub behind : List Descriptor
+  pub split : fs ≡ before ++ (area ∷ behind)
+  pub no-room : (d : Descriptor) → List·Memᴰ d before → areaClean recordSize (areaBytes image d) ≡ true
+      → areaEnd d < freePlace image d + length b
+
 -- what becomes of the image when it is stored there
 pub record OneStored (image image′ : Bytes) (ds : List Descriptor) (area : Descriptor) (b : Bytes) : Type 0 where
   pub one-length : length image′ ≡ length image
@@ -145,6 +153,15 @@ module _ {image image′ : Bytes} {ds : List Descriptor} {area : Descriptor} {b 
       let e = header-id 0 (areaBytes image′ d) (areaBytes image d) (s .headers d (h d (List·Memᴰ·head refl))) in
       let l = same-area-ids fs (λ d m. h d (List·Memᴰ·tail m)) in
       λ i. e i ∷ l i
+
+  -- a clean area stays clean, and an unclean one as it is
+  pub same-clean : areaClean recordSize (areaBytes image area) ≡ true → (d : Descriptor) → List·Memᴰ d ds
+      → areaClean recordSize (areaBytes image′ d) ≡ areaClean recordSize (areaBytes image d)
+  same-clean c d m = go (same-area d area)
+    where
+      go : Dec (d ≡ area) → areaClean recordSize (areaBytes image′ d) ≡ areaClean recordSize (areaBytes image d)
+      go (yes e) = rw (e, s .clean, c)
+      go (no e) = rw (s .elsewhere d m e)
 
   pub same-described : badDescription image′ ds ≡ badDescription image ds
   unfolding badDescription

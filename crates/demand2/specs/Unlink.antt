@@ -10,7 +10,8 @@ use lib.ListN.{length}
 use lib.Dec.{T, eqb, ltb, lt→ltb}
 use Rattle.format.specs.Bytes.{Bytes}
 use Rattle.format.specs.Ids.{NONE, firstBlockId, rootId, isInodeId}
-use Rattle.format.specs.Record.{recordId, inodeRule, nameGood}
+use Rattle.format.specs.Reading.{areaClean}
+use Rattle.format.specs.Record.{recordSize, recordId, inodeRule, nameGood}
 use Rattle.format_laws.specs.Crc.{Octets}
 use Rattle.format_laws.specs.Encoding.{octets-none}
 use Rattle.volume.specs.View.{byBytes}
@@ -24,7 +25,7 @@ use Rattle.volume_laws.specs.Tests.{T→true, eqb-false, eqb-differ, not-is-fal
 use Rattle.volume_laws.specs.Climb.{live-some}
 use Rattle.volume_laws.specs.Tree.{lookup-append}
 use Rattle.calls.specs.Refusal.{firstRefusal}
-use Rattle.calls.specs.Areas.{fileAreas}
+use Rattle.calls.specs.Areas.{areaBytes, fileAreas}
 use Rattle.calls.specs.Mount.{volume, mountNumber}
 use Rattle.calls.specs.Storing.{Store, spaces, placeAll, noPlace}
 use Rattle.calls.specs.Create.{isRoot}
@@ -128,8 +129,13 @@ pub record AfterUnlink (image image′ : Bytes) (ds : List Descriptor) (base pat
   -- the deletion record, and the clean file area that it went to
   pub went : WrittenOne image image′ ds (deletion (volume image ds) inode)
   pub stored : OneStored image image′ ds (went .area) (deletion (volume image ds) inode)
+  -- the file areas are the same, and each is as clean as it was
+  pub same-areas : fileAreas image′ ds ≡ fileAreas image ds
+  pub clean-after : (d : Descriptor) → List·Memᴰ d ds → areaClean recordSize (areaBytes image′ d) ≡ areaClean recordSize (areaBytes image d)
+  -- an image of bytes stays one, for the next call
+  pub octets : Octets image → Octets image′
 
-module _ (image : Bytes) (ds : List Descriptor) (base path : Bytes) (octets : Octets image) (g : UnlinkGoes image ds base path) where
+module _ (image : Bytes) (ds : List Descriptor) (base path : Bytes) (octets-image : Octets image) (g : UnlinkGoes image ds base path) where
   p : Passes image ds
   p = passes image ds (g .mounted)
 
@@ -182,7 +188,7 @@ module _ (image : Bytes) (ds : List Descriptor) (base path : Bytes) (octets : Oc
   -- what holds of every inode rewritten
   done : AfterRewrite image image′ ds i NONE []
   unfolding imageUnlinked
-  done = rw (imageUnlinked, g .goes) (rewrite image ds i NONE [] octets asked)
+  done = rw (imageUnlinked, g .goes) (rewrite image ds i NONE [] octets-image asked)
 
   -- the deletion record bears the inode's id
   id-is : recordId b ≡ i
@@ -255,6 +261,9 @@ module _ (image : Bytes) (ds : List Descriptor) (base path : Bytes) (octets : Oc
     contents = done .contents;
     went = done .went;
     stored = done .stored;
+    same-areas = done .same-areas;
+    clean-after = done .clean-after;
+    octets = done .octets;
   }
     where
       alone : (e : ℕ) (n : Bytes) → T (isChild byBytes v e n (recordId b)) → only (children byBytes v e n) ≡ one (recordId b)

@@ -48,11 +48,21 @@ octets-cons {l} v h k = record { at = go }
     go zero g = h
     go (suc i) g = k .at i (le-of-suc-le-suc g)
 
-octets16 : {l : Bytes} (v : ℕ) → Octets l → Octets (enc16 v l)
+pub octets16 : {l : Bytes} (v : ℕ) → Octets l → Octets (enc16 v l)
 octets16 v k = octets-cons (v % 256) (omega arith) (octets-cons (v / 256 % 256) (omega arith) k)
 
-octets32 : {l : Bytes} (v : ℕ) → Octets l → Octets (enc32 v l)
+pub octets32 : {l : Bytes} (v : ℕ) → Octets l → Octets (enc32 v l)
 octets32 v k = octets16 v (octets-cons (v / 256 / 256 % 256) (omega arith) (octets-cons (v / 256 / 256 / 256 % 256) (omega arith) k))
+
+pub inode-front-octets : (id sequence parent n : ℕ) → n < 256 → Octets (inodeFront id sequence parent n)
+unfolding inodeFront
+inode-front-octets id sequence parent n h =
+    octets32 (inode .magic) (octets32 id (octets32 sequence (octets32 parent (octets-cons 0 (omega arith) (octets-cons n h octets-none)))))
+
+pub block-front-octets : (id sequence owner previous n : ℕ) → Octets (blockFront id sequence owner previous n)
+unfolding blockFront
+block-front-octets id sequence owner previous n =
+    octets32 (block .magic) (octets32 id (octets32 sequence (octets32 owner (octets32 previous (octets16 n octets-none)))))
 
 -- ---- a sealed record of either kind, whatever its front
 
@@ -108,11 +118,6 @@ pub record MeantInode (id sequence parent : ℕ) (name : Bytes) : Type 0 where
   pub octets : Octets name
 
 module _ (id sequence parent : ℕ) (name : Bytes) (m : MeantInode id sequence parent name) where
-  front-octets : Octets (inodeFront id sequence parent (length name))
-  unfolding inodeFront
-  front-octets =
-      octets32 (inode .magic) (octets32 id (octets32 sequence (octets32 parent (octets-cons 0 (omega arith) (octets-cons (length name) (m .name-fits) octets-none)))))
-
   module _ (rest : Bytes) where
     pub inode-id : recordId (inodeBytes id sequence parent name ++ rest) ≡ id
     unfolding le32 inodeBytes sealed inodeFront
@@ -145,7 +150,7 @@ module _ (id sequence parent : ℕ) (name : Bytes) (m : MeantInode id sequence p
       rw (i, p, n, m .rule, inode-name, m .good)
 
   inode-check : check (inodeFront id sequence parent (length name)) name < 65536
-  inode-check = check-lt _ name front-octets (m .octets)
+  inode-check = check-lt _ name (inode-front-octets id sequence parent (length name) (m .name-fits)) (m .octets)
 
   inode-formed : wellFormed inode (inodeBytes id sequence parent name) ≡ true
   unfolding inodeBytes inodeFront le32 sealed
@@ -176,11 +181,6 @@ pub record MeantBlock (id sequence owner previous : ℕ) (text : Bytes) : Type 0
   pub octets : Octets text
 
 module _ (id sequence owner previous : ℕ) (text : Bytes) (m : MeantBlock id sequence owner previous text) where
-  block-front-octets : Octets (blockFront id sequence owner previous (length text))
-  unfolding blockFront
-  block-front-octets =
-      octets32 (block .magic) (octets32 id (octets32 sequence (octets32 owner (octets32 previous (octets16 (length text) octets-none)))))
-
   module _ (rest : Bytes) where
     pub block-id : recordId (blockBytes id sequence owner previous text ++ rest) ≡ id
     unfolding le32 blockBytes sealed blockFront
@@ -218,7 +218,7 @@ module _ (id sequence owner previous : ℕ) (text : Bytes) (m : MeantBlock id se
       rw (i, o, p, n, m .rule)
 
   block-check : check (blockFront id sequence owner previous (length text)) text < 65536
-  block-check = check-lt _ text block-front-octets (m .octets)
+  block-check = check-lt _ text (block-front-octets id sequence owner previous (length text)) (m .octets)
 
   block-formed : wellFormed block (blockBytes id sequence owner previous text) ≡ true
   unfolding blockBytes blockFront le32 sealed
