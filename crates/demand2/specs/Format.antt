@@ -19,6 +19,7 @@ use Rattle.format.specs.AreaHeader.{areaHeaderSize, areaId, collectionCount, sc
 use Rattle.format.specs.Record.{recordSize, recordId, inodeRule, nameGood}
 use Rattle.format.specs.Reading.{ERASED, areaClean, areaFree}
 use Rattle.format.specs.Encoding.{areaHeader, inodeBytes, sealed, inodeFront}
+use Rattle.format_laws.specs.Crc.{Octets}
 use Rattle.format_laws.specs.Encoding.{header-size, header-valid, header-count, header-id, MeantInode, octets-none}
 use Rattle.format_laws.specs.Bytes.{same-byte}
 use Rattle.format_laws.specs.Reading.{records-lawful}
@@ -30,7 +31,7 @@ use Rattle.volume.specs.Path.{goodPath, pathNames}
 use Rattle.volume.specs.Tree.{found, absent, isEntry, isChild, children, walk, lookupNames}
 use Rattle.volume_laws.specs.Tests.{T→true, not-T→false, eqb-differ}
 use Rattle.volume_laws.specs.Once.{Nodup, pigeons, mem-once}
-use Rattle.volume_laws.specs.Lists.{keep-map, keep-cong, keep-mem, mem-all}
+use Rattle.volume_laws.specs.Lists.{keep-map, keep-cong, keep-mem, mem-keep, mem-all}
 use Rattle.volume_laws.specs.Counting.{counting-absent}
 use Rattle.volume_laws.specs.Climb.{fate-own}
 use Rattle.calls.specs.Image.{put, erased}
@@ -48,11 +49,12 @@ use Rattle.calls_laws.specs.Checks.{Passes, mounts, InArea, area-fits, areas-ap
 use Rattle.image_laws.specs.Apart.{Apart}
 use Rattle.image_laws.specs.Laws.{length-put, part-put, part-outside, part-around, byte-outside}
 use Rattle.image_laws.specs.Stores.{drop-erased}
+use Rattle.demand2.specs.Octet.{octets-append, octets-erased, octets-put, octets-inode, octets-header}
 use Rattle.demand2.specs.Area.{Whole, erased-clean, erased-starts, erased-empty}
 use Rattle.demand2.specs.Store.{freePlace, RecordFits, OneStored, one-stored, same-file-areas, same-scratch-areas, same-area-ids, same-described}
 use Rattle.demand2.specs.Store.{file-listed, same-area}
 use Rattle.demand2.specs.Places.{few-areas, area-lengths, Distinct, areas-distinct, files-distinct}
-use Rattle.calls_laws.specs.Unused.{upwards, upwards-nodup, upwards-length}
+use Rattle.calls_laws.specs.Unused.{upwards, upwards-mem, upwards-nodup, upwards-length}
 use Rattle.demand2.specs.Found.{passed-check, resolved}
 use Rattle.demand2.specs.NewRecord.{inode-made}
 use Rattle.demand2.specs.Labels.{areaOf, labelOf, isScratchLabel, isFileLabel, labelled-areas, longest-bounds, longest-there, Labels, labels}
@@ -208,6 +210,19 @@ empty-stored size count id b =
     let e : size - areaHeaderSize - length b ≡ size - (areaHeaderSize + length b) = omega arith in
     rw (take-at front free areaHeaderSize (header-size size count id), d, drop-erased (length b) (size - areaHeaderSize), e)
 
+-- an empty area is bytes
+pub octets-empty : (size count id : ℕ) → count < 256 → id < 256 → Octets (emptyArea size count id)
+unfolding emptyArea
+octets-empty size count id c i =
+    octets-append (areaHeader size count id) (erased (size - areaHeaderSize)) (octets-header size count id c i) (octets-erased (size - areaHeaderSize))
+
+octets-blanked : (ls : List Labelled) (image : Bytes) → ((l : Labelled) → List·Memᴰ l ls → l .id < 256) → Octets image → Octets (blanked image ls)
+unfolding blanked stamp
+octets-blanked [] image h o = o
+octets-blanked (l ∷ ls) image h o =
+    octets-blanked ls (stamp image l) (λ m k. h m (List·Memᴰ·tail k))
+    (octets-put image (l .area .offset) _ o (octets-empty (l .area .length) 0 (l .id) (omega arith) (h l (List·Memᴰ·head refl))))
+
 -- ---- the root record
 
 -- "The root record .. goes to the first file area": the first label that is not scratch's
@@ -321,6 +336,8 @@ pub record AfterFormat (image image′ : Bytes) (ds : List Descriptor) : Type 0 
   -- bytes outside the areas stay
   pub one-length : length image′ ≡ length image
   pub outside : (i : ℕ) → ((d : Descriptor) → List·Memᴰ d ds → ¬ InArea d i) → byteAt image′ i ≡ byteAt image i
+  -- bytes stay bytes
+  pub octets : Octets image → Octets image′
 
 -- ids that differ: check 2
 pub own-ids : (l : List ℕ) → Nodup l → ltb (length (once l)) (length l) ≡ false
@@ -497,6 +514,16 @@ module _ (image : Bytes) (ds : List Descriptor) (accepted : formatNumber image d
   unfolding volume
   volume-is = ap (volumeOf byBytes) only-record
 
+  -- a label is one byte
+  label-low : (l : Labelled) → List·Memᴰ l ls → l .id < 256
+  label-low l m = go (eqb (l .id) scratchId) refl
+    where
+      go : (b : Bool) → eqb (l .id) scratchId ≡ b → l .id < 256
+      go true e = omega (arith, eqb-true (l .id) scratchId e)
+      go false e =
+          let k : List·Memᴰ (l .id) (upwards (lab .count) 0) = rw (lab .in-order) at (Memᴰ·map labelOf (mem-keep isFileLabel ls m (rw e tt))) in
+          omega (arith, upwards-mem (lab .count) 0 k, lab .others, few-areas image ds (checks .0))
+
   -- the areas' bytes
   file-areas : fileAreas image′ ds ≡ area ∷ map areaOf (home .1)
   file-areas = files ∙ files₁ ∙ ap (map areaOf) (home .2)
@@ -601,6 +628,8 @@ module _ (image : Bytes) (ds : List Descriptor) (accepted : formatNumber image d
     reads = λ i position room. rw (readGiven, mounts image′ ds passes, volume-is) (root-given i position room);
     one-length = stored .one-length ∙ long₁;
     outside = λ i n. byte-after i n ∙ byte-before i n;
+    octets = λ o. octets-put image₁ (freePlace image₁ area) rootBytes (octets-blanked ls image label-low o)
+        (octets-inode rootId 0 NONE [] (omega arith) octets-none);
   })
     where
       clean-after : (d : Descriptor) → List·Memᴰ d (fileAreas image₁ ds) → Dec (d ≡ area) → areaClean recordSize (areaBytes image′ d) ≡ true
