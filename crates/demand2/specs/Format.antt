@@ -55,7 +55,7 @@ use Rattle.demand2.specs.Store.{freePlace, RecordFits, OneStored, one-st
 use Rattle.demand2.specs.Store.{file-listed, same-area}
 use Rattle.demand2.specs.Places.{few-areas, area-lengths, Distinct, areas-distinct, files-distinct}
 use Rattle.calls_laws.specs.Unused.{upwards, upwards-mem, upwards-nodup, upwards-length}
-use Rattle.demand2.specs.Found.{passed-check, resolved}
+use Rattle.demand2.specs.Found.{passed-check, resolved, read-given}
 use Rattle.demand2.specs.NewRecord.{inode-made}
 use Rattle.demand2.specs.Labels.{areaOf, labelOf, isScratchLabel, isFileLabel, labelled-areas, longest-bounds, longest-there, Labels, labels}
 
@@ -602,7 +602,7 @@ module _ (image : Bytes) (ds : List Descriptor) (accepted : formatNumber image d
           (rw (lab .longest) (longest-bounds ds d (file-listed image′ ds d m)))
 
   after-format : AfterFormat image (formatted image ds) ds
-  unfolding emptyArea image′ image₁ readGiven
+  unfolding emptyArea image′ image₁
   after-format = rw is-formatted (record {
     mounts = mounts image′ ds passes;
     records = only-record;
@@ -625,7 +625,7 @@ module _ (image : Bytes) (ds : List Descriptor) (accepted : formatNumber image d
     rest-bytes = rest-erased;
     rest-reads = λ d m. let r = rest-label d m in reads-none d (r .0) (r .1);
     paths = λ b p. resolved image′ ds b p (mounts image′ ds passes) ∙ rw (volume-is, root-found (pathNames b p));
-    reads = λ i position room. rw (readGiven, mounts image′ ds passes, volume-is) (root-given i position room);
+    reads = λ i position room. read-given image′ ds (mounts image′ ds passes) i position room ∙ rw volume-is (root-given i position room);
     one-length = stored .one-length ∙ long₁;
     outside = λ i n. byte-after i n ∙ byte-before i n;
     octets = λ o. octets-put image₁ (freePlace image₁ area) rootBytes (octets-blanked ls image label-low o)
