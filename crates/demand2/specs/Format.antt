@@ -51,8 +51,8 @@ use Rattle.image_laws.specs.Laws.{length-put, part-put, part-outside, part-arou
 use Rattle.image_laws.specs.Stores.{drop-erased}
 use Rattle.demand2.specs.Octet.{octets-append, octets-erased, octets-put, octets-inode, octets-header}
 use Rattle.demand2.specs.Area.{Whole, erased-clean, erased-starts, erased-empty}
-use Rattle.demand2.specs.Store.{freePlace, RecordFits, OneStored, one-stored, same-file-areas, same-scratch-areas, same-area-ids, same-described}
-use Rattle.demand2.specs.Store.{file-listed, same-area}
+use Rattle.demand2.specs.Store.{freePlace, RecordFits, OneStored, one-stored, same-file-areas, same-scratch-areas, same-area-ids}
+use Rattle.demand2.specs.Store.{same-described, file-listed, same-area}
 use Rattle.demand2.specs.Places.{few-areas, area-lengths, Distinct, areas-distinct, files-distinct}
 use Rattle.calls_laws.specs.Unused.{upwards, upwards-mem, upwards-nodup, upwards-length}
 use Rattle.demand2.specs.Found.{passed-check, resolved, read-given}
@@ -214,7 +214,8 @@ empty-stored size count id b =
 pub octets-empty : (size count id : ℕ) → count < 256 → id < 256 → Octets (emptyArea size count id)
 unfolding emptyArea
 octets-empty size count id c i =
-    octets-append (areaHeader size count id) (erased (size - areaHeaderSize)) (octets-header size count id c i) (octets-erased (size - areaHeaderSize))
+    octets-append (areaHeader size count id) (erased (size - areaHeaderSize)) (octets-header size count id c i)
+    (octets-erased (size - areaHeaderSize))
 
 octets-blanked : (ls : List Labelled) (image : Bytes) → ((l : Labelled) → List·Memᴰ l ls → l .id < 256) → Octets image → Octets (blanked image ls)
 unfolding blanked stamp
@@ -470,7 +471,9 @@ module _ (image : Bytes) (ds : List Descriptor) (accepted : formatNumber image d
 
   is-formatted : formatted image ds ≡ image′
   unfolding formatted image′ image₁
-  is-formatted = rooted-first ls image₁ (home .0) (home .1) (home .2) (home .3) ∙ ap (λ (n : ℕ). put image₁ (area .offset + n) rootBytes) (sym (free₁ (home .0) home-in))
+  is-formatted =
+      rooted-first ls image₁ (home .0) (home .1) (home .2) (home .3)
+      ∙ ap (λ (n : ℕ). put image₁ (area .offset + n) rootBytes) (sym (free₁ (home .0) home-in))
 
   stored : OneStored image₁ image′ ds area rootBytes
   unfolding image′
@@ -534,7 +537,8 @@ module _ (image : Bytes) (ds : List Descriptor) (accepted : formatNumber image d
       let h = in-image (home .0) home-in in
       let f = free₁ (home .0) home-in in
       let e : freePlace image₁ area - area .offset ≡ areaHeaderSize = omega (arith, f) in
-      part-around image₁ (freePlace image₁ area) rootBytes (omega (arith, fits .room, h .1, long₁)) (area .offset) (area .length) (omega arith) (fits .room)
+      part-around image₁ (freePlace image₁ area) rootBytes (omega (arith, fits .room, h .1, long₁)) (area .offset) (area .length) (omega arith)
+      (fits .room)
       ∙ rw (e, there₁ (home .0) home-in, home .3) (empty-stored (area .length) 0 0 rootBytes)
 
   -- an area that does not hold the root

@@ -84,7 +84,8 @@ module _ (rs ss : List Bytes) (area : Bytes) (elsewhere bs : List Bytes) (m : Mo
 
       -- no record but its own names it
       only-own : (s : Bytes) → List·Memᴰ s rs → recordLink s ≡ i → recordId s ≡ i
-      only-own s n q = ⊎-elim (λ z. h .unnamed s z (q ∙ sym (own .1)) ∙ own .1) (λ z. absurd (h .unnamed-elsewhere s z (q ∙ sym (own .1)))) (m .was s n)
+      only-own s n q =
+          ⊎-elim (λ z. h .unnamed s z (q ∙ sym (own .1)) ∙ own .1) (λ z. absurd (h .unnamed-elsewhere s z (q ∙ sym (own .1)))) (m .was s n)
 
       gone : (s : Bytes) → List·Memᴰ s (w .inodes) → recordId s ≢ i
       gone s n q = ⊎-elim again (λ z. h .none-elsewhere s z (q ∙ sym (own .1))) (m .is s (inode-in ss s n .0))
