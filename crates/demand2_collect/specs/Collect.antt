@@ -55,7 +55,7 @@ use Rattle.demand2_collect.specs.Image.{CollectGoes, collect-goes, Image
 
 -- ---- check 2 by members
 
-once-long : (l : List ℕ) → length l ≤ length (once l) → Nodup l
+pub once-long : (l : List ℕ) → length l ≤ length (once l) → Nodup l
 unfolding once
 once-long [] h = tt
 once-long (x ∷ l) h =
@@ -71,7 +71,7 @@ once-long (x ∷ l) h =
 
 -- a list of areas of which no two have one label
 module _ (f : Descriptor → ℕ) where
-  labels-differ : (fs : List Descriptor) → Nodup (map f fs) → (d e : Descriptor) → List·Memᴰ d fs → List·Memᴰ e fs → f d ≡ f e → d ≡ e
+  pub labels-differ : (fs : List Descriptor) → Nodup (map f fs) → (d e : Descriptor) → List·Memᴰ d fs → List·Memᴰ e fs → f d ≡ f e → d ≡ e
   labels-differ (x ∷ fs) n d e (List·Memᴰ·head p) (List·Memᴰ·head q) z = p ∙ sym q
   labels-differ (x ∷ fs) n d e (List·Memᴰ·head p) (List·Memᴰ·tail k) z = absurd (n .0 (Memᴰ·cast (ap f (sym p) ∙ z) (Memᴰ·map f k)))
   labels-differ (x ∷ fs) n d e (List·Memᴰ·tail m) (List·Memᴰ·head q) z = absurd (n .0 (Memᴰ·cast (ap f (sym q) ∙ sym z) (Memᴰ·map f m)))
