@@ -34,6 +34,7 @@ use Rattle.demand2.specs.Unlink.{unlink-goes}
 use Rattle.demand2.specs.Refused.{refused-calls}
 use Rattle.demand2_collect.specs.Collect.{collect}
 use Rattle.demand1.specs.Words.{OnlyStored, OnlyRead, AcceptedCalls, Demand1}
+use Rattle.demand1.specs.Exactly.{exactly}
 use Rattle.demand1.specs.Numbers.{numbers}
 use Rattle.demand1.specs.Stores.{only-stored}
 
@@ -137,4 +138,9 @@ module _ (image : Bytes) (ds : List Descriptor) where
   }
 
 pub demand1 : (image : Bytes) (ds : List Descriptor) → Demand1 image ds
-demand1 image ds = record { numbers = numbers image ds; refused = refused-calls image ds; accepted = accepted-calls image ds }
+demand1 image ds = record {
+  exactly = exactly image ds;
+  numbers = numbers image ds (exactly image ds);
+  refused = refused-calls image ds;
+  accepted = accepted-calls image ds;
+}

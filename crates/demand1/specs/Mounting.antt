@@ -1,12 +1,11 @@
 -- Checks 1 to 7 mean what their rows say.
-use Prim.Native.Nat.{ℕ, _+_, _≤_, _<_, max}
-use mathlib.Core.Path.{_≡_, refl, sym, ap, _∙_}
+use Prim.Native.Nat.{ℕ, _≤_, _<_, max}
+use mathlib.Core.Path.{_≡_, refl, sym, _∙_}
 use mathlib.Core.Logic.{_⊎_, inl, inr, _≢_, ⊎-elim}
 use mathlib.Core.Bool.{Bool, true, false, cond, not, _&&_, _||_}
 use mathlib.Core.Option.{Option, none, some}
-use mathlib.Core.List.{List, [], _∷_, _++_, map, List·Memᴰ, List·Memᴰ·head, List·Memᴰ·tail, List·Memᴰ·cases-cons, Memᴰ·cast, Memᴰ·map, Memᴰ·of-map}
+use mathlib.Core.List.{List, [], _∷_, map, List·Memᴰ, List·Memᴰ·head, List·Memᴰ·tail, Memᴰ·cast, Memᴰ·of-map}
 use native.Mathlib.Omega.{arith}
-use native.Mathlib.Decide.{ℕ-discrete}
 use lib.ListN.{length}
 use lib.Dec.{T, eqb, ltb, leb, T-not, le→leb, leb→le}
 use borrow.Author.Tests.{eqb-true, eqb-false, ltb-true, ltb-false, leb-true, leb-false}
@@ -16,14 +15,16 @@ use Rattle.format.specs.AreaHeader.{areaId}
 use Rattle.format.specs.Record.{recordId, recordSequence}
 use Rattle.volume.specs.Lists.{all, once, has, same}
 use Rattle.volume.specs.View.{byBytes}
-use Rattle.volume.specs.Counting.{Volume, inodeOf, inodeIds, blockIds, agree, allAgree}
-use Rattle.volume_laws.specs.Tests.{true→T, T→true, not-T→false, and-T, T-and, eqb-differ, not-is-false}
+use Rattle.volume.specs.Counting.{inodeOf, inodeIds, blockIds, agree, allAgree}
+use Rattle.volume_laws.specs.Tests.{true→T, T→true, and-T, T-and, not-is-false}
 use Rattle.volume_laws.specs.Lists.{all-mem, mem-all, not-all, same-refl, same-eq}
 use Rattle.volume_laws.specs.Once.{Nodup}
 use Rattle.volume_laws.specs.Counting.{agree-test, counting-mem, counting-none}
 use Rattle.calls.specs.Refusal.{firstRefusal}
-use Rattle.calls.specs.Areas.{areaEnd, areaBytes, fileAreas, scratchAreas, mostAreas, shortestArea, largestImage, goodArea, disjoint, allDisjoint, goodAreas}
-use Rattle.calls.specs.Mount.{acceptedRecords, volume, mostInodes, mostBlocks, badDescription, sharedAreaId, wrongAreas, shortScratch, tooManyIds, noRoot}
+use Rattle.calls.specs.Areas.{areaEnd, areaBytes, fileAreas, scratchAreas, mostAreas, shortestArea, largestImage, goodArea, disjoint, allDisjoint}
+use Rattle.calls.specs.Areas.{goodAreas}
+use Rattle.calls.specs.Mount.{acceptedRecords, volume, mostInodes, mostBlocks, badDescription, sharedAreaId, wrongAreas, shortScratch, tooManyIds}
+use Rattle.calls.specs.Mount.{noRoot}
 use Rattle.calls.specs.Mount.{mountChecks, mountNumber}
 use Rattle.calls.specs.Storing.{isAmong}
 use Rattle.calls.specs.declared.Descriptor.{Descriptor}
@@ -32,7 +33,7 @@ use Rattle.calls_laws.specs.Unused.{among, not-among}
 use Rattle.demand2.specs.Places.{Distinct, files-distinct}
 use Rattle.demand2.specs.Format.{own-ids}
 use Rattle.demand2_collect.specs.Collect.{once-long, labels-differ}
-use Rattle.demand1.specs.Table.{Row, _given-when_, Answers, NoOverlap, GoodList, listRow, mountRows}
+use Rattle.demand1.specs.Table.{Row, _given-when_, Answers, NoOverlap, GoodList, mountRows}
 
 -- ---- tests and what they mean
 
@@ -63,9 +64,6 @@ fails-means false = (λ e. refl, λ e. absurd (no-way e))
 pub or-means : (a b : Bool) {v w : Type 0} → Means a v → Means b w → Means (a || b) (v ⊎ w)
 or-means true b m n = (λ e. inl (m .0 refl), λ e. absurd (no-way e))
 or-means false b m n = (λ e. inr (n .0 e), λ e. ⊎-elim (m .1 refl) (n .1 e))
-
-pub same-means : (b : Bool) {v w : Type 0} → (v → w) → (w → v) → Means b v → Means b w
-same-means b f g m = (λ e. f (m .0 e), λ e x. m .1 e (g x))
 
 -- a check and its row, before others
 pub step : (b : Bool) (n m : ℕ) (w : Type 0) (rs : List Row) → Means b w → (b ≡ false → Answers rs m) → Answers ((n given-when w) ∷ rs) (cond b n m)
@@ -217,7 +215,8 @@ module _ (image : Bytes) (ds : List Descriptor) where
   shared-means described = (
     (λ e. ⊎-elim (λ p. p) (λ n. absurd (no-way (sym e ∙ own-ids ids n)))
         (two-alike label (fileAreas image ds) (files-distinct image ds described))),
-    (λ e p. p .4 (labels-differ label (fileAreas image ds) (once-long ids (ltb-false (length (once ids)) (length ids) e)) (p .0) (p .1) (p .2) (p .3) (p .5))),
+    (λ e p. p .4 (labels-differ label (fileAreas image ds) (once-long ids (ltb-false (length (once ids)) (length ids) e))
+        (p .0) (p .1) (p .2) (p .3) (p .5))),
   )
     where
       label : Descriptor → ℕ

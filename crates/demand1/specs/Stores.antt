@@ -87,16 +87,16 @@ area-erased area long j h l =
 -- ---- spaces, and what fits into them
 
 -- the n bytes from p on lie in a space
-record Inside (s : Space) (p n : ℕ) : Type 0 where
-  behind : s .from ≤ p
-  before-end : p + n ≤ s .end
+pub record Inside (s : Space) (p n : ℕ) : Type 0 where
+  pub behind : s .from ≤ p
+  pub before-end : p + n ≤ s .end
 
 -- they lie in one of several
-abbrev InSome : List Space → ℕ → ℕ → Type 0
+abbrev pub InSome : List Space → ℕ → ℕ → Type 0
 InSome ss p n = (s : Space) × List·Memᴰ s ss × Inside s p n
 
 -- "the first clean file area .. with room": a space of those there were; what is left of them lies in them
-fit-inside : (n : ℕ) (ss : List Space) (f : Fit) → firstFit n ss ≡ some f
+pub fit-inside : (n : ℕ) (ss : List Space) (f : Fit) → firstFit n ss ≡ some f
     → InSome ss (f .place) n × ((u : Space) → List·Memᴰ u (f .left) → (p m : ℕ) → Inside u p m → InSome ss p m)
 unfolding firstFit
 fit-inside n [] f e = let z : _≡_ {A = ℕ} 0 1 = cc in absurd (omega arith)
@@ -164,7 +164,7 @@ all-placed (b ∷ bs) ss l e = go (firstFit (length b) ss) refl e (all-placed bs
     go (some f) q z ih = on f q (placeAll (f .left) bs) (ih (f .left)) z
 
 -- the spaces of an image are the free space of its clean file areas
-space-of : (image : Bytes) (fs : List Descriptor) (s : Space) → List·Memᴰ s (spaces image fs)
+pub space-of : (image : Bytes) (fs : List Descriptor) (s : Space) → List·Memᴰ s (spaces image fs)
     → (d : Descriptor) × List·Memᴰ d fs × (areaClean recordSize (areaBytes image d) ≡ true)
     × (s ≡ record { from = freePlace image d; end = areaEnd d })
 unfolding spaces

@@ -142,16 +142,20 @@ openRows image ds base path =
     pathRows image ds (goodPath base path ≡ false) (pathNames base path)
     ((11 given-when Leads (lookupNames byBytes (volume image ds) (pathNames base path)) (λ i. isDirectoryId i ≡ true)) ∷ [])
 
--- "a handle's id isn't live", "a file where a directory is needed, or the reverse", "a broken file", "read begins after the end"
+-- "13: read or append of a broken file"
+abbrev pub brokenRow : Volume Bytes → ℕ → Row
+brokenRow v f = 13 given-when (fileBlocks byBytes v f ≡ none)
+
+-- "14: read begins after the end"
+abbrev pub endRow : Volume Bytes → ℕ → ℕ → Row
+endRow v f position = 14 given-when ((bs : List Bytes) × (fileBlocks byBytes v f ≡ some bs) × (length (textOf byBytes bs) < position))
+
+-- "a handle's id isn't live", "a file where a directory is needed, or the reverse"
 abbrev pub readRows : Bytes → List Descriptor → ℕ → ℕ → List Row
 readRows image ds id position =
     let v = volume image ds in
     mountRows image ds
-    ++ ((9 given-when (fateOf byBytes v id ≢ live))
-    ∷ (11 given-when (isDirectoryId id ≡ true))
-    ∷ (13 given-when (fileBlocks byBytes v id ≡ none))
-    ∷ (14 given-when ((bs : List Bytes) × (fileBlocks byBytes v id ≡ some bs) × (length (textOf byBytes bs) < position)))
-    ∷ [])
+    ++ ((9 given-when (fateOf byBytes v id ≢ live)) ∷ (11 given-when (isDirectoryId id ≡ true)) ∷ brokenRow v id ∷ endRow v id position ∷ [])
 
 -- "creating .. the root" is 8; "create walks all but the last name, and for that name, in a directory, only 12 is asked"; 5 again "with the new
 -- records counted in", before 15
@@ -189,12 +193,12 @@ unlinkRows image ds base path =
     ∷ (15 given-when Leads o (λ i. NoRoom image ds (deletion v i)))
     ∷ [])
 
--- "no file area is as long as the scratch area"
+-- "17: collect: no file area is as long as the scratch area"
+abbrev pub sourceRow : List Descriptor → List Descriptor → Row
+sourceRow fs ss = 17 given-when ((s f : Descriptor) → List·Memᴰ s ss → List·Memᴰ f fs → f .length ≢ s .length)
+
 abbrev pub collectRows : Bytes → List Descriptor → List Row
-collectRows image ds =
-    mountRows image ds
-    ++ ((17 given-when ((s f : Descriptor) → List·Memᴰ s (scratchAreas image ds) → List·Memᴰ f (fileAreas image ds) → f .length ≢ s .length))
-    ∷ [])
+collectRows image ds = mountRows image ds ++ (sourceRow (fileAreas image ds) (scratchAreas image ds) ∷ [])
 
 -- "given exactly when that document says"
 pub record Exactly (image : Bytes) (ds : List Descriptor) : Type 0 where

@@ -31,6 +31,7 @@ use Rattle.calls.specs.declared.Handle.{Handle}
 use Rattle.calls_laws.specs.Checks.{InArea}
 use Rattle.demand2.specs.Store.{freePlace}
 use Rattle.demand2.specs.Refused.{RefusedCalls}
+use Rattle.demand1.specs.Table.{Exactly}
 
 -- ---- the numbers of each call; "0 is success"
 
@@ -138,5 +139,6 @@ pub record AcceptedCalls (image : Bytes) (ds : List Descriptor) : Type 0 where
 -- Demand 1, of any image and any area list
 pub record Demand1 (image : Bytes) (ds : List Descriptor) : Type 0 where
   pub numbers : Numbers image ds
+  pub exactly : Exactly image ds
   pub refused : RefusedCalls image ds
   pub accepted : AcceptedCalls image ds
