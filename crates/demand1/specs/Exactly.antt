@@ -308,7 +308,7 @@ module _ (image : Bytes) (ds : List Descriptor) where
                 omega (arith, leb-true position (length (textOf byBytes bs)) e, p .2, ap (λ (l : List Bytes). length (textOf byBytes l)) y)),
             refl,
           )
-          at false e = inl ((bs, q, leb-false position (length (textOf byBytes bs)) e), refl)
+          at false e = inl ((bs, q, omega (arith, leb-false position (length (textOf byBytes bs)) e)), refl)
 
   give-number : (id position room : ℕ) → readAnswer (give (volume image ds) id position room) .number
       ≡ cond (not (isLive (fateOf byBytes (volume image ds) id))) 9 (cond (isDirectoryId id) 11
