@@ -4,7 +4,7 @@ use mathlib.Core.Path.{_≡_, refl, sym, ap, _∙_}
 use mathlib.Core.Logic.{_≢_, inr}
 use mathlib.Core.Bool.{true, false, cond, not, _||_}
 use mathlib.Core.Option.{Option, none, some}
-use mathlib.Core.List.{List, [], _∷_, _++_, append-assoc, List·Memᴰ, List·Memᴰ·head}
+use mathlib.Core.List.{List, [], _∷_, _++_, map, append-assoc, List·Memᴰ, List·Memᴰ·head}
 use native.Mathlib.Omega.{arith}
 use lib.ListN.{length, take, drop}
 use lib.Dec.{eqb, ltb, leb, nltb→le, leb→le, le→leb}
@@ -12,6 +12,7 @@ use Rattle.format.specs.Bytes.{Bytes}
 use Rattle.format.specs.Ids.{NONE, firstFileId, firstBlockId, rootId, isDirectoryId}
 use Rattle.format.specs.Reading.{areaClean}
 use Rattle.format.specs.Record.{recordSize, recordId}
+use Rattle.format.specs.BlockSize.{greatestBlock}
 use Rattle.format_laws.specs.Crc.{Octets}
 use Rattle.volume.specs.Lists.{only, keep}
 use Rattle.volume.specs.View.{byBytes}
@@ -30,10 +31,12 @@ use Rattle.calls.specs.Areas.{areaBytes, fileAreas}
 use Rattle.calls.specs.Mount.{mostBlocks, volume, mountNumber}
 use Rattle.calls.specs.Storing.{Store, spaces, placeAll, storeAll, noPlace, namedIds}
 use Rattle.calls.specs.Attempt.{Attempt, goes, refuses, leaves}
-use Rattle.calls.specs.Append.{mostAppended, cutInto, piecesOf, blockRecords, newBlocks, isBroken, appendTo, appending, appendImage, appendOf, imageAppended}
+use Rattle.calls.specs.Append.{mostAppended, shortestLength, cutInto, piecesOf, blockRecords, newBlocks, isBroken}
+use Rattle.calls.specs.Append.{appendTo, appending, appendImage, appendOf, imageAppended}
 use Rattle.calls.specs.declared.Descriptor.{Descriptor}
 use Rattle.calls.specs.Lookup.{resolve}
-use Rattle.calls.specs.Read.{given, refused, giveBlocks, give}
+use Rattle.calls.specs.Read.{given, refused, giveBlocks, give, readGiven}
+use Rattle.image_laws.specs.Stores.{joinedBytes}
 use Rattle.calls_laws.specs.Checks.{Passes, passes, mounts}
 use Rattle.calls_laws.specs.Records.{volume-sound}
 use Rattle.calls_laws.specs.Attempt.{attempt-goes}
@@ -42,17 +45,23 @@ use Rattle.demand2.specs.Places.{AreaGrown, areas-grown, place-found, Wr
 use Rattle.demand2.specs.Unused.{Unused, block-named, unnamed-unused, few-named}
 use Rattle.demand2.specs.Added.{same-inode, same-fate, same-lookup}
 use Rattle.demand2.specs.Mounted.{agreed-inodes}
-use Rattle.demand2.specs.Found.{passed-check, lookup-refused, root-there, found-lives, resolved, resolve-alike}
+use Rattle.demand2.specs.Found.{passed-check, lookup-refused, root-there, found-lives, resolved, resolve-alike, read-given, read-kept}
 use Rattle.demand2.specs.NewRecord.{IsBlock}
-use Rattle.demand2.specs.Cut.{pieces-joined, pieces-good}
-use Rattle.demand2.specs.Pieces.{Behind, nothing, a-block, mostNames, Made, made, made-each, made-text, made-count, made-unnamed, BlocksName}
-use Rattle.demand2.specs.Pieces.{Grown, all-grown}
+use Rattle.demand2.specs.Cut.{Sized, pieces-joined, pieces-sized, pieces-good}
+use Rattle.demand2.specs.Pieces.{Behind, nothing, a-block, mostNames, Made, made, made-each, made-texts, texts-joined, made-count, made-unnamed}
+use Rattle.demand2.specs.Pieces.{BlocksName, Chained, made-chain, lastId, last-is, Grown, all-grown}
 
 text-append : (bs cs : List Bytes) → textOf byBytes (bs ++ cs) ≡ textOf byBytes bs ++ textOf byBytes cs
 unfolding textOf
 text-append [] cs = refl
 text-append (b ∷ bs) cs =
     ap (λ (x : Bytes). byBytes .text b ++ x) (text-append bs cs) ∙ sym (append-assoc (byBytes .text b) (textOf byBytes bs) (textOf byBytes cs))
+
+-- 0 bytes are no pieces
+nothing-cut : (image : Bytes) (ds : List Descriptor) (f : ℕ) (text : Bytes) → text ≡ [] → newBlocks image ds f text ≡ []
+unfolding newBlocks piecesOf cutInto blockRecords
+nothing-cut image ds f [] e = refl
+nothing-cut image ds f (b ∷ l) e = let z : _≡_ {A = ℕ} 0 1 = cc in absurd (omega arith)
 
 -- what an accepted append found
 pub record AppendGoes (image : Bytes) (ds : List Descriptor) (base path text : Bytes) : Type 0 where
@@ -128,20 +137,29 @@ pub record AfterAppend (image image′ : Bytes) (ds : List Descriptor) (base pat
   pub old : List Bytes
   pub whole-before : fileBlocks byBytes (volume image ds) file ≡ some old
   pub whole-after : fileBlocks byBytes (volume image′ ds) file ≡ some (old ++ newBlocks image ds file text)
-  -- "After an append the file reads as its old contents and then the new data": at every position and with every buffer
+  -- "After an append the file reads as its old contents and then the new data": at every position and with every buffer. Headers are followed
+  -- back to the block of the first byte given, "0 if no byte is given"
   pub text-after : textOf byBytes (old ++ newBlocks image ds file text) ≡ textOf byBytes old ++ text
   pub reads-both : (position room : ℕ) → position ≤ length (textOf byBytes old ++ text)
-      → (headers : ℕ) × (give (volume image′ ds) file position room ≡ given (take room (drop position (textOf byBytes old ++ text))) headers)
-  pub reads-none : (position room : ℕ) → length (textOf byBytes old ++ text) < position → give (volume image′ ds) file position room ≡ refused 14
+      → readGiven image′ ds file position room
+      ≡ given (take room (drop position (textOf byBytes old ++ text)))
+      (cond (eqb (length (take room (drop position (textOf byBytes old ++ text)))) 0) 0
+      (headersFrom byBytes position (old ++ newBlocks image ds file text)))
+  pub reads-none : (position room : ℕ) → length (textOf byBytes old ++ text) < position → readGiven image′ ds file position room ≡ refused 14
   -- "everything else that could be reached by path reads as before"
   pub paths : (b p : Bytes) → resolve image′ ds b p ≡ resolve image ds b p
-  pub reads : (i : ℕ) → i ≢ file → (position room : ℕ) → give (volume image′ ds) i position room ≡ give (volume image ds) i position room
+  pub reads : (i : ℕ) → i ≢ file → (position room : ℕ) → readGiven image′ ds i position room ≡ readGiven image ds i position room
   pub inodes : (i : ℕ) → inodeOf byBytes (volume image′ ds) i ≡ inodeOf byBytes (volume image ds) i
   pub fates : (i : ℕ) → fateOf byBytes (volume image′ ds) i ≡ fateOf byBytes (volume image ds) i
   pub contents : (f : ℕ) → f ≢ file → fileBlocks byBytes (volume image′ ds) f ≡ fileBlocks byBytes (volume image ds) f
-  -- each new record bears an id that no record named, and went to the start of the free space of the first clean file area with room for it, one
-  -- after the other
+  -- each new record bears an id that no record named
   pub unused : (b : Bytes) → List·Memᴰ b (newBlocks image ds file text) → Unused (volume image ds) (recordId b)
+  -- "the smallest id", piece by piece, "each naming the one before": the first names the file's last old block, NONE where there was none
+  pub chained : Chained file (namedIds (volume image ds)) (lastId old) (newBlocks image ds file text)
+  -- "pieces of the greatest block size, the last one shorter"; "0 bytes write nothing"
+  pub sizes : Sized (greatestBlock (shortestLength (fileAreas image ds))) (map (byBytes .text) (newBlocks image ds file text))
+  pub no-pieces : text ≡ [] → newBlocks image ds file text ≡ []
+  -- one after the other they went to the start of the free space of the first clean file area with room for each
   pub went : Written ds image (newBlocks image ds file text) image′
   -- so that each area reads as its old records followed by those that went there
   pub areas : (d : Descriptor) → List·Memᴰ d ds → AreaGrown image image′ d (newBlocks image ds file text)
@@ -238,8 +256,11 @@ module _ (image : Bytes) (ds : List Descriptor) (base path text : Bytes) (octets
   grown = rw records-are (all-grown ds f pieces image image′ (namedIds v) (last .0) p named behind (last .1) names-few
       (omega (arith, counted, g .few)) all-made (rw records-are at all-went))
 
+  new-texts : map (byBytes .text) (newBlocks image ds f text) ≡ pieces
+  new-texts = ap (map (byBytes .text)) records-are ∙ made-texts pieces (namedIds v) f (last .0) all-made
+
   new-text : textOf byBytes (newBlocks image ds f text) ≡ text
-  new-text = ap (textOf byBytes) records-are ∙ made-text pieces (namedIds v) f (last .0) all-made ∙ pieces-joined image ds p text
+  new-text = texts-joined (newBlocks image ds f text) ∙ ap joinedBytes new-texts ∙ pieces-joined image ds p text
 
   both : textOf byBytes (g .old ++ newBlocks image ds f text) ≡ textOf byBytes (g .old) ++ text
   both = text-append (g .old) (newBlocks image ds f text) ∙ ap (λ (x : Bytes). textOf byBytes (g .old) ++ x) new-text
@@ -251,13 +272,15 @@ module _ (image : Bytes) (ds : List Descriptor) (base path text : Bytes) (octets
   new-fates = same-fate byBytes v (volume image′ ds) (grown .same-inodes) (agreed-inodes image ds p)
 
   -- a read of the file
-  file-given : (position room : ℕ) → give (volume image′ ds) f position room
+  file-given : (position room : ℕ) → readGiven image′ ds f position room
       ≡ cond (leb position (length (textOf byBytes (g .old) ++ text))) (giveBlocks (g .old ++ newBlocks image ds f text) position room) (refused 14)
   unfolding give
-  file-given position room = rw (give, new-fates f, lives, g .no-directory, grown .contents (g .old) (g .not-broken), both)
+  file-given position room =
+      read-given image′ ds still-mounts f position room
+      ∙ rw (give, new-fates f, lives, g .no-directory, grown .contents (g .old) (g .not-broken), both)
 
   after-append : AfterAppend image image′ ds base path text
-  unfolding give giveBlocks
+  unfolding giveBlocks
   after-append = record {
     mounts = still-mounts;
     file = f;
@@ -266,30 +289,27 @@ module _ (image : Bytes) (ds : List Descriptor) (base path text : Bytes) (octets
     whole-before = g .not-broken;
     whole-after = grown .contents (g .old) (g .not-broken);
     text-after = both;
-    reads-both = λ position room h. (
-      headers position room,
-      file-given position room ∙ rw (T→true {b = leb position (length (textOf byBytes (g .old) ++ text))} (le→leb position _ h), giveBlocks, both),
-    );
+    reads-both = λ position room h.
+        file-given position room ∙ rw (T→true {b = leb position (length (textOf byBytes (g .old) ++ text))} (le→leb position _ h), giveBlocks, both);
     reads-none = λ position room h. file-given position room
         ∙ rw (not-T→false {b = leb position (length (textOf byBytes (g .old) ++ text))} (λ t. let l = leb→le position _ t in omega arith));
     paths = λ b q. resolve-alike image image′ ds b q (g .mounted) still-mounts
         (λ e. same-lookup byBytes v (volume image′ ds) (grown .same-inodes) (agreed-inodes image ds p) (pathNames b q));
-    reads = λ i n position room. rw (give, new-fates i, grown .other-files i n);
+    reads = λ i n. read-kept image image′ ds (g .mounted) still-mounts i (new-fates i) (grown .other-files i n);
     inodes = same-inode byBytes v (volume image′ ds) (grown .same-inodes) (agreed-inodes image ds p);
     fates = new-fates;
     contents = grown .other-files;
     unused = λ b m. unnamed-unused v (recordId b) (made-unnamed pieces (namedIds v) f (last .0) all-made b (rw records-are at m));
+    chained = rw (records-are, ← last-is v f (last .0) (g .old) (last .1) (g .not-broken))
+        (made-chain pieces (namedIds v) f (last .0) all-made);
+    sizes = rw new-texts (pieces-sized image ds p text);
+    no-pieces = nothing-cut image ds f text;
     went = all-went;
     areas = areas-grown ds (p .described) all-went;
     same-areas = written-areas ds (p .described) all-went;
     clean-after = written-clean ds (p .described) all-went;
     octets = octets-written all-went (each Octets (λ b id previous t k. k .octets));
   }
-    where
-      headers : ℕ → ℕ → ℕ
-      headers position room =
-          cond (eqb (length (take room (drop position (textOf byBytes (g .old) ++ text)))) 0) 0
-          (headersFrom byBytes position (g .old ++ newBlocks image ds f text))
 
 pub append : (image : Bytes) (ds : List Descriptor) (base path text : Bytes) → Octets text → appendOf image ds base path text ≡ 0
     → AfterAppend image (imageAppended image ds base path text) ds base path text

@@ -45,7 +45,8 @@ use Rattle.demand2.specs.Places.{place-found, all-placed}
 use Rattle.calls_laws.specs.Unused.{Smallest, unused-smallest}
 use Rattle.demand2.specs.Unused.{Unused, unnamed-unused, few-named}
 use Rattle.demand2.specs.Names.{GoodName, good-name, last-mem, names-split}
-use Rattle.demand2.specs.Found.{passed-check, lookup-refused, root-there, found-lives, found-once, resolved, resolve-alike, read-given, read-alike}
+use Rattle.demand2.specs.Found.{passed-check, lookup-refused, root-there, found-lives, found-once}
+use Rattle.demand2.specs.Found.{resolved, resolve-alike, read-given, read-kept}
 use Rattle.demand2.specs.NewRecord.{IsInode, inode-made, WrittenOne, written-one, octets-one, no-blocks}
 
 -- a read of no block: "position equal to size reads 0 bytes; one more is 14"
@@ -345,7 +346,7 @@ module _ (image : Bytes) (ds : List Descriptor) (base path : Bytes) (kind : ℕ)
     paths = same-paths;
     elsewhere = same-elsewhere;
     below = nothing-below;
-    reads = λ i n. read-alike image image′ ds (g .mounted) (mounts image′ ds still) i (new-fates i n) (new-contents i);
+    reads = λ i n. read-kept image image′ ds (g .mounted) (mounts image′ ds still) i (new-fates i n) (new-contents i);
     inodes = λ i n. now .inodes i (born-other i n);
     fates = new-fates;
     contents = new-contents;

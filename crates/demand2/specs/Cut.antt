@@ -27,6 +27,12 @@ pub record GoodPiece (p : Bytes) : Type 0 where
   pub fits : length p ≤ longestData
   pub octets : Octets p
 
+-- "pieces of the greatest block size, the last one shorter": each but the last has n bytes, the last 1 to n
+pub data Sized (n : ℕ) : List Bytes → Type 0 where
+  no-piece : Sized n []
+  last-piece : {p : Bytes} → 0 < length p → length p ≤ n → Sized n (p ∷ [])
+  full-piece : {p q : Bytes} {ps : List Bytes} → length p ≡ n → Sized n (q ∷ ps) → Sized n (p ∷ q ∷ ps)
+
 module _ (n : ℕ) (some-room : 1 ≤ n) where
   cut-joined : (k : ℕ) (text : Bytes) → length text ≤ k → joinedBytes (cutInto k n text) ≡ text
   unfolding cutInto joinedBytes
@@ -36,6 +42,22 @@ module _ (n : ℕ) (some-room : 1 ≤ n) where
   cut-joined (suc k) (b ∷ l) h =
       ap (λ (x : Bytes). take n (b ∷ l) ++ x) (cut-joined k (drop n (b ∷ l)) (omega (arith, length-drop n (b ∷ l))))
       ∙ take-append-drop n (b ∷ l)
+
+  cut-sized : (k : ℕ) (text : Bytes) → Sized n (cutInto k n text)
+  unfolding cutInto
+  cut-sized zero text = no-piece
+  cut-sized (suc k) [] = no-piece
+  cut-sized (suc k) (b ∷ l) = go (cutInto k n (drop n (b ∷ l))) refl (cut-sized k (drop n (b ∷ l)))
+    where
+      some-left : (k : ℕ) (text q : Bytes) (ps : List Bytes) → cutInto k n text ≡ q ∷ ps → 0 < length text
+      some-left zero text q ps e = let z : _≡_ {A = ℕ} 0 1 = cc in absurd (omega arith)
+      some-left (suc k) [] q ps e = let z : _≡_ {A = ℕ} 0 1 = cc in absurd (omega arith)
+      some-left (suc k) (b ∷ l) q ps e = omega arith
+
+      go : (ps : List Bytes) → cutInto k n (drop n (b ∷ l)) ≡ ps → Sized n ps → Sized n (take n (b ∷ l) ∷ ps)
+      go [] e s = last-piece {p = take n (b ∷ l)} (omega (arith, length-take n (b ∷ l))) (omega (arith, length-take n (b ∷ l)))
+      go (q ∷ ps) e s = full-piece {p = take n (b ∷ l)}
+          (omega (arith, length-take n (b ∷ l), length-drop n (b ∷ l), some-left k (drop n (b ∷ l)) q ps e)) s
 
   cut-pieces : n ≤ longestData → (k : ℕ) (text : Bytes) → Octets text → (p : Bytes) → List·Memᴰ p (cutInto k n text) → GoodPiece p
   unfolding cutInto
@@ -72,6 +94,10 @@ module _ (image : Bytes) (ds : List Descriptor) (p : Passes image ds) where
   pub pieces-joined : (text : Bytes) → joinedBytes (piecesOf (fileAreas image ds) text) ≡ text
   unfolding piecesOf
   pieces-joined text = cut-joined (greatestBlock (shortestLength (fileAreas image ds))) (block-size .0) (length text) text (omega arith)
+
+  pub pieces-sized : (text : Bytes) → Sized (greatestBlock (shortestLength (fileAreas image ds))) (piecesOf (fileAreas image ds) text)
+  unfolding piecesOf
+  pieces-sized text = cut-sized (greatestBlock (shortestLength (fileAreas image ds))) (block-size .0) (length text) text
 
   pub pieces-good : (text : Bytes) → Octets text → (q : Bytes) → List·Memᴰ q (piecesOf (fileAreas image ds) text) → GoodPiece q
   unfolding piecesOf

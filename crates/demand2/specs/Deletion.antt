@@ -4,8 +4,8 @@ use mathlib.Core.Path.{_≡_, refl, sym, ap, _∙_}
 use mathlib.Core.Logic.{_⊎_, inl, inr, _≢_, ⊎-elim}
 use mathlib.Core.Bool.{Bool, true, false}
 use mathlib.Core.Option.{Option, none, some}
-use mathlib.Core.List.{List, [], _∷_, List·Memᴰ, List·Memᴰ·head, List·Memᴰ·tail, List·Memᴰ·cases-cons, List·Memᴰ·not-nil, List·Memᴰ·eq-of-singleton}
-use mathlib.Core.List.{Memᴰ·cast}
+use mathlib.Core.List.{List, [], _∷_, _++_, List·Memᴰ, List·Memᴰ·head, List·Memᴰ·tail, List·Memᴰ·cases-cons, List·Memᴰ·not-nil}
+use mathlib.Core.List.{List·Memᴰ·eq-of-singleton, Memᴰ·cast}
 use native.Mathlib.Omega.{arith}
 use native.Mathlib.Decide.{ℕ-discrete}
 use lib.ListN.{length}
@@ -165,7 +165,11 @@ pub record InodeGone {A : Type 0} (F : View A) (v w : Volume A) (r : A) : Type 0
   -- what was found and lies below it is found no more, what does not as before
   pub lost : (ns : List Bytes) (j : ℕ) → lookupNames F v ns ≡ found j → List·Memᴰ (F .id r) (lineage F v j) → lookupNames F w ns ≡ absent 9
   pub stays : (ns : List Bytes) (j : ℕ) → lookupNames F v ns ≡ found j → ¬ List·Memᴰ (F .id r) (lineage F v j) → lookupNames F w ns ≡ found j
-  -- every other answer stays, or is 9 now, if the inode was the only child of its name
+  -- if the inode was the only child of its name, a lookup that does not come by it is answered as before
+  pub elsewhere : ((e : ℕ) (n : Bytes) → T (isChild F v e n (F .id r)) → only (children F v e n) ≡ one (F .id r))
+      → (ns : List Bytes) → ((ms rest : List Bytes) → lookupNames F v ms ≡ found (F .id r) → ns ≢ ms ++ rest)
+      → lookupNames F w ns ≡ lookupNames F v ns
+  -- and any other stays, or is answered by 9 now
   pub either : ((e : ℕ) (n : Bytes) → T (isChild F v e n (F .id r)) → only (children F v e n) ≡ one (F .id r))
       → (ns : List Bytes) → (lookupNames F w ns ≡ lookupNames F v ns) ⊎ (lookupNames F w ns ≡ absent 9)
 
@@ -339,53 +343,76 @@ module _ {A : Type 0} (F : View A) (v w : Volume A) (r : A) (a : Added F (v .ino
   unfolding lookupNames
   lookup-lost ns j = walk-lost rootId ns j root-outside
 
-  -- every other answer stays, or is 9 now: the inode was the only child of its name
+  -- another child of a directory that is not below it is not below it
+  child-outside : (e : ℕ) (n : Bytes) (x : ℕ) → isDirectoryId e ≡ true → ¬ List·Memᴰ (F .id r) (lineage F v e) → T (isChild F v e n x)
+      → F .id r ≢ x
+      → ¬ List·Memᴰ (F .id r) (lineage F v x)
+  child-outside e n x dir b t q m = ⊎-elim q b (List·Memᴰ·cases-cons (rw (child-lineage F v sound e n x dir t) at m))
+
+  -- where it is not among the children of a name, they are the same
+  only-stays : (e : ℕ) (n : Bytes) → isDirectoryId e ≡ true → ¬ List·Memᴰ (F .id r) (lineage F v e) → ¬ T (isChild F v e n (F .id r))
+      → only (children F w e n) ≡ only (children F v e n)
+  only-stays e n dir b q = only-same F v w e n (λ y. T-iff (isChild F w e n y) (isChild F v e n y) (child-old e n y) (back y))
+    where
+      back : (y : ℕ) → T (isChild F v e n y) → T (isChild F w e n y)
+      back y t = rw (child-stays e n y (child-outside e n y dir b t (λ z. q (rw z t)))) t
+
+  -- it was the only child of its name
   module _ (alone : (e : ℕ) (n : Bytes) → T (isChild F v e n (F .id r)) → only (children F v e n) ≡ one (F .id r)) where
-    several-stay : (e : ℕ) (n : Bytes) → isDirectoryId e ≡ true → ¬ List·Memᴰ (F .id r) (lineage F v e) → only (children F v e n) ≡ several
-        → only (children F w e n) ≡ several
-    several-stay e n dir b q = only-same F v w e n (λ y. T-iff (isChild F w e n y) (isChild F v e n y) (child-old e n y) (back y)) ∙ q
-      where
-        back : (y : ℕ) → T (isChild F v e n y) → T (isChild F w e n y)
-        back y t = rw (child-stays e n y (λ m. ⊎-elim itself b (List·Memᴰ·cases-cons (rw (child-lineage F v sound e n y dir t) at m)))) t
-          where
-            itself : F .id r ≡ y → ⊥
-            itself z =
-                let u : only (children F v e n) ≡ one (F .id r) = alone e n (rw z t) in
-                let k : _≡_ {A = ℕ} 0 1 = cc in
-                omega arith
-
-    none-stay : (e : ℕ) (n : Bytes) → only (children F v e n) ≡ nobody → only (children F w e n) ≡ nobody
-    unfolding only children
-    none-stay e n q = ap only (keep-none (isChild F w e n) (inodeIds F w)
-        (λ y m. not-T→false (λ t. none-in (children F v e n) q y (mem-children F v e n y (child-old e n y t)))))
-      where
-        none-in : (l : List ℕ) → only l ≡ nobody → (y : ℕ) → List·Memᴰ y l → ⊥
-        none-in [] q y m = List·Memᴰ·not-nil m
-        none-in (x ∷ []) q y m = let z : _≡_ {A = ℕ} 0 1 = cc in omega arith
-        none-in (x ∷ u ∷ l) q y m = let z : _≡_ {A = ℕ} 0 1 = cc in omega arith
-
-    walk-either : (e : ℕ) (ns : List Bytes) → ¬ List·Memᴰ (F .id r) (lineage F v e) → (walk F w e ns ≡ walk F v e ns) ⊎ (walk F w e ns ≡ absent 9)
+    -- a walk that does not come by it is answered as before
+    walk-elsewhere : (e : ℕ) (ns : List Bytes) → ¬ List·Memᴰ (F .id r) (lineage F v e)
+        → ((ms rest : List Bytes) → walk F v e ms ≡ found (F .id r) → ns ≢ ms ++ rest) → walk F w e ns ≡ walk F v e ns
     unfolding walk
-    walk-either e [] b = inl refl
-    walk-either e (n ∷ ns) b = go (isDirectoryId e) refl (only (children F v e n)) refl (λ x. walk-either x ns)
+    walk-elsewhere e [] b q = refl
+    walk-elsewhere e (n ∷ ns) b q = go (isDirectoryId e) refl (λ x. walk-elsewhere x ns)
       where
-        go : (d : Bool) → isDirectoryId e ≡ d → (o : Only ℕ) → only (children F v e n) ≡ o
+        not-there : isDirectoryId e ≡ true → ¬ T (isChild F v e n (F .id r))
+        not-there d t = q (n ∷ []) ns (rw (walk, d, alone e n t)) refl
+
+        on : isDirectoryId e ≡ true → (o : Only ℕ) → only (children F v e n) ≡ o
+            → ((x : ℕ) → ¬ List·Memᴰ (F .id r) (lineage F v x)
+            → ((ms rest : List Bytes) → walk F v x ms ≡ found (F .id r) → ns ≢ ms ++ rest) → walk F w x ns ≡ walk F v x ns)
+            → onward true o (λ i. walk F w i ns) ≡ onward true o (λ i. walk F v i ns)
+        on d nobody c ih = refl
+        on d several c ih = refl
+        on d (one x) c ih =
+            let t = sole F v e n x c .0 in
+            ih x (child-outside e n x d b t (λ z. not-there d (rw z t)))
+            (λ ms rest f z. q (n ∷ ms) rest (rw (walk, d, c) f) (ap (λ l. n ∷ l) z))
+
+        go : (d : Bool) → isDirectoryId e ≡ d
+            → ((x : ℕ) → ¬ List·Memᴰ (F .id r) (lineage F v x)
+            → ((ms rest : List Bytes) → walk F v x ms ≡ found (F .id r) → ns ≢ ms ++ rest) → walk F w x ns ≡ walk F v x ns)
+            → walk F w e (n ∷ ns) ≡ walk F v e (n ∷ ns)
+        go false d ih = rw d
+        go true d ih = rw (d, only-stays e n d b (not-there d)) (on d (only (children F v e n)) refl ih)
+
+    lookup-elsewhere : (ns : List Bytes) → ((ms rest : List Bytes) → lookupNames F v ms ≡ found (F .id r) → ns ≢ ms ++ rest)
+        → lookupNames F w ns ≡ lookupNames F v ns
+    unfolding lookupNames
+    lookup-elsewhere ns = walk-elsewhere rootId ns root-outside
+
+    -- and any other stays, or is answered by 9 now
+    walk-either : (e : ℕ) (ns : List Bytes) → ¬ List·Memᴰ (F .id r) (lineage F v e) → (walk F w e ns ≡ walk F v e ns) ⊎ (walk F w e ns ≡ absent 9)
+    unfolding walk lineage
+    walk-either e [] b = inl refl
+    walk-either e (n ∷ ns) b = go (isDirectoryId e) refl (isChild F v e n (F .id r)) refl (λ x. walk-either x ns)
+      where
+        on : isDirectoryId e ≡ true → ¬ T (isChild F v e n (F .id r)) → (o : Only ℕ) → only (children F v e n) ≡ o
+            → ((x : ℕ) → ¬ List·Memᴰ (F .id r) (lineage F v x) → (walk F w x ns ≡ walk F v x ns) ⊎ (walk F w x ns ≡ absent 9))
+            → (onward true o (λ i. walk F w i ns) ≡ onward true o (λ i. walk F v i ns)) ⊎ (onward true o (λ i. walk F w i ns) ≡ absent 9)
+        on d q nobody c ih = inl refl
+        on d q several c ih = inl refl
+        on d q (one x) c ih = let t = sole F v e n x c .0 in ih x (child-outside e n x d b t (λ z. q (rw z t)))
+
+        go : (d : Bool) → isDirectoryId e ≡ d → (k : Bool) → isChild F v e n (F .id r) ≡ k
             → ((x : ℕ) → ¬ List·Memᴰ (F .id r) (lineage F v x) → (walk F w x ns ≡ walk F v x ns) ⊎ (walk F w x ns ≡ absent 9))
             → (walk F w e (n ∷ ns) ≡ walk F v e (n ∷ ns)) ⊎ (walk F w e (n ∷ ns) ≡ absent 9)
-        go false d o q ih = inl (rw d)
-        go true d nobody q ih = inl (rw (d, none-stay e n q, q))
-        go true d several q ih = inl (rw (d, several-stay e n d b q, q))
-        go true d (one x) q ih = at (mem-dec (F .id r) (lineage F v x))
-          where
-            at : Dec (List·Memᴰ (F .id r) (lineage F v x)) → (walk F w e (n ∷ ns) ≡ walk F v e (n ∷ ns)) ⊎ (walk F w e (n ∷ ns) ≡ absent 9)
-            at (yes m) = inr (rw (d, now-none e n x q m))
-            at (no m) = ⊎-elim (λ z. inl (on z)) (λ z. inr (off z)) (ih x m)
-              where
-                on : walk F w x ns ≡ walk F v x ns → walk F w e (n ∷ ns) ≡ walk F v e (n ∷ ns)
-                on z = rw (d, still-one e n x q m, q) z
-
-                off : walk F w x ns ≡ absent 9 → walk F w e (n ∷ ns) ≡ absent 9
-                off z = rw (d, still-one e n x q m) z
+        go false d k q ih = inl (rw d)
+        go true d true q ih = inr (rw (d, now-none e n (F .id r) (alone e n (true→T q)) (List·Memᴰ·head refl)))
+        go true d false q ih =
+            let f : ¬ T (isChild F v e n (F .id r)) = λ t. rw q at t in
+            rw (d, only-stays e n d b f) (on d f (only (children F v e n)) refl ih)
 
     lookup-either : (ns : List Bytes) → (lookupNames F w ns ≡ lookupNames F v ns) ⊎ (lookupNames F w ns ≡ absent 9)
     unfolding lookupNames
@@ -399,5 +426,6 @@ module _ {A : Type 0} (F : View A) (v w : Volume A) (r : A) (a : Added F (v .ino
     unlive = unlive-fate;
     lost = lookup-lost;
     stays = lookup-stays;
+    elsewhere = lookup-elsewhere;
     either = lookup-either;
   }

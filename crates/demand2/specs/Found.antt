@@ -1,4 +1,5 @@
--- What a lookup tells: what it finds is live and found by these names alone, and what it answers otherwise is 9, 10 or 11.
+-- What a lookup tells: what it finds is live and found by these names alone, and what it answers otherwise is 9, 10 or 11. Paths and reads of images
+-- that mount.
 use Prim.Native.Nat.{ℕ, suc, _+_, _≤_, _<_}
 use mathlib.Core.Path.{_≡_, refl, sym, ap, _∙_}
 use mathlib.Core.Logic.{inl, inr, _≢_}
@@ -190,12 +191,15 @@ pub read-given : (image : Bytes) (ds : List Descriptor) → mountNumber image ds
 unfolding readGiven
 read-given image ds m i position room = rw (readGiven, m)
 
--- two images that mount: where fate and blocks agree, the reads do
-pub read-alike : (image image′ : Bytes) (ds : List Descriptor) → mountNumber image ds ≡ 0 → mountNumber image′ ds ≡ 0 → (i : ℕ)
-    → fateOf byBytes (volume image′ ds) i ≡ fateOf byBytes (volume image ds) i
-    → fileBlocks byBytes (volume image′ ds) i ≡ fileBlocks byBytes (volume image ds) i
-    → (position room : ℕ) → readGiven image′ ds i position room ≡ readGiven image ds i position room
-unfolding give
-read-alike image image′ ds m n i f c position room =
-    let e : give (volume image′ ds) i position room ≡ give (volume image ds) i position room = rw (give, f, c) in
-    read-given image′ ds n i position room ∙ e ∙ sym (read-given image ds m i position room)
+module _ (image image′ : Bytes) (ds : List Descriptor) (m : mountNumber image ds ≡ 0) (n : mountNumber image′ ds ≡ 0) (i : ℕ) where
+  -- two images that mount: where what is given agrees, the reads do
+  pub read-alike : (position room : ℕ) → give (volume image′ ds) i position room ≡ give (volume image ds) i position room
+      → readGiven image′ ds i position room ≡ readGiven image ds i position room
+  read-alike position room e = read-given image′ ds n i position room ∙ e ∙ sym (read-given image ds m i position room)
+
+  -- as it does of an inode that has its fate and its blocks
+  pub read-kept : fateOf byBytes (volume image′ ds) i ≡ fateOf byBytes (volume image ds) i
+      → fileBlocks byBytes (volume image′ ds) i ≡ fileBlocks byBytes (volume image ds) i
+      → (position room : ℕ) → readGiven image′ ds i position room ≡ readGiven image ds i position room
+  unfolding give
+  read-kept f c position room = read-alike position room (rw (give, f, c))

@@ -1,6 +1,7 @@
 -- Demand 2 for format, create, append and unlink. What each call promises is in the file named after it; the other files are their proof, in
--- the order in which they build on one another, but for the records that those promises cite: Store.RecordFits and OneStored, Places.Written and
--- AreaGrown, Unused.Unused, NewRecord.WrittenOne, and Smallest of the laws of calls.
+-- the order in which they build on one another, but for the records that those promises cite: Store.RecordFits, FirstWithRoom and OneStored,
+-- Places.Written and AreaGrown, Unused.Unused, NewRecord.WrittenOne, Cut.Sized, Pieces.NextBlock and Chained, and Smallest of the laws of calls.
+-- lists of bytes
 pub mod Octet
 -- one record stored in an area, in an image, and several one after the other
 pub mod Area

@@ -1,4 +1,4 @@
--- Lists of bytes, each below 256, by their members and in parts.
+-- Lists of bytes, each below 256: by their members, in parts, joined, and as records are written and read.
 use Prim.Native.Nat.{ℕ, zero, suc, _+_, _^_, _<_}
 use mathlib.Core.Path.{refl}
 use mathlib.Core.Logic.{⊎-elim}

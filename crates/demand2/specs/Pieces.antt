@@ -1,23 +1,26 @@
 -- Several blocks stored for a file, each naming the one before.
-use Prim.Native.Nat.{ℕ, suc, _+_, _^_, _≤_, _<_}
+use Prim.Native.Nat.{ℕ, zero, suc, _+_, _^_, _≤_, _<_}
 use mathlib.Core.Path.{_≡_, refl, sym, ap, _∙_}
 use mathlib.Core.Logic.{_≢_, _⊎_, inl, inr, ⊎-elim}
-use mathlib.Core.Bool.{true}
-use mathlib.Core.Option.{some}
-use mathlib.Core.List.{List, [], _∷_, _++_, append-nil, append-assoc, List·Memᴰ, List·Memᴰ·head, List·Memᴰ·tail, List·Memᴰ·cases-cons}
+use mathlib.Core.Bool.{Bool, true, false, cond}
+use mathlib.Core.Option.{Option, none, some}
+use mathlib.Core.List.{List, [], _∷_, _++_, map, append-nil, append-assoc, List·Memᴰ, List·Memᴰ·head, List·Memᴰ·tail, List·Memᴰ·cases-cons}
 use mathlib.Core.List.{List·Memᴰ·not-nil, Memᴰ·cast}
 use native.Mathlib.Omega.{arith}
 use lib.ListN.{length}
-use lib.Dec.{ltb, leb, lt→ltb, le→leb}
+use lib.Dec.{eqb, ltb, leb, lt→ltb, le→leb}
+use borrow.Author.Tests.{eqb-true}
 use Rattle.format.specs.Bytes.{Bytes}
 use Rattle.format.specs.Ids.{NONE, firstFileId, firstBlockId, isFileId, isBlockId}
 use Rattle.format.specs.Record.{recordId, recordSequence, blockPrevious, blockRule, previousRule, longestData}
 use Rattle.format.specs.Encoding.{blockBytes}
 use Rattle.format_laws.specs.Encoding.{MeantBlock}
 use Rattle.volume.specs.View.{byBytes}
-use Rattle.volume.specs.Counting.{Volume, blockIds}
-use Rattle.volume.specs.Contents.{lastBlock, fileBlocks, textOf}
+use Rattle.volume.specs.Lists.{bind}
+use Rattle.volume.specs.Counting.{Volume, blockOf, blockIds}
+use Rattle.volume.specs.Contents.{snoc, owns, owned, lastBlock, chainBack, fileBlocks, textOf}
 use Rattle.volume_laws.specs.Tests.{T→true, eqb-differ}
+use Rattle.volume_laws.specs.Counting.{counting-mem}
 use Rattle.calls.specs.Image.{put}
 use Rattle.calls.specs.Mount.{acceptedRecords, mostBlocks, volume}
 use Rattle.calls.specs.Storing.{unusedId}
@@ -114,6 +117,72 @@ module _ (f : ℕ) (file : (firstFileId ≤ f) × (f < firstBlockId)) where
             (a-block (s .from) (omega (arith, s .near)) (List·Memᴰ·head refl)) (λ q k. g q (List·Memᴰ·tail k)),
       )
 
+-- A new block of the file f: sequence 0, "the smallest id of their range" that names do not have, and "naming the one before"
+pub record NextBlock (names : List ℕ) (f previous : ℕ) (b : Bytes) : Type 0 where
+  pub sequence : recordSequence b ≡ 0
+  pub smallest : Smallest firstBlockId names (recordId b)
+  pub of-file : byBytes .owner b ≡ f
+  pub names-before : blockPrevious b ≡ previous
+
+-- and several, piece by piece: the id that one takes is named for the next, which names it
+pub data Chained (f : ℕ) : List ℕ → ℕ → List Bytes → Type 0 where
+  chain-end : {names : List ℕ} {previous : ℕ} → Chained f names previous []
+  chain-on : {names : List ℕ} {previous : ℕ} {b : Bytes} {bs : List Bytes} → NextBlock names f previous b
+      → Chained f (recordId b ∷ names) (recordId b) bs → Chained f names previous (b ∷ bs)
+
+pub made-chain : (ps : List Bytes) (names : List ℕ) (f previous : ℕ) → Made names f previous ps
+    → Chained f names previous (blockRecords names f previous ps)
+unfolding blockRecords
+made-chain [] names f previous m = chain-end
+made-chain (p ∷ ps) names f previous m = on (blockRecords (next names ∷ names) f (next names) ps) (blockBytes (next names) 0 f previous p) (m .0)
+    (made-chain ps (next names ∷ names) f (next names) (m .1))
+  where
+    on : (bs : List Bytes) (b : Bytes) → IsBlock b (next names) 0 f previous p → Chained f (next names ∷ names) (next names) bs
+        → Chained f names previous (b ∷ bs)
+    on bs b m ih = chain-on {names = names} {previous = previous} {b = b} {bs = bs}
+        (record {
+          sequence = m .sequence-is;
+          smallest = rw (m .id-is) (unused-smallest firstBlockId names);
+          of-file = m .owner-is;
+          names-before = m .previous-is;
+        })
+        (rw (m .id-is) ih)
+
+-- the id of the last of these blocks, NONE where there is none
+abbrev pub lastId : List Bytes → ℕ
+lastId [] = NONE
+lastId (b ∷ []) = recordId b
+lastId (b ∷ c ∷ bs) = lastId (c ∷ bs)
+
+last-behind : (bs : List Bytes) (b : Bytes) → lastId (bs ++ (b ∷ [])) ≡ recordId b
+last-behind [] b = refl
+last-behind (a ∷ []) b = refl
+last-behind (a ∷ c ∷ bs) b = last-behind (c ∷ bs) b
+
+-- a chain that is followed back from i ends at i
+chain-last : (v : Volume Bytes) (f k i : ℕ) (bs : List Bytes) → chainBack byBytes (blockOf byBytes v) f k i ≡ some bs → i ≡ lastId bs
+unfolding chainBack
+chain-last v f zero i bs e = go (eqb i NONE) refl e
+  where
+    go : (b : Bool) → eqb i NONE ≡ b → cond b (some []) none ≡ some bs → i ≡ lastId bs
+    go true q z = let y : [] ≡ bs = cc in rw (← y) (eqb-true i NONE q)
+    go false q z = let y : _≡_ {A = ℕ} 0 1 = cc in absurd (omega arith)
+chain-last v f (suc k) i bs e = go (owns byBytes (blockOf byBytes v) f i) (blockOf byBytes v i) refl e
+  where
+    at-end : (r : Bytes) → recordId r ≡ i → (o : Option (List Bytes)) → snoc o r ≡ some bs → i ≡ lastId bs
+    at-end r q none z = let y : _≡_ {A = ℕ} 0 1 = cc in absurd (omega arith)
+    at-end r q (some l) z = let y : l ++ (r ∷ []) ≡ bs = cc in rw (← y) (sym (last-behind l r ∙ q))
+
+    go : (b : Bool) (o : Option Bytes) → blockOf byBytes v i ≡ o
+        → cond b (bind o (λ r. snoc (chainBack byBytes (blockOf byBytes v) f k (byBytes .previous r)) r)) none ≡ some bs → i ≡ lastId bs
+    go true none q z = let y : _≡_ {A = ℕ} 0 1 = cc in absurd (omega arith)
+    go true (some r) q z = at-end r (counting-mem byBytes (v .blocks) i r q .1) (chainBack byBytes (blockOf byBytes v) f k (byBytes .previous r)) z
+    go false o q z = let y : _≡_ {A = ℕ} 0 1 = cc in absurd (omega arith)
+
+pub last-is : (v : Volume Bytes) (f e : ℕ) (bs : List Bytes) → lastBlock byBytes v f ≡ some e → fileBlocks byBytes v f ≡ some bs → e ≡ lastId bs
+unfolding fileBlocks
+last-is v f e bs l q = chain-last v f (length (owned byBytes v f)) e bs (rw (fileBlocks, l) at q)
+
 -- what holds of such a block holds of each
 pub made-each : (P : Bytes → Type 0) (f : ℕ) → ((b : Bytes) (id previous : ℕ) (p : Bytes) → IsBlock b id 0 f previous p → P b)
     → (ps : List Bytes) (names : List ℕ) (previous : ℕ) → Made names f previous ps
@@ -123,12 +192,17 @@ made-each P f h [] names previous m b k = absurd (List·Memᴰ·not-nil k)
 made-each P f h (p ∷ ps) names previous m b k =
     ⊎-elim (λ e. rw e (h _ _ _ _ (m .0))) (λ k. made-each P f h ps (next names ∷ names) (next names) (m .1) b k) (List·Memᴰ·cases-cons k)
 
--- their texts joined are the pieces joined
-pub made-text : (ps : List Bytes) (names : List ℕ) (f previous : ℕ) → Made names f previous ps
-    → textOf byBytes (blockRecords names f previous ps) ≡ joinedBytes ps
-unfolding blockRecords textOf joinedBytes
-made-text [] names f previous m = refl
-made-text (p ∷ ps) names f previous m = rw (m .0 .text-is, made-text ps (next names ∷ names) f (next names) (m .1))
+-- their data are the pieces
+pub made-texts : (ps : List Bytes) (names : List ℕ) (f previous : ℕ) → Made names f previous ps
+    → map (byBytes .text) (blockRecords names f previous ps) ≡ ps
+unfolding blockRecords
+made-texts [] names f previous m = refl
+made-texts (p ∷ ps) names f previous m = rw (m .0 .text-is, made-texts ps (next names ∷ names) f (next names) (m .1))
+
+pub texts-joined : (bs : List Bytes) → textOf byBytes bs ≡ joinedBytes (map (byBytes .text) bs)
+unfolding textOf joinedBytes
+texts-joined [] = refl
+texts-joined (b ∷ bs) = ap (λ (x : Bytes). byBytes .text b ++ x) (texts-joined bs)
 
 pub made-count : (ps : List Bytes) (names : List ℕ) (f previous : ℕ) → length (blockRecords names f previous ps) ≡ length ps
 unfolding blockRecords

@@ -25,7 +25,8 @@ use Rattle.calls.specs.declared.Descriptor.{Descriptor}
 use Rattle.calls_laws.specs.Storing.{kept-fit}
 use Rattle.demand2.specs.Octet.{octets-put}
 use Rattle.demand2.specs.Area.{Whole}
-use Rattle.demand2.specs.Store.{OneStored, same-area, freePlace, RecordFits, FirstWithRoom, one-stored, file-listed, same-file-areas, same-clean, same-described}
+use Rattle.demand2.specs.Store.{OneStored, same-area, freePlace, RecordFits, FirstWithRoom, one-stored, file-listed}
+use Rattle.demand2.specs.Store.{same-file-areas, same-clean, same-described}
 
 -- no area is listed twice
 abbrev pub Distinct : List Descriptor → Type 0
@@ -188,7 +189,9 @@ module _ (image : Bytes) (ds : List Descriptor) (described : badDescription imag
                 spaces image fs;
           }) f = cc in
           taken c (leb-true _ _ r) (λ i. sym q i .place) (λ i. sym q i .left)
-      roomy false r c ih e = let g = kept-fit space (firstFit (length b) (spaces image fs)) f e in too-short (g .0) c (leb-false _ _ r) (ih (g .0) (g .1)) (g .2) (g .3)
+      roomy false r c ih e =
+          let g = kept-fit space (firstFit (length b) (spaces image fs)) f e in
+          too-short (g .0) c (leb-false _ _ r) (ih (g .0) (g .1)) (g .2) (g .3)
 
       go : (x : Bool) → areaClean recordSize (areaBytes image d) ≡ x
           → ((g : Fit) → firstFit (length b) (spaces image fs) ≡ some g → Fitted image ds fs b g)
@@ -264,7 +267,8 @@ all-placed ds image (b ∷ bs) l d w e =
         let s = one-stored image ds d (t .area) b (t .fits) it in
         let y = put image (freePlace image (t .area)) b in
         let after : spaces y (fileAreas y ds) ≡ f .left = rw (same-file-areas s) (t .left-is) in
-        rw r (at (t .area) (f .place) m (t .placed-at) (t .fits) (t .first) (ih y m (same-described s ∙ d) (λ c m. w c (List·Memᴰ·tail m)) (rw after p)))
+        rw r (at (t .area) (f .place) m (t .placed-at) (t .fits) (t .first)
+        (ih y m (same-described s ∙ d) (λ c m. w c (List·Memᴰ·tail m)) (rw after p)))
 
 -- check 15 passed
 pub place-found : (o : Option (List Store)) → noPlace o ≡ false → (l : List Store) × (o ≡ some l)

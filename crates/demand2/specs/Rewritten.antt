@@ -74,7 +74,8 @@ pub record AfterRewrite (image image′ : Bytes) (ds : List Descriptor) (i paren
 pub inode-low : (image : Bytes) (ds : List Descriptor) (i : ℕ) (r : Bytes) → inodeOf byBytes (volume image ds) i ≡ some r → i < firstBlockId
 inode-low image ds i r e = let m = counting-mem byBytes (volume image ds .inodes) i r e in rw (m .1) at (volume-sound image ds .inode-id r (m .0))
 
-module _ (image : Bytes) (ds : List Descriptor) (i parent : ℕ) (name : Bytes) (octets-image : Octets image) (g : Rewrites image ds i parent name) where
+module _ (image : Bytes) (ds : List Descriptor) (i parent : ℕ) (name : Bytes) (octets-image : Octets image)
+    (g : Rewrites image ds i parent name) where
   -- the checks of the mount, before
   p : Passes image ds
   p = passes image ds (g .mounted)

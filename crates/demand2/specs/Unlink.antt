@@ -30,7 +30,7 @@ use Rattle.calls.specs.Mount.{volume, mountNumber}
 use Rattle.calls.specs.Storing.{Store, spaces, placeAll, noPlace}
 use Rattle.calls.specs.Create.{isRoot}
 use Rattle.calls.specs.Lookup.{resolve}
-use Rattle.calls.specs.Read.{refused, give}
+use Rattle.calls.specs.Read.{refused, give, readGiven}
 use Rattle.calls.specs.Rewrite.{lastSequence, sequenceOf, rewritten, rewritePlan, rewriteNumber}
 use Rattle.calls.specs.Attempt.{goes}
 use Rattle.calls.specs.Unlink.{deletion, unlinkOne, unlinking, unlinkOf, imageUnlinked}
@@ -41,7 +41,8 @@ use Rattle.calls_laws.specs.Attempt.{attempt-goes}
 use Rattle.demand2.specs.Store.{OneStored}
 use Rattle.demand2.specs.Places.{place-found}
 use Rattle.demand2.specs.Mounted.{agreed-inodes}
-use Rattle.demand2.specs.Found.{passed-check, lookup-refused, root-there, found-lives, resolved}
+use Rattle.demand2.specs.Found.{passed-check, lookup-refused, root-there, found-lives, found-once}
+use Rattle.demand2.specs.Found.{resolved, resolve-alike, read-given, read-kept}
 use Rattle.demand2.specs.Deletion.{found-no-root, found-sole, InodeGone, inode-gone}
 use Rattle.demand2.specs.NewRecord.{WrittenOne}
 use Rattle.demand2.specs.Rewritten.{Rewrites, AfterRewrite, inode-low, rewrite}
@@ -104,17 +105,20 @@ pub record AfterUnlink (image image′ : Bytes) (ds : List Descriptor) (base pat
   pub found-at-path : resolve image ds base path ≡ found inode
   -- its path, and every path that goes on from there, finds nothing
   pub path-lost : (b p : Bytes) (ns : List Bytes) → goodPath b p ≡ true → pathNames b p ≡ pathNames base path ++ ns → resolve image′ ds b p ≡ absent 9
+  -- every other path is answered as before, whatever the answer, and a bad one by 8
+  pub elsewhere : (b p : Bytes) → ((ns : List Bytes) → pathNames b p ≢ pathNames base path ++ ns) → resolve image′ ds b p ≡ resolve image ds b p
+  pub bad-paths : (b p : Bytes) → goodPath b p ≡ false → resolve image′ ds b p ≡ absent 8
   -- "what lies below a directory goes with it": it is dead, found no more, and every read of it is refused
   pub dies : (j : ℕ) → List·Memᴰ inode (lineage byBytes (volume image ds) j) → fateOf byBytes (volume image′ ds) j ≡ dead
   pub lost : (b p : Bytes) (j : ℕ) → resolve image ds b p ≡ found j → List·Memᴰ inode (lineage byBytes (volume image ds) j)
       → resolve image′ ds b p ≡ absent 9
   pub unread : (j : ℕ) → List·Memᴰ inode (lineage byBytes (volume image ds) j) → (position room : ℕ)
-      → give (volume image′ ds) j position room ≡ refused 9
+      → readGiven image′ ds j position room ≡ refused 9
   -- "everything else that could be reached by path reads as before"
   pub paths : (b p : Bytes) (j : ℕ) → resolve image ds b p ≡ found j → ¬ List·Memᴰ inode (lineage byBytes (volume image ds) j)
       → resolve image′ ds b p ≡ found j
   pub reads : (j : ℕ) → ¬ List·Memᴰ inode (lineage byBytes (volume image ds) j) → (position room : ℕ)
-      → give (volume image′ ds) j position room ≡ give (volume image ds) j position room
+      → readGiven image′ ds j position room ≡ readGiven image ds j position room
   -- any other answer, 10 and 11 among them, stays or is 9 now
   pub otherwise : (b p : Bytes) → (resolve image′ ds b p ≡ resolve image ds b p) ⊎ (resolve image′ ds b p ≡ absent 9)
   pub stays : (j : ℕ) → ¬ List·Memᴰ inode (lineage byBytes (volume image ds) j)
@@ -243,15 +247,17 @@ module _ (image : Bytes) (ds : List Descriptor) (base path : Bytes) (octets-imag
     inode = i;
     found-at-path = resolved image ds base path (g .mounted) ∙ rw (g .good) (g .found-there);
     path-lost = λ c q ns r e. answers c q (absent 9) r (ap (lookupNames byBytes w) e ∙ lookup-append byBytes w (pathNames base path) ns ∙ rw gone);
+    elsewhere = same-elsewhere;
+    bad-paths = λ c q r. resolved image′ ds c q still ∙ rw r;
     dies = below;
     lost = λ c q j e m. let f = found-names c q j e in
         answers c q (absent 9) (f .0) (now .lost (pathNames c q) j (f .1)
         (own j m));
-    unread = λ j m position room. rw (give, below j m);
+    unread = λ j m position room. read-given image′ ds still j position room ∙ rw (give, below j m);
     paths = λ c q j e n. let f = found-names c q j e in
         answers c q (found j) (f .0) (now .stays (pathNames c q) j (f .1)
         (other j n));
-    reads = λ j n position room. rw (give, outside j n, done .contents j);
+    reads = λ j n. read-kept image image′ ds (g .mounted) still j (outside j n) (done .contents j);
     otherwise = either;
     stays = outside;
     no-new-life = now .no-life;
@@ -270,6 +276,15 @@ module _ (image : Bytes) (ds : List Descriptor) (base path : Bytes) (octets-imag
       alone e n t =
           let u : T (isChild byBytes v e n i) = rw id-is at t in
           found-sole byBytes v (pathNames base path) i (g .named) (g .found-there) e n u ∙ ap one (sym id-is)
+
+      -- a lookup that came by it went by the unlinked names
+      same-elsewhere : (c q : Bytes) → ((ns : List Bytes) → pathNames c q ≢ pathNames base path ++ ns)
+          → resolve image′ ds c q ≡ resolve image ds c q
+      same-elsewhere c q n = resolve-alike image image′ ds c q (g .mounted) still
+          (λ e. now .elsewhere alone (pathNames c q) (λ ms rest f z.
+          let same-names : ms ≡ pathNames base path
+          = found-once byBytes v (volume-sound image ds) (root .0) (root .1) ms (pathNames base path) i (f ∙ ap found id-is) (g .found-there) in
+          n rest (z ∙ ap (λ l. l ++ rest) same-names)))
 
       either : (c q : Bytes) → (resolve image′ ds c q ≡ resolve image ds c q) ⊎ (resolve image′ ds c q ≡ absent 9)
       either c q = go (goodPath c q) refl
