@@ -47,7 +47,7 @@ use Rattle.collect_laws.specs.Mounted.{copied-survive}
 use Rattle.demand2.specs.Store.{file-listed}
 use Rattle.demand2.specs.Places.{Distinct, distinct-keep, areas-distinct, files-distinct}
 use Rattle.demand2.specs.Mounted.{agreed, accepted-kind, few-ids, ids-few}
-use Rattle.demand2.specs.Found.{root-there, root-lives, resolve-alike, read-given}
+use Rattle.demand2.specs.Found.{root-there, root-lives, resolve-alike, read-alike}
 use Rattle.demand2.specs.Format.{own-ids}
 use Rattle.demand2_collect.specs.Dropped.{InodeDropped, BlockDropped, LeftOut, kept-fate, kept-inode, stays-live, no-new-life, same-lookups, kept-contents}
 use Rattle.demand2_collect.specs.Copies.{fewer-records, fewer-blocks, left-out}
@@ -305,10 +305,7 @@ module _ (image : Bytes) (ds : List Descriptor) (g : CollectGoes image ds) where
       go (no e) = rw (give, unlive (fateOf byBytes v i) e, unlive (fateOf byBytes w i) (λ q. e (no-new-life byBytes v w left i q)))
 
   same-reads : (i position room : ℕ) → readGiven image′ ds i position room ≡ readGiven image ds i position room
-  same-reads i position room =
-      read-given image′ ds (mounts image′ ds still) i position room
-      ∙ same-given i position room
-      ∙ sym (read-given image ds (g .mounted) i position room)
+  same-reads i position room = read-alike image image′ ds (g .mounted) (mounts image′ ds still) i position room (same-given i position room)
 
   -- ---- what is dropped
 
