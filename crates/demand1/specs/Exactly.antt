@@ -43,10 +43,11 @@ use Rattle.calls.specs.declared.Descriptor.{Descriptor}
 use Rattle.calls_laws.specs.Checks.{passes}
 use Rattle.collect_laws.specs.Source.{source-found}
 use Rattle.demand2.specs.Store.{freePlace}
-use Rattle.demand1.specs.Table.{Row, _given-when_, Answers, mountRows, walkRows, pathRows, NoRoom}
-use Rattle.demand1.specs.Table.{brokenRow, endRow, sourceRow, formatRows, lookupRows, openRows, readRows, createRows, appendRows, unlinkRows}
+use Rattle.demand1.specs.Table.{Row, _given-when_, Answers, mountRows, walkRows, pathRows, NoRoom, NoRoomLeft}
+use Rattle.demand1.specs.Table.{BadPath, brokenRow, endRow, sourceRow, formatRows, lookupRows, openRows, readRows, createRows, appendRows, unlinkRows}
 use Rattle.demand1.specs.Table.{Exactly}
 use Rattle.demand1.specs.Stores.{fit-inside, space-of}
+use Rattle.demand1.specs.Paths.{named-names, path-means}
 use Rattle.demand1.specs.Walk.{foundOr, walk-answers}
 use Rattle.demand1.specs.Mounting.{Means, ltb-means, eqb-means, is-means, fails-means, or-means, step, done, list-means, mount-answers}
 
@@ -180,6 +181,35 @@ room-means image ds b = go (firstFit (length b) (spaces image (fileAreas image d
     )
     go (some f) q = ((λ e. let z : _≡_ {A = ℕ} 0 1 = cc in absurd (omega arith)), (λ e. placed f q))
 
+-- and of several: "all pieces or none"
+place-means : (bs : List Bytes) (ss : List Space) → Means (noPlace (placeAll ss bs)) (NoRoomLeft ss bs)
+unfolding placeAll NoRoomLeft
+place-means [] ss = ((λ e. let z : _≡_ {A = ℕ} 0 1 = cc in absurd (omega arith)), (λ e n. n))
+place-means (b ∷ bs) ss = go (firstFit (length b) ss) refl (place-means bs)
+  where
+    same-place : (s : Store) (o : Option (List Store)) → noPlace (prepend s o) ≡ noPlace o
+    same-place s none = refl
+    same-place s (some l) = refl
+
+    roomy : (f : Fit) → firstFit (length b) ss ≡ some f → ((s : Space) → List·Memᴰ s ss → s .end < s .from + length b) → ⊥
+    roomy f q h = let i = fit-inside (length b) ss f q .0 in omega (arith, i .2 .behind, i .2 .before-end, h (i .0) (i .1))
+
+    go : (o : Option Fit) → firstFit (length b) ss ≡ o → ((ss : List Space) → Means (noPlace (placeAll ss bs)) (NoRoomLeft ss bs))
+        → Means (noPlace (bind o (λ f. prepend (record { place = f .place; bytes = b }) (placeAll (f .left) bs))))
+        (((s : Space) → List·Memᴰ s ss → s .end < s .from + length b) ⊎ ((f : Fit) × (firstFit (length b) ss ≡ some f) × NoRoomLeft (f .left) bs))
+    go none q ih = (
+      (λ e. inl (fit-none (length b) ss q)),
+      (λ e. let z : _≡_ {A = ℕ} 0 1 = cc in absurd (omega arith)),
+    )
+    go (some f) q ih =
+        let p = same-place (record { place = f .place; bytes = b }) (placeAll (f .left) bs) in (
+          (λ e. inr (f, q, ih (f .left) .0 (sym p ∙ e))),
+          (λ e. ⊎-elim (roomy f q) (λ x.
+          let y : _≡_ {A = Option Fit} (some (x .0)) (some f) = sym (x .1) ∙ q in
+          let w : x .0 ≡ f = cc in
+          ih (f .left) .1 (sym p ∙ e) (rw w at (x .2)))),
+        )
+
 -- ---- single tests
 
 none-some : {A : Type 0} {a : A} → none ≡ some a → ⊥
@@ -195,10 +225,6 @@ root-means (n ∷ ns) = (
 broken-means : (o : Option (List Bytes)) → Means (isBroken o) (o ≡ none)
 broken-means none = ((λ e. refl), (λ e. let z : _≡_ {A = ℕ} 0 1 = cc in absurd (omega arith)))
 broken-means (some bs) = ((λ e. let z : _≡_ {A = ℕ} 0 1 = cc in absurd (omega arith)), (λ e z. none-some (sym z)))
-
-place-means : (o : Option (List Store)) → Means (noPlace o) (o ≡ none)
-place-means none = ((λ e. refl), (λ e. let z : _≡_ {A = ℕ} 0 1 = cc in absurd (omega arith)))
-place-means (some l) = ((λ e. let z : _≡_ {A = ℕ} 0 1 = cc in absurd (omega arith)), (λ e z. none-some (sym z)))
 
 live-means : (f : Fate) → Means (not (isLive f)) (f ≢ live)
 live-means live = ((λ e. let z : _≡_ {A = ℕ} 0 1 = cc in absurd (omega arith)), (λ e n. n refl))
@@ -379,18 +405,18 @@ module _ (image : Bytes) (ds : List Descriptor) where
     bad = not (goodPath base path)
 
     -- "bad path or name; .. creating or unlinking the root"
-    named-means : Means (bad || isRoot names) ((goodPath base path ≡ false) ⊎ (names ≡ []))
-    named-means = or-means bad (isRoot names) (fails-means (goodPath base path)) (root-means names)
+    named-means : Means (bad || isRoot names) (BadPath base path ⊎ (names ≡ []))
+    named-means = or-means bad (isRoot names) (path-means base path) (root-means names)
 
     lookup-answers : Answers (lookupRows image ds base path) (lookupOf image ds base path .number)
     unfolding lookupOf
     lookup-answers = rw (looked-up (resolve image ds base path), resolve-number image ds base path (λ i. 0))
-        (path-answers image ds bad _ names [] (λ i. 0) (fails-means (goodPath base path)) (λ i q. done))
+        (path-answers image ds bad _ names [] (λ i. 0) (path-means base path) (λ i q. done))
 
     open-answers : Answers (openRows image ds base path) (openOf image ds base path .number)
     unfolding openOf
     open-answers = rw (opened (resolve image ds base path), resolve-number image ds base path (λ i. cond (isDirectoryId i) 11 0))
-        (path-answers image ds bad _ names _ (λ i. cond (isDirectoryId i) 11 0) (fails-means (goodPath base path))
+        (path-answers image ds bad _ names _ (λ i. cond (isDirectoryId i) 11 0) (path-means base path)
         (λ i q. step (isDirectoryId i) 11 0 _ [] (rw q (is-means (isDirectoryId i))) (λ e. done)))
 
     create-answers : (kind : ℕ) → Answers (createRows image ds base path kind) (createOf image ds base path kind .number)
@@ -409,12 +435,13 @@ module _ (image : Bytes) (ds : List Descriptor) where
     append-answers text = rw (attempt-number (mountNumber image ds) (bad || ltb mostAppended (length text)) (lookupNames byBytes v names)
         (λ f. appendTo image ds f text))
         (path-answers image ds (bad || ltb mostAppended (length text)) _ names _ _
-        (or-means bad (ltb mostAppended (length text)) (fails-means (goodPath base path)) (ltb-means mostAppended (length text))) (λ f q.
-        let o = placeAll (spaces image (fileAreas image ds)) (newBlocks image ds f text) in
+        (or-means bad (ltb mostAppended (length text)) (path-means base path) (ltb-means mostAppended (length text))) (λ f q.
+        let ss = spaces image (fileAreas image ds) in
+        let bs = newBlocks image ds f text in
         step (isDirectoryId f) 11 _ _ _ (rw q (is-means (isDirectoryId f))) (λ e.
         step (isBroken (fileBlocks byBytes v f)) 13 _ _ _ (rw q (broken-means (fileBlocks byBytes v f))) (λ e.
         step (ltb mostBlocks (length (blockIds byBytes v) + length (newBlocks image ds f text))) 5 _ _ _ (rw q (ltb-means mostBlocks _)) (λ e.
-        step (noPlace o) 15 0 _ [] (rw q (place-means o)) (λ e. done))))))
+        step (noPlace (placeAll ss bs)) 15 0 _ [] (rw q (place-means bs ss)) (λ e. done))))))
 
     unlink-answers : Answers (unlinkRows image ds base path) (unlinkOf image ds base path)
     unfolding unlinkOf unlinking unlinkOne rewriteNumber rewritePlan deletion firstRefusal
@@ -427,6 +454,7 @@ module _ (image : Bytes) (ds : List Descriptor) where
   pub exactly : Exactly image ds
   unfolding collectOf collecting
   exactly = record {
+    names = named-names;
     format = format-answers;
     report = rw report-number (mount-answers image ds);
     lookup = lookup-answers;

@@ -5,6 +5,7 @@ pub mod Words
 pub mod Stores
 -- the numbers
 pub mod Mounting
+pub mod Paths
 pub mod Walk
 pub mod Exactly
 pub mod Numbers

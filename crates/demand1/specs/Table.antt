@@ -15,11 +15,11 @@ use Rattle.volume.specs.View.{byBytes}
 use Rattle.volume.specs.Counting.{Volume, inodeOf, inodeIds, blockIds}
 use Rattle.volume.specs.Fate.{live, fateOf}
 use Rattle.volume.specs.Contents.{fileBlocks, textOf}
-use Rattle.volume.specs.Path.{goodPath, pathNames}
+use Rattle.volume.specs.Path.{SLASH, pathNames}
 use Rattle.volume.specs.Tree.{Found, found, absent, isChild, lookupNames}
 use Rattle.calls.specs.Areas.{areaEnd, areaBytes, fileAreas, scratchAreas}
 use Rattle.calls.specs.Mount.{acceptedRecords, volume}
-use Rattle.calls.specs.Storing.{spaces, placeAll}
+use Rattle.calls.specs.Storing.{Space, Fit, spaces, firstFit}
 use Rattle.calls.specs.Create.{lastName, namesBefore, newInode, createOf}
 use Rattle.calls.specs.Append.{newBlocks, appendOf}
 use Rattle.calls.specs.Rewrite.{sequenceOf}
@@ -83,7 +83,43 @@ mountRows image ds =
     ∷ (7 given-when ((r : Bytes) → List·Memᴰ r (volume image ds .inodes) → recordId r ≢ rootId))
     ∷ []
 
--- ---- 8 to 11: a path
+-- ---- 8: bad paths
+
+-- names "parted by single slashes, none at the end"
+unfoldable pub parted : List Bytes → Bytes
+parted [] = []
+parted (n ∷ []) = n
+parted (n ∷ m ∷ ns) = n ++ (SLASH ∷ parted (m ∷ ns))
+
+-- "names of 1 to 255 bytes, .. no NUL"; a slash parts two
+pub record IsName (n : Bytes) : Type 0 where
+  pub size : (1 ≤ length n) × (length n ≤ 255)
+  pub no-slash : ¬ List·Memᴰ SLASH n
+  pub no-nul : ¬ List·Memᴰ 0 n
+
+-- an absolute path of these names: "'/' is the root. Otherwise names .."; "1 to 1,024 bytes"
+pub record Absolute (p : Bytes) (ns : List Bytes) : Type 0 where
+  pub short : length p ≤ 1024
+  pub spelt : p ≡ SLASH ∷ parted ns
+  pub named : (n : Bytes) → List·Memᴰ n ns → IsName n
+
+-- and one "without a leading slash"
+pub record Relative (p : Bytes) (ns : List Bytes) : Type 0 where
+  pub short : length p ≤ 1024
+  pub spelt : p ≡ parted ns
+  pub some-name : ns ≢ []
+  pub named : (n : Bytes) → List·Memᴰ n ns → IsName n
+
+-- a good path of these names: "A path without a leading slash is taken below a base path lent beside it, which must then be a good absolute path;
+-- else the base isn't looked at"
+abbrev pub Named : Bytes → Bytes → List Bytes → Type 0
+Named base p ns = Absolute p ns ⊎ ((bs rs : List Bytes) × Absolute base bs × Relative p rs × (ns ≡ bs ++ rs))
+
+-- "8: bad path or name"
+abbrev pub BadPath : Bytes → Bytes → Type 0
+BadPath base p = ¬ ((ns : List Bytes) × Named base p ns)
+
+-- ---- 9 to 11: a walk
 
 -- a walk along names fails at a name that is looked for in an inode, to which the names before it lead
 pub record FailsAt (v : Volume Bytes) (ns : List Bytes) (why : ℕ → Bytes → Type 0) : Type 0 where
@@ -127,6 +163,12 @@ abbrev pub NoRoom : Bytes → List Descriptor → Bytes → Type 0
 NoRoom image ds b = (d : Descriptor) → List·Memᴰ d (fileAreas image ds) → areaClean recordSize (areaBytes image d) ≡ true
     → areaEnd d < freePlace image d + length b
 
+-- and of several, placed one after the other: one for which no free space that is left has room, where those before it took theirs
+unfoldable pub NoRoomLeft : List Space → List Bytes → Type 0
+NoRoomLeft ss [] = ⊥
+NoRoomLeft ss (b ∷ bs) = ((s : Space) → List·Memᴰ s ss → s .end < s .from + length b)
+    ⊎ ((f : Fit) × (firstFit (length b) ss ≡ some f) × NoRoomLeft (f .left) bs)
+
 -- ---- the calls
 
 -- "checks 1, then 3 if fewer than two entries"
@@ -134,12 +176,12 @@ abbrev pub formatRows : Bytes → List Descriptor → List Row
 formatRows image ds = listRow image ds ∷ (3 given-when (length ds < 2)) ∷ []
 
 abbrev pub lookupRows : Bytes → List Descriptor → Bytes → Bytes → List Row
-lookupRows image ds base path = pathRows image ds (goodPath base path ≡ false) (pathNames base path) []
+lookupRows image ds base path = pathRows image ds (BadPath base path) (pathNames base path) []
 
 -- "open .. of a directory [is] 11"
 abbrev pub openRows : Bytes → List Descriptor → Bytes → Bytes → List Row
 openRows image ds base path =
-    pathRows image ds (goodPath base path ≡ false) (pathNames base path)
+    pathRows image ds (BadPath base path) (pathNames base path)
     ((11 given-when Leads (lookupNames byBytes (volume image ds) (pathNames base path)) (λ i. isDirectoryId i ≡ true)) ∷ [])
 
 -- "13: read or append of a broken file"
@@ -164,23 +206,23 @@ createRows image ds base path kind =
     let v = volume image ds in
     let ns = pathNames base path in
     let o = lookupNames byBytes v (namesBefore ns) in
-    pathRows image ds ((goodPath base path ≡ false) ⊎ (ns ≡ [])) (namesBefore ns)
+    pathRows image ds (BadPath base path ⊎ (ns ≡ [])) (namesBefore ns)
     ((11 given-when Leads o (λ d. isDirectoryId d ≡ false))
     ∷ (12 given-when Leads o (λ d. (i : ℕ) × (isChild byBytes v d (lastName ns) i ≡ true)))
     ∷ (5 given-when (64 < suc (length (inodeIds byBytes v))))
     ∷ (15 given-when Leads o (λ d. NoRoom image ds (newInode v kind d (lastName ns))))
     ∷ [])
 
--- "over 8,192 bytes to append" is 8; "append of a directory" is 11; 15 where the pieces, placed one after the other, do not all fit
+-- "over 8,192 bytes to append" is 8; "append of a directory" is 11; "all pieces or none"
 abbrev pub appendRows : Bytes → List Descriptor → Bytes → Bytes → Bytes → List Row
 appendRows image ds base path text =
     let v = volume image ds in
     let o = lookupNames byBytes v (pathNames base path) in
-    pathRows image ds ((goodPath base path ≡ false) ⊎ (8192 < length text)) (pathNames base path)
+    pathRows image ds (BadPath base path ⊎ (8192 < length text)) (pathNames base path)
     ((11 given-when Leads o (λ f. isDirectoryId f ≡ true))
     ∷ (13 given-when Leads o (λ f. fileBlocks byBytes v f ≡ none))
     ∷ (5 given-when Leads o (λ f. 256 < length (blockIds byBytes v) + length (newBlocks image ds f text)))
-    ∷ (15 given-when Leads o (λ f. placeAll (spaces image (fileAreas image ds)) (newBlocks image ds f text) ≡ none))
+    ∷ (15 given-when Leads o (λ f. NoRoomLeft (spaces image (fileAreas image ds)) (newBlocks image ds f text)))
     ∷ [])
 
 -- "unlinking the root" is 8; "sequence is ffffffff"; "16 comes before 15"
@@ -188,7 +230,7 @@ abbrev pub unlinkRows : Bytes → List Descriptor → Bytes → Bytes → List R
 unlinkRows image ds base path =
     let v = volume image ds in
     let o = lookupNames byBytes v (pathNames base path) in
-    pathRows image ds ((goodPath base path ≡ false) ⊎ (pathNames base path ≡ [])) (pathNames base path)
+    pathRows image ds (BadPath base path ⊎ (pathNames base path ≡ [])) (pathNames base path)
     ((16 given-when Leads o (λ i. sequenceOf (inodeOf byBytes v i) ≡ 0xffffffff))
     ∷ (15 given-when Leads o (λ i. NoRoom image ds (deletion v i)))
     ∷ [])
@@ -202,6 +244,8 @@ collectRows image ds = mountRows image ds ++ (sourceRow (fileAreas image ds) (sc
 
 -- "given exactly when that document says"
 pub record Exactly (image : Bytes) (ds : List Descriptor) : Type 0 where
+  -- the names of a good path, for the walk, are those that it spells
+  pub names : (base path : Bytes) (ns : List Bytes) → Named base path ns → pathNames base path ≡ ns
   pub format : Answers (formatRows image ds) (formatNumber image ds)
   pub report : Answers (mountRows image ds) (reportOf image ds .number)
   pub lookup : (base path : Bytes) → Answers (lookupRows image ds base path) (lookupOf image ds base path .number)
