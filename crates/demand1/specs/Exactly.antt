@@ -21,10 +21,10 @@ use Rattle.volume.specs.Counting.{Volume, inodeOf, inodeIds, blockIds}
 use Rattle.volume.specs.Fate.{Fate, live, dead, orphan, isLive, fateOf}
 use Rattle.volume.specs.Contents.{fileBlocks, textOf}
 use Rattle.volume.specs.Path.{goodPath, pathNames}
-use Rattle.volume.specs.Tree.{Found, found, absent, isChild, children, lookupNames}
+use Rattle.volume.specs.Tree.{Found, found, absent, children, lookupNames}
 use Rattle.volume_laws.specs.Tests.{true→T, T→true, eqb-differ, or-is-false, not-is-false}
 use Rattle.volume_laws.specs.Lists.{mem-keep, mem-all}
-use Rattle.volume_laws.specs.Tree.{mem-children, children-mem}
+use Rattle.volume_laws.specs.Tree.{children-mem}
 use Rattle.calls.specs.Refusal.{firstRefusal}
 use Rattle.calls.specs.Mount.{mostInodes, mostBlocks, volume, badDescription, wrongAreas, mountNumber}
 use Rattle.calls.specs.Attempt.{Attempt, goes, refuses, numberOf, unless, atFound, attemptAt}
@@ -43,12 +43,13 @@ use Rattle.calls.specs.declared.Descriptor.{Descriptor}
 use Rattle.calls_laws.specs.Checks.{passes}
 use Rattle.collect_laws.specs.Source.{source-found}
 use Rattle.demand2.specs.Store.{freePlace}
-use Rattle.demand1.specs.Table.{Row, _given-when_, Answers, mountRows, walkRows, pathRows, NoRoom, NoRoomLeft}
-use Rattle.demand1.specs.Table.{BadPath, brokenRow, endRow, sourceRow, formatRows, lookupRows, openRows, readRows, createRows, appendRows, unlinkRows}
+use Rattle.demand1.specs.Table.{Row, _given-when_, Answers, mountRows, walkRows, pathRows, LiveChild, NoRoom, NoRoomLeft}
+use Rattle.demand1.specs.Table.{BadPath, brokenRow, endRow, sourceRow, formatRows, lookupRows, openRows, readRows, createRows, appendRows}
+use Rattle.demand1.specs.Table.{unlinkRows}
 use Rattle.demand1.specs.Table.{Exactly}
 use Rattle.demand1.specs.Stores.{fit-inside, space-of}
 use Rattle.demand1.specs.Paths.{named-names, path-means}
-use Rattle.demand1.specs.Walk.{foundOr, walk-answers}
+use Rattle.demand1.specs.Walk.{child-means, child-listed, foundOr, walk-answers}
 use Rattle.demand1.specs.Mounting.{Means, ltb-means, eqb-means, is-means, fails-means, or-means, step, done, list-means, mount-answers}
 
 -- ---- rows one after the other
@@ -205,9 +206,9 @@ place-means (b ∷ bs) ss = go (firstFit (length b) ss) refl (place-means bs)
         let p = same-place (record { place = f .place; bytes = b }) (placeAll (f .left) bs) in (
           (λ e. inr (f, q, ih (f .left) .0 (sym p ∙ e))),
           (λ e. ⊎-elim (roomy f q) (λ x.
-          let y : _≡_ {A = Option Fit} (some (x .0)) (some f) = sym (x .1) ∙ q in
-          let w : x .0 ≡ f = cc in
-          ih (f .left) .1 (sym p ∙ e) (rw w at (x .2)))),
+              let y : _≡_ {A = Option Fit} (some (x .0)) (some f) = sym (x .1) ∙ q in
+              let w : x .0 ≡ f = cc in
+              ih (f .left) .1 (sym p ∙ e) (rw w at (x .2)))),
         )
 
 -- ---- single tests
@@ -232,14 +233,13 @@ live-means dead = ((λ e z. let y : _≡_ {A = ℕ} 0 1 = cc in omega arith), (�
 live-means orphan = ((λ e z. let y : _≡_ {A = ℕ} 0 1 = cc in omega arith), (λ e. let z : _≡_ {A = ℕ} 0 1 = cc in absurd (omega arith)))
 
 -- "12: create: the name is there (once or oftener)"
-name-means : (v : Volume Bytes) (d : ℕ) (n : Bytes)
-    → Means (ltb 0 (length (children byBytes v d n))) ((i : ℕ) × (isChild byBytes v d n i ≡ true))
-name-means v d n = go (children byBytes v d n) (children-mem byBytes v d n) (mem-children byBytes v d n)
+name-means : (v : Volume Bytes) (d : ℕ) (n : Bytes) → Means (ltb 0 (length (children byBytes v d n))) ((i : ℕ) × LiveChild v d n i)
+name-means v d n = go (children byBytes v d n) (λ i m. child-means v d n i .0 (T→true (children-mem byBytes v d n i m))) (child-listed v d n)
   where
-    go : (l : List ℕ) → ((i : ℕ) → List·Memᴰ i l → T (isChild byBytes v d n i)) → ((i : ℕ) → T (isChild byBytes v d n i) → List·Memᴰ i l)
-        → Means (ltb 0 (length l)) ((i : ℕ) × (isChild byBytes v d n i ≡ true))
-    go [] f g = ((λ e. absurd (omega (arith, ltb-true 0 0 e))), (λ e p. List·Memᴰ·not-nil (g (p .0) (true→T (p .1)))))
-    go (i ∷ l) f g = ((λ e. (i, T→true (f i (List·Memᴰ·head refl)))), (λ e p. omega (arith, ltb-false 0 (suc (length l)) e)))
+    go : (l : List ℕ) → ((i : ℕ) → List·Memᴰ i l → LiveChild v d n i) → ((i : ℕ) → LiveChild v d n i → List·Memᴰ i l)
+        → Means (ltb 0 (length l)) ((i : ℕ) × LiveChild v d n i)
+    go [] f g = ((λ e. absurd (omega (arith, ltb-true 0 0 e))), (λ e p. List·Memᴰ·not-nil (g (p .0) (p .1))))
+    go (i ∷ l) f g = ((λ e. (i, f i (List·Memᴰ·head refl))), (λ e p. omega (arith, ltb-false 0 (suc (length l)) e)))
 
 -- ---- 17
 

@@ -1,7 +1,7 @@
 -- A good path, told by its test, is one that spells good names; those are its names.
-use Prim.Native.Nat.{ℕ, suc, _+_, _≤_}
+use Prim.Native.Nat.{ℕ, _≤_}
 use mathlib.Core.Path.{_≡_, refl, sym, ap, _∙_}
-use mathlib.Core.Logic.{_⊎_, inl, inr, _≢_, ⊎-elim}
+use mathlib.Core.Logic.{inl, inr, _≢_}
 use mathlib.Core.Bool.{Bool, true, false, cond, not, _&&_}
 use mathlib.Core.List.{List, [], _∷_, _++_, List·Memᴰ, List·Memᴰ·head, List·Memᴰ·tail, List·Memᴰ·not-nil}
 use native.Mathlib.Omega.{arith}
@@ -10,9 +10,10 @@ use lib.Dec.{T, eqb, leb, leb→le, le→leb, T-not, not-T}
 use borrow.Author.Tests.{eqb-true}
 use Rattle.format.specs.Bytes.{Bytes}
 use Rattle.volume.specs.Lists.{all}
-use Rattle.volume.specs.Path.{SLASH, longestName, longestPath, splitByte, segments, goodSegment, goodSegments, isAbsolute, absoluteNames, goodAbsolute}
+use Rattle.volume.specs.Path.{SLASH, longestName, longestPath, splitByte, segments, goodSegment, goodSegments, isAbsolute, absoluteNames}
+use Rattle.volume.specs.Path.{goodAbsolute}
 use Rattle.volume.specs.Path.{goodRelative, goodPath, pathNames}
-use Rattle.volume_laws.specs.Tests.{true→T, T→true, and-T, T-and, eqb-differ, eqb-self}
+use Rattle.volume_laws.specs.Tests.{true→T, T→true, and-T, T-and, eqb-differ}
 use Rattle.volume_laws.specs.Lists.{all-mem, mem-all}
 use Rattle.demand2.specs.Names.{segment-byte}
 use Rattle.demand1.specs.Table.{parted, IsName, Absolute, Relative, Named, BadPath}

@@ -16,7 +16,7 @@ use Rattle.volume.specs.Counting.{Volume, inodeOf, inodeIds, blockIds}
 use Rattle.volume.specs.Fate.{live, fateOf}
 use Rattle.volume.specs.Contents.{fileBlocks, textOf}
 use Rattle.volume.specs.Path.{SLASH, pathNames}
-use Rattle.volume.specs.Tree.{Found, found, absent, isChild, lookupNames}
+use Rattle.volume.specs.Tree.{Found, found, absent, lookupNames}
 use Rattle.calls.specs.Areas.{areaEnd, areaBytes, fileAreas, scratchAreas}
 use Rattle.calls.specs.Mount.{acceptedRecords, volume}
 use Rattle.calls.specs.Storing.{Space, Fit, spaces, firstFit}
@@ -131,14 +131,21 @@ pub record FailsAt (v : Volume Bytes) (ns : List Bytes) (why : ℕ → Bytes →
   pub led : lookupNames byBytes v before ≡ found inode
   pub fails : why inode name
 
+-- i is a live child of d, of the name n
+pub record LiveChild (v : Volume Bytes) (d : ℕ) (n : Bytes) (i : ℕ) : Type 0 where
+  pub counted : Bytes
+  pub counts : inodeOf byBytes v i ≡ some counted
+  pub parent-is : byBytes .parent counted ≡ d
+  pub name-is : byBytes .name counted ≡ n
+  pub lives : fateOf byBytes v i ≡ live
+
 -- "no such child"
 abbrev pub NoChild : Volume Bytes → ℕ → Bytes → Type 0
-NoChild v d n = (isDirectoryId d ≡ true) × ((i : ℕ) → isChild byBytes v d n i ≡ false)
+NoChild v d n = (isDirectoryId d ≡ true) × ((i : ℕ) → ¬ LiveChild v d n i)
 
 -- "two or more live children of that name"
 abbrev pub TwoChildren : Volume Bytes → ℕ → Bytes → Type 0
-TwoChildren v d n = (isDirectoryId d ≡ true)
-    × ((i j : ℕ) × (i ≢ j) × (isChild byBytes v d n i ≡ true) × (isChild byBytes v d n j ≡ true))
+TwoChildren v d n = (isDirectoryId d ≡ true) × ((i j : ℕ) × (i ≢ j) × LiveChild v d n i × LiveChild v d n j)
 
 -- "a name asked for below a file is 11, not 9"
 abbrev pub NoDirectory : ℕ → Bytes → Type 0
@@ -208,7 +215,7 @@ createRows image ds base path kind =
     let o = lookupNames byBytes v (namesBefore ns) in
     pathRows image ds (BadPath base path ⊎ (ns ≡ [])) (namesBefore ns)
     ((11 given-when Leads o (λ d. isDirectoryId d ≡ false))
-    ∷ (12 given-when Leads o (λ d. (i : ℕ) × (isChild byBytes v d (lastName ns) i ≡ true)))
+    ∷ (12 given-when Leads o (λ d. (i : ℕ) × LiveChild v d (lastName ns) i))
     ∷ (5 given-when (64 < suc (length (inodeIds byBytes v))))
     ∷ (15 given-when Leads o (λ d. NoRoom image ds (newInode v kind d (lastName ns))))
     ∷ [])

@@ -2,47 +2,83 @@
 use Prim.Native.Nat.{ℕ}
 use mathlib.Core.Path.{_≡_, refl, sym, ap, _∙_}
 use mathlib.Core.Logic.{inl, inr, _≢_}
-use mathlib.Core.Bool.{Bool, true, false}
+use mathlib.Core.Bool.{Bool, true, false, _&&_}
 use mathlib.Core.List.{List, [], _∷_, _++_, append-assoc, List·Memᴰ, List·Memᴰ·head, List·Memᴰ·tail, List·Memᴰ·not-nil}
 use mathlib.Core.List.{List·Memᴰ·eq-of-singleton}
 use native.Mathlib.Omega.{arith}
-use lib.Dec.{T}
+use lib.Dec.{T, eqb, eqb-refl, eqb→eq}
 use Rattle.format.specs.Bytes.{Bytes}
 use Rattle.format.specs.Ids.{rootId, isDirectoryId}
-use Rattle.volume.specs.Lists.{Only, nobody, several, one, only}
+use Rattle.volume.specs.Lists.{same, has, Only, nobody, several, one, only}
 use Rattle.volume.specs.View.{byBytes}
-use Rattle.volume.specs.Counting.{Volume, inodeIds}
-use Rattle.volume.specs.Tree.{Found, found, absent, onward, isChild, children, walk, lookupNames}
-use Rattle.volume_laws.specs.Tests.{true→T, T→true, not-T→false}
+use Rattle.volume.specs.Counting.{Volume, inodeOf, inodeIds}
+use Rattle.volume.specs.Fate.{isLive, fateOf}
+use Rattle.volume.specs.Tree.{Found, found, absent, onward, isEntry, isChild, children, walk, lookupNames}
+use Rattle.volume_laws.specs.Tests.{true→T, T→true, not-T→false, and-T, T-and, has-some}
+use Rattle.volume_laws.specs.Lists.{same-refl, same-eq}
 use Rattle.volume_laws.specs.Once.{Nodup, nodup-keep}
 use Rattle.volume_laws.specs.Counting.{ids-of}
+use Rattle.volume_laws.specs.Climb.{is-live}
 use Rattle.volume_laws.specs.Tree.{mem-children, children-mem, lookup-append}
-use Rattle.demand1.specs.Table.{Row, Answers, FailsAt, NoChild, TwoChildren, NoDirectory, walkRows}
+use Rattle.demand1.specs.Table.{Row, Answers, FailsAt, LiveChild, NoChild, TwoChildren, NoDirectory, walkRows}
+use Rattle.demand1.specs.Mounting.{Means}
+
+-- the test for a child means what it says
+pub child-means : (v : Volume Bytes) (d : ℕ) (n : Bytes) (i : ℕ) → Means (isChild byBytes v d n i) (LiveChild v d n i)
+unfolding isChild isEntry
+child-means v d n i = (to, back)
+  where
+    to : (has (isEntry byBytes d n) (inodeOf byBytes v i) && isLive (fateOf byBytes v i)) ≡ true → LiveChild v d n i
+    to e =
+        let t = and-T (has (isEntry byBytes d n) (inodeOf byBytes v i)) (isLive (fateOf byBytes v i)) (true→T e) in
+        let s = has-some (isEntry byBytes d n) (inodeOf byBytes v i) (t .0) in
+        let u = and-T (eqb (byBytes .parent (s .0)) d) (same (byBytes .name (s .0)) n) (s .2) in
+        record {
+          counted = s .0;
+          counts = s .1;
+          parent-is = eqb→eq (byBytes .parent (s .0)) d (u .0);
+          name-is = same-eq (byBytes .name (s .0)) n (u .1);
+          lives = is-live (fateOf byBytes v i) (t .1);
+        }
+
+    back : (has (isEntry byBytes d n) (inodeOf byBytes v i) && isLive (fateOf byBytes v i)) ≡ false → ¬ LiveChild v d n i
+    back e c =
+        let t : T (isEntry byBytes d n (c .counted) && true)
+        = T-and (isEntry byBytes d n (c .counted)) true
+        (T-and (eqb (byBytes .parent (c .counted)) d) (same (byBytes .name (c .counted)) n) (rw (c .parent-is) (eqb-refl d))
+        (rw (c .name-is) (same-refl n))) tt in
+        let q : (isEntry byBytes d n (c .counted) && true) ≡ false = rw (c .counts, c .lives) at e in
+        rw q at t
 
 module _ (v : Volume Bytes) where
   -- the children of a name, none, one or several
-  only-nobody : (d : ℕ) (n : Bytes) → ((i : ℕ) → isChild byBytes v d n i ≡ false) → only (children byBytes v d n) ≡ nobody
+  only-nobody : (d : ℕ) (n : Bytes) → ((i : ℕ) → ¬ LiveChild v d n i) → only (children byBytes v d n) ≡ nobody
   unfolding only
   only-nobody d n h = go (children byBytes v d n) (children-mem byBytes v d n)
     where
       go : (l : List ℕ) → ((i : ℕ) → List·Memᴰ i l → T (isChild byBytes v d n i)) → only l ≡ nobody
       go [] k = refl
-      go (i ∷ l) k = let t = k i (List·Memᴰ·head refl) in absurd (rw (h i) at t)
+      go (i ∷ l) k = absurd (h i (child-means v d n i .0 (T→true (k i (List·Memᴰ·head refl)))))
 
-  nobody-only : (d : ℕ) (n : Bytes) → only (children byBytes v d n) ≡ nobody → (i : ℕ) → isChild byBytes v d n i ≡ false
+  nobody-only : (d : ℕ) (n : Bytes) → only (children byBytes v d n) ≡ nobody → (i : ℕ) → ¬ LiveChild v d n i
   unfolding only
-  nobody-only d n e i = not-T→false (λ t. go (children byBytes v d n) e (mem-children byBytes v d n i t))
+  nobody-only d n e i = child-means v d n i .1 (not-T→false (λ t. go (children byBytes v d n) e (mem-children byBytes v d n i t)))
     where
       go : (l : List ℕ) → only l ≡ nobody → List·Memᴰ i l → ⊥
       go [] e m = List·Memᴰ·not-nil m
       go (j ∷ []) e m = let z : _≡_ {A = ℕ} 0 1 = cc in omega arith
       go (j ∷ k ∷ l) e m = let z : _≡_ {A = ℕ} 0 1 = cc in omega arith
 
-  only-several : (d : ℕ) (n : Bytes) (i j : ℕ) → i ≢ j → isChild byBytes v d n i ≡ true → isChild byBytes v d n j ≡ true
-      → only (children byBytes v d n) ≡ several
+  pub child-listed : (d : ℕ) (n : Bytes) (i : ℕ) → LiveChild v d n i → List·Memᴰ i (children byBytes v d n)
+  child-listed d n i c = go (isChild byBytes v d n i) refl
+    where
+      go : (b : Bool) → isChild byBytes v d n i ≡ b → List·Memᴰ i (children byBytes v d n)
+      go true e = mem-children byBytes v d n i (true→T e)
+      go false e = absurd (child-means v d n i .1 e c)
+
+  only-several : (d : ℕ) (n : Bytes) (i j : ℕ) → i ≢ j → LiveChild v d n i → LiveChild v d n j → only (children byBytes v d n) ≡ several
   unfolding only
-  only-several d n i j h a b =
-      go (children byBytes v d n) (mem-children byBytes v d n i (true→T a)) (mem-children byBytes v d n j (true→T b))
+  only-several d n i j h a b = go (children byBytes v d n) (child-listed d n i a) (child-listed d n j b)
     where
       go : (l : List ℕ) → List·Memᴰ i l → List·Memᴰ j l → only l ≡ several
       go [] p q = absurd (List·Memᴰ·not-nil p)
@@ -50,22 +86,22 @@ module _ (v : Volume Bytes) where
       go (k ∷ m ∷ l) p q = refl
 
   several-only : (d : ℕ) (n : Bytes) → only (children byBytes v d n) ≡ several
-      → (i j : ℕ) × (i ≢ j) × (isChild byBytes v d n i ≡ true) × (isChild byBytes v d n j ≡ true)
+      → (i j : ℕ) × (i ≢ j) × LiveChild v d n i × LiveChild v d n j
   unfolding only children
   several-only d n e =
       go (children byBytes v d n) e (nodup-keep (isChild byBytes v d n) (inodeIds byBytes v) (ids-of byBytes (v .inodes) .nodup))
       (children-mem byBytes v d n)
     where
       go : (l : List ℕ) → only l ≡ several → Nodup l → ((i : ℕ) → List·Memᴰ i l → T (isChild byBytes v d n i))
-          → (i j : ℕ) × (i ≢ j) × (isChild byBytes v d n i ≡ true) × (isChild byBytes v d n j ≡ true)
+          → (i j : ℕ) × (i ≢ j) × LiveChild v d n i × LiveChild v d n j
       go [] e u k = let z : _≡_ {A = ℕ} 0 1 = cc in absurd (omega arith)
       go (i ∷ []) e u k = let z : _≡_ {A = ℕ} 0 1 = cc in absurd (omega arith)
       go (i ∷ j ∷ l) e u k = (
         i,
         j,
         (λ z. u .0 (List·Memᴰ·head z)),
-        T→true (k i (List·Memᴰ·head refl)),
-        T→true (k j (List·Memᴰ·tail (List·Memᴰ·head refl))),
+        child-means v d n i .0 (T→true (k i (List·Memᴰ·head refl))),
+        child-means v d n j .0 (T→true (k j (List·Memᴰ·tail (List·Memᴰ·head refl)))),
       )
 
   -- a walk that fails, with its number
