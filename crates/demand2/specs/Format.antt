@@ -2,50 +2,62 @@
 -- others get ids 0, 1, ... in order. The root record (sequence 0) goes to the first file area."
 use Prim.Native.Nat.{ℕ, zero, suc, _+_, _-_, _^_, _≤_, _<_}
 use mathlib.Core.Path.{_≡_, refl, sym, ap, _∙_}
-use mathlib.Core.Logic.{_≢_, _⊎_, ⊎-elim}
-use mathlib.Core.Bool.{Bool, true, false, not}
-use mathlib.Core.List.{List, [], _∷_, map, List·Memᴰ, List·Memᴰ·head, List·Memᴰ·tail, List·Memᴰ·cases-cons, List·Memᴰ·not-nil, Memᴰ·cast, Memᴰ·map}
-use mathlib.Core.List.{Memᴰ·of-map}
+use mathlib.Core.Logic.{_≢_, ⊎-elim}
+use mathlib.Core.Bool.{Bool, true, false, cond, not}
+use mathlib.Core.List.{List, [], _∷_, _++_, map, List·Memᴰ, List·Memᴰ·head, List·Memᴰ·tail, List·Memᴰ·cases-cons, List·Memᴰ·not-nil, Memᴰ·cast}
+use mathlib.Core.List.{Memᴰ·map, Memᴰ·of-map, List·Memᴰ·eq-of-singleton}
 use native.Mathlib.Omega.{arith}
+use native.Mathlib.Decide.{ℕ-discrete}
 use lib.ListN.{length, drop, replicate, length-append, length-replicate, length-map}
-use lib.Seq.{drop-at}
+use lib.Seq.{take-at, drop-at, drop-append-add}
 use lib.Dec.{T, eqb, ltb, leb, nltb→le, ltb→lt, le→leb}
 use borrow.Author.Tests.{eqb-true}
 use Rattle.format.specs.Bytes.{Bytes, byteAt, le32}
 use Rattle.format.specs.Crc.{check, crcOver, crcByte, crcBit}
-use Rattle.format.specs.Ids.{NONE, rootId, isInodeId}
+use Rattle.format.specs.Ids.{NONE, rootId, isInodeId, isDirectoryId}
 use Rattle.format.specs.AreaHeader.{areaHeaderSize, areaId, collectionCount, scratchId, isFileArea, isScratch}
-use Rattle.format.specs.Record.{recordSize, inodeRule, nameGood}
+use Rattle.format.specs.Record.{recordSize, recordId, inodeRule, nameGood}
 use Rattle.format.specs.Reading.{ERASED, areaClean, areaFree}
 use Rattle.format.specs.Encoding.{areaHeader, inodeBytes, sealed, inodeFront}
+use Rattle.format_laws.specs.Crc.{Octets}
 use Rattle.format_laws.specs.Encoding.{header-size, header-valid, header-count, header-id, MeantInode, octets-none}
 use Rattle.format_laws.specs.Bytes.{same-byte}
 use Rattle.format_laws.specs.Reading.{records-lawful}
-use Rattle.volume.specs.Lists.{keep, all, once, same}
+use Rattle.volume.specs.Lists.{keep, all, once, same, only}
 use Rattle.volume.specs.View.{byBytes}
 use Rattle.volume.specs.Counting.{volumeOf, idsOf, counting, versions, newest, agree, allAgree}
-use Rattle.volume.specs.Fate.{ascend, climb, fateOf, liveIds}
-use Rattle.volume_laws.specs.Tests.{T→true, not-T→false, eqb-false, eqb-differ}
+use Rattle.volume.specs.Fate.{live, orphan, ascend, climb, fateOf, liveIds}
+use Rattle.volume.specs.Path.{goodPath, pathNames}
+use Rattle.volume.specs.Tree.{found, absent, isEntry, isChild, children, walk, lookupNames}
+use Rattle.volume_laws.specs.Tests.{T→true, not-T→false, eqb-differ}
 use Rattle.volume_laws.specs.Once.{Nodup, pigeons, mem-once}
 use Rattle.volume_laws.specs.Lists.{keep-map, keep-cong, keep-mem, mem-keep, mem-all}
+use Rattle.volume_laws.specs.Counting.{counting-absent}
+use Rattle.volume_laws.specs.Climb.{fate-own}
 use Rattle.calls.specs.Image.{put, erased}
 use Rattle.calls.specs.Refusal.{firstRefusal}
 use Rattle.calls.specs.Areas.{areaEnd, areaBytes, fileAreas, scratchAreas}
 use Rattle.calls.specs.Mount.{recordsOf, recordsIn, acceptedRecords, volume, badDescription, sharedAreaId, wrongAreas, shortScratch, tooManyIds}
 use Rattle.calls.specs.Mount.{noRoot, mountNumber}
 use Rattle.calls.specs.Format.{emptyArea, formatNumber, longestLength, Labelled, labelled, blanked, rootBytes, rooted, formatted, imageFormatted}
+use Rattle.calls.specs.Lookup.{resolve}
+use Rattle.calls.specs.Read.{refused, give, readGiven}
+use Rattle.calls.specs.Create.{isRoot}
+use Rattle.calls.specs.Collect.{isBlank}
 use Rattle.calls.specs.declared.Descriptor.{Descriptor}
 use Rattle.calls_laws.specs.Checks.{Passes, mounts, InArea, area-fits, areas-apart}
 use Rattle.image_laws.specs.Apart.{Apart}
-use Rattle.image_laws.specs.Laws.{length-put, part-put, part-outside, byte-outside}
+use Rattle.image_laws.specs.Laws.{length-put, part-put, part-outside, part-around, byte-outside}
+use Rattle.image_laws.specs.Stores.{drop-erased}
+use Rattle.demand2.specs.Octet.{octets-append, octets-erased, octets-put, octets-inode, octets-header}
 use Rattle.demand2.specs.Area.{Whole, erased-clean, erased-starts, erased-empty}
-use Rattle.demand2.specs.Store.{freePlace, RecordFits, OneStored, one-stored, same-file-areas, same-scratch-areas, same-area-ids, same-described}
-use Rattle.demand2.specs.Store.{file-listed, same-area}
+use Rattle.demand2.specs.Store.{freePlace, RecordFits, OneStored, one-stored, same-file-areas, same-scratch-areas, same-area-ids}
+use Rattle.demand2.specs.Store.{same-described, file-listed, same-area}
 use Rattle.demand2.specs.Places.{few-areas, area-lengths, Distinct, areas-distinct, files-distinct}
-use Rattle.calls_laws.specs.Unused.{upwards, upwards-nodup, upwards-length}
-use Rattle.demand2.specs.Found.{passed-check}
+use Rattle.calls_laws.specs.Unused.{upwards, upwards-mem, upwards-nodup, upwards-length}
+use Rattle.demand2.specs.Found.{passed-check, resolved, read-given}
 use Rattle.demand2.specs.NewRecord.{inode-made}
-use Rattle.demand2.specs.Labels.{areaOf, labelOf, isFileLabel, labelled-areas, longest-bounds, longest-there, Labels, labels}
+use Rattle.demand2.specs.Labels.{areaOf, labelOf, isScratchLabel, isFileLabel, labelled-areas, longest-bounds, longest-there, Labels, labels}
 
 -- ---- areas erased one after the other
 
@@ -177,21 +189,55 @@ pub empty-erased : (size count id : ℕ) → drop areaHeaderSize (emptyArea size
 unfolding emptyArea
 empty-erased size count id = drop-at (areaHeader size count id) (erased (size - areaHeaderSize)) areaHeaderSize (header-size size count id)
 
+-- FF behind its header
+pub empty-blank : (size count id : ℕ) → isBlank (emptyArea size count id) ≡ true
+unfolding isBlank all
+empty-blank size count id = rw (empty-erased size count id) (blank (size - areaHeaderSize))
+  where
+    blank : (n : ℕ) → all (λ b. eqb b ERASED) (replicate n ERASED) ≡ true
+    blank zero = refl
+    blank (suc n) = blank n
+
+-- a record stored at the start of its free space
+empty-stored : (size count id : ℕ) (b : Bytes)
+    → put (emptyArea size count id) areaHeaderSize b ≡ areaHeader size count id ++ (b ++ erased (size - (areaHeaderSize + length b)))
+unfolding put emptyArea
+empty-stored size count id b =
+    let front = areaHeader size count id in
+    let free = erased (size - areaHeaderSize) in
+    let d : drop (areaHeaderSize + length b) (front ++ free) ≡ drop (length b) free
+    = ap (λ (k : ℕ). drop (k + length b) (front ++ free)) (sym (header-size size count id)) ∙ drop-append-add front free (length b) in
+    let e : size - areaHeaderSize - length b ≡ size - (areaHeaderSize + length b) = omega arith in
+    rw (take-at front free areaHeaderSize (header-size size count id), d, drop-erased (length b) (size - areaHeaderSize), e)
+
+-- an empty area is bytes
+pub octets-empty : (size count id : ℕ) → count < 256 → id < 256 → Octets (emptyArea size count id)
+unfolding emptyArea
+octets-empty size count id c i =
+    octets-append (areaHeader size count id) (erased (size - areaHeaderSize)) (octets-header size count id c i)
+    (octets-erased (size - areaHeaderSize))
+
+octets-blanked : (ls : List Labelled) (image : Bytes) → ((l : Labelled) → List·Memᴰ l ls → l .id < 256) → Octets image → Octets (blanked image ls)
+unfolding blanked stamp
+octets-blanked [] image h o = o
+octets-blanked (l ∷ ls) image h o =
+    octets-blanked ls (stamp image l) (λ m k. h m (List·Memᴰ·tail k))
+    (octets-put image (l .area .offset) _ o (octets-empty (l .area .length) 0 (l .id) (omega arith) (h l (List·Memᴰ·head refl))))
+
 -- ---- the root record
 
-rooted-first : (ls : List Labelled) (image : Bytes) (l : Labelled) → List·Memᴰ l ls → l .id ≡ 0
-    → (m : Labelled) × List·Memᴰ m ls × (m .id ≡ 0) × (rooted image ls ≡ put image (m .area .offset + areaHeaderSize) rootBytes)
-unfolding rooted
-rooted-first (k ∷ ls) image l m z = go (eqb (k .id) 0) refl (λ n. rooted-first ls image l n z)
+-- "The root record .. goes to the first file area": the first label that is not scratch's
+rooted-first : (ls : List Labelled) (image : Bytes) (l : Labelled) (rest : List Labelled) → keep isFileLabel ls ≡ l ∷ rest → l .id ≡ 0
+    → rooted image ls ≡ put image (l .area .offset + areaHeaderSize) rootBytes
+unfolding rooted keep
+rooted-first [] image l rest e z = let y : _≡_ {A = ℕ} 0 1 = cc in absurd (omega arith)
+rooted-first (k ∷ ls) image l rest e z = go (eqb (k .id) scratchId) refl e (λ q. rooted-first ls image l rest q z)
   where
-    go : (b : Bool) → eqb (k .id) 0 ≡ b
-        → (List·Memᴰ l ls
-        → (m : Labelled) × List·Memᴰ m ls × (m .id ≡ 0) × (rooted image ls ≡ put image (m .area .offset + areaHeaderSize) rootBytes))
-        → (m : Labelled) × List·Memᴰ m (k ∷ ls) × (m .id ≡ 0) × (rooted image (k ∷ ls) ≡ put image (m .area .offset + areaHeaderSize) rootBytes)
-    go true e ih = (k, List·Memᴰ·head refl, eqb-true (k .id) 0 e, rw e)
-    go false e ih =
-        let t = ih (⊎-elim (λ q. absurd (eqb-false (k .id) 0 e (ap labelOf (sym q) ∙ z))) (λ n. n) (List·Memᴰ·cases-cons m)) in
-        (t .0, List·Memᴰ·tail (t .1), t .2, rw e (t .3))
+    go : (b : Bool) → eqb (k .id) scratchId ≡ b → cond (not b) (k ∷ keep isFileLabel ls) (keep isFileLabel ls) ≡ l ∷ rest
+        → (keep isFileLabel ls ≡ l ∷ rest → rooted image ls ≡ put image (l .area .offset + areaHeaderSize) rootBytes)
+        → rooted image (k ∷ ls) ≡ put image (l .area .offset + areaHeaderSize) rootBytes
+    go true c q ih = rw (eqb-true (k .id) scratchId c) (ih q)
+    go false c q ih = let w : k ≡ l = cc in rw (w, z)
 
 meant-root : MeantInode rootId 0 NONE []
 unfolding inodeRule isInodeId nameGood
@@ -225,6 +271,37 @@ live-root : liveIds byBytes (volumeOf byBytes (rootBytes ∷ [])) ≡ rootId ∷
 unfolding liveIds fateOf climb ascend volumeOf idsOf once counting versions newest keep le32 inodeBytes sealed inodeFront check crcOver crcByte crcBit
 live-root = refl
 
+-- "/" is found, and nothing else
+none-below : (n : Bytes) → children byBytes (volumeOf byBytes (rootBytes ∷ [])) rootId n ≡ []
+unfolding
+    children isChild isEntry fateOf climb ascend volumeOf idsOf once counting versions newest keep le32 inodeBytes sealed inodeFront check crcOver
+    crcByte crcBit
+none-below n = refl
+
+root-found : (ns : List Bytes) → lookupNames byBytes (volumeOf byBytes (rootBytes ∷ [])) ns ≡ cond (isRoot ns) (found rootId) (absent 9)
+unfolding lookupNames walk isDirectoryId only
+root-found [] = refl
+root-found (n ∷ ns) = rw (none-below n, eqb-differ (length (n ∷ ns)) 0 (λ e. omega arith))
+
+root-fate : fateOf byBytes (volumeOf byBytes (rootBytes ∷ [])) rootId ≡ live
+unfolding fateOf climb ascend volumeOf idsOf once counting versions newest keep le32 inodeBytes sealed inodeFront check crcOver crcByte crcBit
+root-fate = refl
+
+other-fate : (i : ℕ) → i ≢ rootId → fateOf byBytes (volumeOf byBytes (rootBytes ∷ [])) i ≡ orphan
+unfolding ascend volumeOf keep le32 inodeBytes sealed inodeFront check crcOver crcByte crcBit
+other-fate i n = fate-own byBytes (volumeOf byBytes (rootBytes ∷ [])) i orphan (rw (counting-absent byBytes (rootBytes ∷ []) i no-other, ascend))
+  where
+    no-other : (r : Bytes) → List·Memᴰ r (rootBytes ∷ []) → recordId r ≢ i
+    no-other r m e = n (sym e ∙ ap recordId (List·Memᴰ·eq-of-singleton m))
+
+root-given : (i position room : ℕ) → give (volumeOf byBytes (rootBytes ∷ [])) i position room ≡ refused (cond (eqb i rootId) 11 9)
+unfolding give isDirectoryId
+root-given i position room = go (ℕ-discrete i rootId)
+  where
+    go : Dec (i ≡ rootId) → give (volumeOf byBytes (rootBytes ∷ [])) i position room ≡ refused (cond (eqb i rootId) 11 9)
+    go (yes e) = rw (e, root-fate)
+    go (no e) = rw (other-fate i e, eqb-differ i rootId e)
+
 -- ---- the theorem
 
 -- What an accepted format leaves: image′ is the image afterwards
@@ -234,18 +311,34 @@ pub record AfterFormat (image image′ : Bytes) (ds : List Descriptor) : Type 0 
   pub records : acceptedRecords image′ ds ≡ rootBytes ∷ []
   pub only-root : liveIds byBytes (volume image′ ds) ≡ rootId ∷ []
   pub clean : (d : Descriptor) → List·Memᴰ d (fileAreas image′ ds) → areaClean recordSize (areaBytes image′ d) ≡ true
-  -- "The longest, first among equals, is scratch"
+  -- "The longest, first among equals, is scratch", erased: its header and then FF
   pub scratch : Descriptor
   pub scratch-is : scratchAreas image′ ds ≡ scratch ∷ []
   pub equals : List Descriptor
   pub first-longest : keep (λ d. eqb (d .length) (longestLength ds)) ds ≡ scratch ∷ equals
+  pub scratch-bytes : areaBytes image′ scratch ≡ emptyArea (scratch .length) 0 scratchId
+  pub scratch-blank : isBlank (areaBytes image′ scratch) ≡ true
   -- "the others get ids 0, 1, ... in order", "headers with count 0"
   pub others : length ds ≡ suc (length (fileAreas image′ ds))
   pub ids : map (λ d. areaId (areaBytes image′ d)) (fileAreas image′ ds) ≡ upwards (length (fileAreas image′ ds)) 0
   pub counts : (d : Descriptor) → List·Memᴰ d ds → collectionCount (areaBytes image′ d) ≡ 0
+  -- "The root record (sequence 0) goes to the first file area": header, root and then FF; every other one is its header and then FF
+  pub first : Descriptor
+  pub rest : List Descriptor
+  pub files : fileAreas image′ ds ≡ first ∷ rest
+  pub first-bytes : areaBytes image′ first
+      ≡ areaHeader (first .length) 0 0 ++ (rootBytes ++ erased (first .length - (areaHeaderSize + length rootBytes)))
+  pub first-reads : recordsOf image′ first ≡ record { place = areaHeaderSize; bytes = rootBytes } ∷ []
+  pub rest-bytes : (d : Descriptor) → List·Memᴰ d rest → areaBytes image′ d ≡ emptyArea (d .length) 0 (areaId (areaBytes image′ d))
+  pub rest-reads : (d : Descriptor) → List·Memᴰ d rest → recordsOf image′ d ≡ []
+  -- "/" is found, and by every other good path nothing; a read finds no file
+  pub paths : (b p : Bytes) → resolve image′ ds b p ≡ cond (goodPath b p) (cond (isRoot (pathNames b p)) (found rootId) (absent 9)) (absent 8)
+  pub reads : (i position room : ℕ) → readGiven image′ ds i position room ≡ refused (cond (eqb i rootId) 11 9)
   -- bytes outside the areas stay
   pub one-length : length image′ ≡ length image
   pub outside : (i : ℕ) → ((d : Descriptor) → List·Memᴰ d ds → ¬ InArea d i) → byteAt image′ i ≡ byteAt image i
+  -- bytes stay bytes
+  pub octets : Octets image → Octets image′
 
 -- ids that differ: check 2
 pub own-ids : (l : List ℕ) → Nodup l → ltb (length (once l)) (length l) ≡ false
@@ -325,18 +418,18 @@ module _ (image : Bytes) (ds : List Descriptor) (accepted : formatNumber image d
   count-files = sym (length-map (fileAreas image₁ ds) (λ d. areaId (areaBytes image₁ d))) ∙ ap length ids₁ ∙ upwards-length (lab .count) 0
 
   -- the first file area has the label 0
-  labelled-zero : (l : Labelled) × List·Memᴰ l ls × (l .id ≡ 0)
+  home : (l : Labelled) × (rest : List Labelled) × (keep isFileLabel ls ≡ l ∷ rest) × (l .id ≡ 0)
   unfolding upwards
-  labelled-zero = go (keep isFileLabel ls) (λ l m. keep-mem isFileLabel ls m .0) (lab .count) (lab .in-order) (omega (arith, lab .others, checks .1))
+  home = go (keep isFileLabel ls) refl (lab .count) (lab .in-order) (omega (arith, lab .others, checks .1))
     where
-      go : (fs : List Labelled) → ((l : Labelled) → List·Memᴰ l fs → List·Memᴰ l ls) → (n : ℕ) → map labelOf fs ≡ upwards n 0 → 1 ≤ n
-          → (l : Labelled) × List·Memᴰ l ls × (l .id ≡ 0)
-      go fs h zero e p = absurd (omega arith)
-      go [] h (suc n) e p = let z : _≡_ {A = ℕ} 0 1 = cc in absurd (omega arith)
-      go (l ∷ fs) h (suc n) e p = (l, h l (List·Memᴰ·head refl), cc)
+      go : (fs : List Labelled) → keep isFileLabel ls ≡ fs → (n : ℕ) → map labelOf fs ≡ upwards n 0 → 1 ≤ n
+          → (l : Labelled) × (rest : List Labelled) × (keep isFileLabel ls ≡ l ∷ rest) × (l .id ≡ 0)
+      go fs q zero e p = absurd (omega arith)
+      go [] q (suc n) e p = let z : _≡_ {A = ℕ} 0 1 = cc in absurd (omega arith)
+      go (l ∷ fs) q (suc n) e p = (l, fs, q, cc)
 
-  home : (m : Labelled) × List·Memᴰ m ls × (m .id ≡ 0) × (rooted image₁ ls ≡ put image₁ (m .area .offset + areaHeaderSize) rootBytes)
-  home = rooted-first ls image₁ (labelled-zero .0) (labelled-zero .1) (labelled-zero .2)
+  home-in : List·Memᴰ (home .0) ls
+  home-in = let m : List·Memᴰ (home .0) (keep isFileLabel ls) = rw (home .2) (List·Memᴰ·head refl) in keep-mem isFileLabel ls m .0
 
   abbrev area : Descriptor
   area = home .0 .area
@@ -367,9 +460,9 @@ module _ (image : Bytes) (ds : List Descriptor) (accepted : formatNumber image d
   fits : RecordFits image₁ ds area rootBytes
   unfolding inodeBytes sealed inodeFront
   fits = record {
-    file = rw files₁ (Memᴰ·map areaOf (mem-keep isFileLabel ls (home .1) (rw (home .2) tt)));
-    clean = clean₁ (home .0) (home .1);
-    room = rw (free₁ (home .0) (home .1)) (omega (arith, area-lengths image ds (checks .0) area (listed (home .0) (home .1)) .0));
+    file = rw (files₁, home .2) (List·Memᴰ·head refl);
+    clean = clean₁ (home .0) home-in;
+    room = rw (free₁ (home .0) home-in) (omega (arith, area-lengths image ds (checks .0) area (listed (home .0) home-in) .0));
   }
 
   -- the root stored
@@ -378,7 +471,9 @@ module _ (image : Bytes) (ds : List Descriptor) (accepted : formatNumber image d
 
   is-formatted : formatted image ds ≡ image′
   unfolding formatted image′ image₁
-  is-formatted = home .3 ∙ ap (λ (n : ℕ). put image₁ (area .offset + n) rootBytes) (sym (free₁ (home .0) (home .1)))
+  is-formatted =
+      rooted-first ls image₁ (home .0) (home .1) (home .2) (home .3)
+      ∙ ap (λ (n : ℕ). put image₁ (area .offset + n) rootBytes) (sym (free₁ (home .0) home-in))
 
   stored : OneStored image₁ image′ ds area rootBytes
   unfolding image′
@@ -387,8 +482,8 @@ module _ (image : Bytes) (ds : List Descriptor) (accepted : formatNumber image d
   files : fileAreas image′ ds ≡ fileAreas image₁ ds
   files = same-file-areas stored
 
-  reads-root : recordsOf image′ area ≡ record { place = areaFree recordSize (areaBytes image₁ area); bytes = rootBytes } ∷ []
-  reads-root = stored .reads ∙ rw (empty₁ (home .0) (home .1))
+  reads-root : recordsOf image′ area ≡ record { place = areaHeaderSize; bytes = rootBytes } ∷ []
+  reads-root = stored .reads ∙ rw (empty₁ (home .0) home-in, free₁ (home .0) home-in)
 
   reads-none : (d : Descriptor) → List·Memᴰ d (fileAreas image₁ ds) → d ≢ area → recordsOf image′ d ≡ []
   reads-none d m n =
@@ -421,6 +516,65 @@ module _ (image : Bytes) (ds : List Descriptor) (accepted : formatNumber image d
   volume-is : volume image′ ds ≡ volumeOf byBytes (rootBytes ∷ [])
   unfolding volume
   volume-is = ap (volumeOf byBytes) only-record
+
+  -- a label is one byte
+  label-low : (l : Labelled) → List·Memᴰ l ls → l .id < 256
+  label-low l m = go (eqb (l .id) scratchId) refl
+    where
+      go : (b : Bool) → eqb (l .id) scratchId ≡ b → l .id < 256
+      go true e = omega (arith, eqb-true (l .id) scratchId e)
+      go false e =
+          let k : List·Memᴰ (l .id) (upwards (lab .count) 0) = rw (lab .in-order) at (Memᴰ·map labelOf (mem-keep isFileLabel ls m (rw e tt))) in
+          omega (arith, upwards-mem (lab .count) 0 k, lab .others, few-areas image ds (checks .0))
+
+  -- the areas' bytes
+  file-areas : fileAreas image′ ds ≡ area ∷ map areaOf (home .1)
+  file-areas = files ∙ files₁ ∙ ap (map areaOf) (home .2)
+
+  area-bytes : areaBytes image′ area ≡ areaHeader (area .length) 0 0 ++ (rootBytes ++ erased (area .length - (areaHeaderSize + length rootBytes)))
+  unfolding image′
+  area-bytes =
+      let h = in-image (home .0) home-in in
+      let f = free₁ (home .0) home-in in
+      let e : freePlace image₁ area - area .offset ≡ areaHeaderSize = omega (arith, f) in
+      part-around image₁ (freePlace image₁ area) rootBytes (omega (arith, fits .room, h .1, long₁)) (area .offset) (area .length) (omega arith)
+      (fits .room)
+      ∙ rw (e, there₁ (home .0) home-in, home .3) (empty-stored (area .length) 0 0 rootBytes)
+
+  -- an area that does not hold the root
+  other-bytes : (l : Labelled) → List·Memᴰ l ls → l .area ≢ area → areaBytes image′ (l .area) ≡ emptyArea (l .area .length) 0 (l .id)
+  other-bytes l m n = stored .elsewhere (l .area) (listed l m) n ∙ there₁ l m
+
+  scratch-label : List·Memᴰ (record { area = lab .scratch; id = scratchId }) ls
+  scratch-label =
+      let m : List·Memᴰ (record { area = lab .scratch; id = scratchId }) (keep isScratchLabel ls) = rw (lab .one-scratch) (List·Memᴰ·head refl) in
+      keep-mem isScratchLabel ls m .0
+
+  scratch-other : lab .scratch ≢ area
+  unfolding emptyArea
+  scratch-other e =
+      let s = ap areaId (there₁ (record { area = lab .scratch; id = scratchId }) scratch-label)
+      ∙ header-id (lab .scratch .length) 0 scratchId (erased (lab .scratch .length - areaHeaderSize)) in
+      let h = ap areaId (there₁ (home .0) home-in) ∙ header-id (area .length) 0 (home .0 .id) (erased (area .length - areaHeaderSize)) in
+      omega (arith, sym s ∙ ap (λ (d : Descriptor). areaId (areaBytes image₁ d)) e ∙ h, home .3)
+
+  scratch-erased : areaBytes image′ (lab .scratch) ≡ emptyArea (lab .scratch .length) 0 scratchId
+  scratch-erased = other-bytes (record { area = lab .scratch; id = scratchId }) scratch-label scratch-other
+
+  rest-label : (d : Descriptor) → List·Memᴰ d (map areaOf (home .1)) → List·Memᴰ d (fileAreas image₁ ds) × (d ≢ area)
+  rest-label d m = (
+    rw (files₁, home .2) (List·Memᴰ·tail m),
+    λ e. let k : Distinct (area ∷ map areaOf (home .1)) = rw (files₁, home .2) at (files-distinct image₁ ds described₁) in k .0 (Memᴰ·cast (sym e) m),
+  )
+
+  rest-erased : (d : Descriptor) → List·Memᴰ d (map areaOf (home .1)) → areaBytes image′ d ≡ emptyArea (d .length) 0 (areaId (areaBytes image′ d))
+  unfolding emptyArea
+  rest-erased d m =
+      let r = rest-label d m in
+      let t = file-label d (r .0) in
+      let e : areaBytes image′ d ≡ emptyArea (d .length) 0 (t .0 .id) = rw (t .2) at (other-bytes (t .0) (t .1) (λ q. r .1 (sym (t .2) ∙ q))) in
+      let i = ap areaId e ∙ header-id (d .length) 0 (t .0 .id) (erased (d .length - areaHeaderSize)) in
+      e ∙ ap (emptyArea (d .length) 0) (sym i)
 
   scratch-areas : scratchAreas image′ ds ≡ lab .scratch ∷ []
   scratch-areas = same-scratch-areas stored ∙ scratch₁
@@ -462,11 +616,24 @@ module _ (image : Bytes) (ds : List Descriptor) (accepted : formatNumber image d
     scratch-is = scratch-areas;
     equals = lab .rest;
     first-longest = lab .first;
+    scratch-bytes = scratch-erased;
+    scratch-blank = ap isBlank scratch-erased ∙ empty-blank (lab .scratch .length) 0 scratchId;
     others = lab .others ∙ ap suc (sym (ap length files ∙ count-files));
     ids = area-ids;
     counts = counted;
+    first = area;
+    rest = map areaOf (home .1);
+    files = file-areas;
+    first-bytes = area-bytes;
+    first-reads = reads-root;
+    rest-bytes = rest-erased;
+    rest-reads = λ d m. let r = rest-label d m in reads-none d (r .0) (r .1);
+    paths = λ b p. resolved image′ ds b p (mounts image′ ds passes) ∙ rw (volume-is, root-found (pathNames b p));
+    reads = λ i position room. read-given image′ ds (mounts image′ ds passes) i position room ∙ rw volume-is (root-given i position room);
     one-length = stored .one-length ∙ long₁;
     outside = λ i n. byte-after i n ∙ byte-before i n;
+    octets = λ o. octets-put image₁ (freePlace image₁ area) rootBytes (octets-blanked ls image label-low o)
+        (octets-inode rootId 0 NONE [] (omega arith) octets-none);
   })
     where
       clean-after : (d : Descriptor) → List·Memᴰ d (fileAreas image₁ ds) → Dec (d ≡ area) → areaClean recordSize (areaBytes image′ d) ≡ true
@@ -486,9 +653,9 @@ module _ (image : Bytes) (ds : List Descriptor) (accepted : formatNumber image d
 
       byte-after : (i : ℕ) → ((d : Descriptor) → List·Memᴰ d ds → ¬ InArea d i) → byteAt image′ i ≡ byteAt image₁ i
       byte-after i n =
-          let h = area-fits image ds (checks .0) area (listed (home .0) (home .1)) in
+          let h = area-fits image ds (checks .0) area (listed (home .0) home-in) in
           byte-outside image₁ (freePlace image₁ area) rootBytes (omega (arith, fits .room, h .1, long₁)) i
-          (λ j f e. n area (listed (home .0) (home .1)) (omega arith, omega (arith, fits .room)))
+          (λ j f e. n area (listed (home .0) home-in) (omega arith, omega (arith, fits .room)))
 
       byte-before : (i : ℕ) → ((d : Descriptor) → List·Memᴰ d ds → ¬ InArea d i) → byteAt image₁ i ≡ byteAt image i
       byte-before i n = blanked-byte ls image in-image i (λ l m. n (l .area) (listed l m))

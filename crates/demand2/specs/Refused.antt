@@ -1,33 +1,83 @@
--- Refused calls. Demand 1: "A refused call changes no byte of the image"; document 01: "A refused answer's other numbers are 0."
+-- Refused calls. Demand 1: "A refused call changes no byte of the image, of an output buffer or of a file handle"; document 01: "A refused
+-- answer's other numbers are 0."
 use Prim.Native.Nat.{ℕ}
-use mathlib.Core.Path.{_≡_}
+use mathlib.Core.Path.{_≡_, refl}
 use mathlib.Core.Logic.{_≢_}
+use mathlib.Core.Bool.{Bool, true, false, cond}
 use mathlib.Core.List.{List}
+use lib.Dec.{eqb}
 use Rattle.format.specs.Bytes.{Bytes}
+use Rattle.volume.specs.Tree.{Found, found, absent}
 use Rattle.volume_laws.specs.Tests.{eqb-differ}
+use Rattle.calls.specs.Mount.{mountNumber}
 use Rattle.calls.specs.Format.{formatNumber, imageFormatted}
+use Rattle.calls.specs.Report.{refusedReport, mountedReport, reportOf}
+use Rattle.calls.specs.Lookup.{resolve, lookupAnswer, lookupOf, fileOnly, openAnswer, openOf}
+use Rattle.calls.specs.Read.{Given, given, refused, readGiven, readAnswer, bufferAfter, handleAfter}
 use Rattle.calls.specs.Create.{creating, createOf, imageCreated}
 use Rattle.calls.specs.Append.{appending, appendOf, imageAppended}
 use Rattle.calls.specs.Unlink.{unlinking, unlinkOf, imageUnlinked}
 use Rattle.calls.specs.Collect.{collecting, collectOf, imageCollected}
 use Rattle.calls.specs.declared.Descriptor.{Descriptor}
+use Rattle.calls.specs.declared.Handle.{Handle}
+use Rattle.calls.specs.declared.Report.{Report}
 use Rattle.calls_laws.specs.Attempt.{refused-leaves}
 
+-- a refused read: zeros, and buffer and handle as they were
+pub record RefusedRead (g : Given) (h : Handle) (buffer : Bytes) : Type 0 where
+  pub answer : readAnswer g ≡ record { number = readAnswer g .number; given = 0; headers = 0 }
+  pub same-buffer : bufferAfter g buffer ≡ buffer
+  pub same-handle : handleAfter g h ≡ h
+
+refused-read : (g : Given) (h : Handle) (buffer : Bytes) → readAnswer g .number ≢ 0 → RefusedRead g h buffer
+refused-read (given bytes headers) h buffer n = absurd (n refl)
+refused-read (refused r) h buffer n = record { answer = refl; same-buffer = refl; same-handle = refl }
+
+-- the other answers: refused, they have zeros
+refused-report : (b : Bool) (r : Report) (n : ℕ) → r .number ≡ 0 → cond b r (refusedReport n) .number ≢ 0
+    → cond b r (refusedReport n) ≡ record { number = cond b r (refusedReport n) .number; inodes = 0; live = 0; stretches = 0; skipped = 0 }
+refused-report true r n e h = absurd (h e)
+refused-report false r n e h = refl
+
+refused-lookup : (o : Found) → lookupAnswer o .number ≢ 0 → lookupAnswer o ≡ record { number = lookupAnswer o .number; id = 0; kind = 0 }
+refused-lookup (found i) h = absurd (h refl)
+refused-lookup (absent r) h = refl
+
+refused-open : (o : Found) → openAnswer o .number ≢ 0 → openAnswer o ≡ record { number = openAnswer o .number; id = 0; position = 0 }
+refused-open (found i) h = absurd (h refl)
+refused-open (absent r) h = refl
+
+-- Each call, where its number is not 0. Report, lookup, open and read change no image: they give none.
 pub record RefusedCalls (image : Bytes) (ds : List Descriptor) : Type 0 where
   pub format : formatNumber image ds ≢ 0 → imageFormatted image ds ≡ image
+  pub report : reportOf image ds .number ≢ 0
+      → reportOf image ds ≡ record { number = reportOf image ds .number; inodes = 0; live = 0; stretches = 0; skipped = 0 }
+  pub lookup : (base path : Bytes) → lookupOf image ds base path .number ≢ 0
+      → lookupOf image ds base path ≡ record { number = lookupOf image ds base path .number; id = 0; kind = 0 }
+  pub opened : (base path : Bytes) → openOf image ds base path .number ≢ 0
+      → openOf image ds base path ≡ record { number = openOf image ds base path .number; id = 0; position = 0 }
+  pub read : (id position room : ℕ) → readAnswer (readGiven image ds id position room) .number ≢ 0
+      → (h : Handle) (buffer : Bytes) → RefusedRead (readGiven image ds id position room) h buffer
   pub create : (base path : Bytes) (kind : ℕ) → createOf image ds base path kind .number ≢ 0
-      → (imageCreated image ds base path kind ≡ image) × (createOf image ds base path kind .id ≡ 0)
+      → (imageCreated image ds base path kind ≡ image)
+      × (createOf image ds base path kind ≡ record { number = createOf image ds base path kind .number; id = 0 })
   pub append : (base path text : Bytes) → appendOf image ds base path text ≢ 0 → imageAppended image ds base path text ≡ image
   pub unlink : (base path : Bytes) → unlinkOf image ds base path ≢ 0 → imageUnlinked image ds base path ≡ image
   pub collect : collectOf image ds ≢ 0 → imageCollected image ds ≡ image
 
 pub refused-calls : (image : Bytes) (ds : List Descriptor) → RefusedCalls image ds
-unfolding imageFormatted createOf imageCreated appendOf imageAppended unlinkOf imageUnlinked collectOf imageCollected
+unfolding
+    imageFormatted reportOf mountedReport lookupOf openOf createOf imageCreated appendOf imageAppended unlinkOf imageUnlinked collectOf imageCollected
 refused-calls image ds = record {
   format = λ h. rw (imageFormatted, eqb-differ (formatNumber image ds) 0 h);
+  report = refused-report (eqb (mountNumber image ds) 0) (mountedReport image ds) (mountNumber image ds) refl;
+  lookup = λ base path. refused-lookup (resolve image ds base path);
+  opened = λ base path. refused-open (fileOnly (resolve image ds base path));
+  read = λ id position room n h buffer. refused-read (readGiven image ds id position room) h buffer n;
   create = λ base path kind h. (
     refused-leaves image _ (creating image ds base path kind) h,
-    refused-leaves 0 _ (creating image ds base path kind) h,
+    let e : createOf image ds base path kind .id ≡ 0 = refused-leaves 0 _ (creating image ds base path kind) h in
+        λ i. record { number = createOf image ds base path kind .number; id = e i },
   );
   append = λ base path text. refused-leaves image _ (appending image ds base path text);
   unlink = λ base path. refused-leaves image _ (unlinking image ds base path);

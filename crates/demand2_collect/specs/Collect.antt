@@ -2,9 +2,9 @@
 -- before." Document 01, "Beliefs that bring stale data back", 1: "an older inode in another area returns".
 use Prim.Native.Nat.{ℕ, _≤_}
 use mathlib.Core.Path.{_≡_, refl, sym, ap, _∙_}
-use mathlib.Core.Logic.{_⊎_, inl, inr, _≢_, ⊎-elim}
+use mathlib.Core.Logic.{_⊎_, inl, inr, _≢_, ⊎-elim, _↔_}
 use mathlib.Core.Bool.{true, false, not}
-use mathlib.Core.Option.{none, some}
+use mathlib.Core.Option.{Option, none, some}
 use mathlib.Core.List.{List, [], _∷_, map, List·Memᴰ, List·Memᴰ·head, List·Memᴰ·tail, List·Memᴰ·cases-cons, List·Memᴰ·not-nil, Memᴰ·cast, Memᴰ·map}
 use mathlib.Core.List.{Memᴰ·of-map}
 use native.Mathlib.Omega.{arith}
@@ -13,44 +13,49 @@ use lib.Dec.{eqb, leb, leb→le, le→leb, nltb→le}
 use Rattle.format.specs.Bytes.{Bytes, byteAt}
 use Rattle.format.specs.Ids.{rootId}
 use Rattle.format.specs.AreaHeader.{areaId, scratchId}
-use Rattle.format.specs.Record.{recordSize}
+use Rattle.format.specs.Record.{recordSize, recordId, recordLink}
 use Rattle.format.specs.Reading.{areaClean}
+use Rattle.format_laws.specs.Crc.{Octets}
 use Rattle.volume.specs.Lists.{all, once}
 use Rattle.volume.specs.View.{byBytes}
-use Rattle.volume.specs.Counting.{Volume, volumeOf, inodeOf, inodeIds, blockIds}
-use Rattle.volume.specs.Fate.{Fate, live, dead, orphan, isLive, fateOf}
+use Rattle.volume.specs.Counting.{Volume, volumeOf, inodeOf, blockOf, inodeIds, blockIds}
+use Rattle.volume.specs.Fate.{Fate, live, dead, orphan, isLive, isDead, fateOf, blockDead}
 use Rattle.volume.specs.Contents.{fileBlocks}
 use Rattle.volume.specs.Path.{pathNames}
 use Rattle.volume_laws.specs.Tests.{true→T, T→true, not-is-false, eqb-differ}
 use Rattle.volume_laws.specs.Lists.{all-mem, mem-all, same-refl, keep-shorter}
 use Rattle.volume_laws.specs.Once.{Nodup, once-nodup, once-mem, pigeons}
-use Rattle.volume_laws.specs.Counting.{agree-sub, test-agree, fewer-ids}
+use Rattle.volume_laws.specs.Counting.{agree-sub, test-agree, counting-mem, fewer-ids}
+use Rattle.volume_laws.specs.Sound.{kinds-apart}
 use Rattle.volume_laws.specs.Climb.{fate-discrete, live-not-dead}
 use Rattle.calls.specs.Areas.{areaBytes, fileAreas, scratchAreas}
 use Rattle.calls.specs.Mount.{recordsOf, bytesOf, acceptedRecords, volume, badDescription, sharedAreaId, wrongAreas, shortScratch, noRoot}
 use Rattle.calls.specs.Mount.{mountNumber}
 use Rattle.calls.specs.Format.{emptyArea}
 use Rattle.calls.specs.Lookup.{resolve}
-use Rattle.calls.specs.Read.{give}
+use Rattle.calls.specs.Read.{give, readGiven}
 use Rattle.calls.specs.Collect.{countOf, precedes, sourceOf, recordsElsewhere, copies, copiedRecords, nextCount, collected}
 use Rattle.calls.specs.Collect.{collectOf, imageCollected}
 use Rattle.calls.specs.declared.Descriptor.{Descriptor}
 use Rattle.calls_laws.specs.Checks.{Passes, passes, mounts, InArea}
+use Rattle.calls_laws.specs.Records.{volume-sound}
+use Rattle.image_laws.specs.Stores.{joinedBytes}
 use Rattle.collect_laws.specs.Source.{source-found}
+use Rattle.collect_laws.specs.Stores.{filledScratch}
 use Rattle.collect_laws.specs.Survivors.{Survivors}
 use Rattle.collect_laws.specs.Mounted.{copied-survive}
 use Rattle.demand2.specs.Store.{file-listed}
 use Rattle.demand2.specs.Places.{Distinct, distinct-keep, areas-distinct, files-distinct}
-use Rattle.demand2.specs.Mounted.{agreed, few-ids, ids-few}
-use Rattle.demand2.specs.Found.{root-there, root-lives, resolve-alike}
+use Rattle.demand2.specs.Mounted.{agreed, accepted-kind, few-ids, ids-few}
+use Rattle.demand2.specs.Found.{root-there, root-lives, resolve-alike, read-alike}
 use Rattle.demand2.specs.Format.{own-ids}
-use Rattle.demand2_collect.specs.Dropped.{LeftOut, kept-fate, kept-inode, stays-live, no-new-life, same-lookups, kept-contents}
+use Rattle.demand2_collect.specs.Dropped.{InodeDropped, BlockDropped, LeftOut, kept-fate, kept-inode, stays-live, no-new-life, same-lookups, kept-contents}
 use Rattle.demand2_collect.specs.Copies.{fewer-records, fewer-blocks, left-out}
 use Rattle.demand2_collect.specs.Image.{CollectGoes, collect-goes, ImageCollected, image-collected}
 
 -- ---- check 2 by members
 
-once-long : (l : List ℕ) → length l ≤ length (once l) → Nodup l
+pub once-long : (l : List ℕ) → length l ≤ length (once l) → Nodup l
 unfolding once
 once-long [] h = tt
 once-long (x ∷ l) h =
@@ -66,7 +71,7 @@ once-long (x ∷ l) h =
 
 -- a list of areas of which no two have one label
 module _ (f : Descriptor → ℕ) where
-  labels-differ : (fs : List Descriptor) → Nodup (map f fs) → (d e : Descriptor) → List·Memᴰ d fs → List·Memᴰ e fs → f d ≡ f e → d ≡ e
+  pub labels-differ : (fs : List Descriptor) → Nodup (map f fs) → (d e : Descriptor) → List·Memᴰ d fs → List·Memᴰ e fs → f d ≡ f e → d ≡ e
   labels-differ (x ∷ fs) n d e (List·Memᴰ·head p) (List·Memᴰ·head q) z = p ∙ sym q
   labels-differ (x ∷ fs) n d e (List·Memᴰ·head p) (List·Memᴰ·tail k) z = absurd (n .0 (Memᴰ·cast (ap f (sym p) ∙ z) (Memᴰ·map f k)))
   labels-differ (x ∷ fs) n d e (List·Memᴰ·tail m) (List·Memᴰ·head q) z = absurd (n .0 (Memᴰ·cast (ap f (sym q) ∙ sym z) (Memᴰ·map f m)))
@@ -100,18 +105,28 @@ pub record AfterCollect (image image′ : Bytes) (ds : List Descriptor) : Type 0
   pub as-long : source .length ≡ scratch .length
   pub lowest : (d : Descriptor) → List·Memᴰ d (fileAreas image ds) → d .length ≡ scratch .length
       → precedes (countOf image d) (countOf image source) ≡ false
-  -- "Scratch takes the source's id; the counting records that lie in the source are copied .."
+  -- "Scratch takes the source's id" and keeps its own count; "the counting records that lie in the source are copied ..": header, copies, FF
   pub now-file : List·Memᴰ scratch (fileAreas image′ ds)
   pub takes-id : areaId (areaBytes image′ scratch) ≡ areaId (areaBytes image source)
+  pub keeps-count : countOf image′ scratch ≡ countOf image scratch
+  pub filled : areaBytes image′ scratch
+      ≡ filledScratch image scratch (areaId (areaBytes image source)) (joinedBytes (copiedRecords image ds source))
   pub copied : bytesOf (recordsOf image′ scratch)
       ≡ copies (volume image ds) (bytesOf (recordsOf image source)) (recordsElsewhere image (fileAreas image ds) source)
   pub clean : areaClean recordSize (areaBytes image′ scratch) ≡ true
   -- "the source is erased and becomes scratch with its count plus one (255 goes to 0)"
   pub now-scratch : scratchAreas image′ ds ≡ source ∷ []
   pub emptied : areaBytes image′ source ≡ emptyArea (source .length) (nextCount (countOf image source)) scratchId
-  -- no other byte is changed
+  -- the file areas are those before with scratch in the place of the source, and each other one has the bytes that it had
+  pub files : (d : Descriptor) → List·Memᴰ d (fileAreas image′ ds) ↔ ((d ≡ scratch) ⊎ (List·Memᴰ d (fileAreas image ds) × (d ≢ source)))
+  pub elsewhere : (d : Descriptor) → List·Memᴰ d ds → d ≢ scratch → d ≢ source → areaBytes image′ d ≡ areaBytes image d
+  -- so that one that was clean still is
+  pub stays-clean : (d : Descriptor) → List·Memᴰ d (fileAreas image′ ds) → (d ≢ scratch → areaClean recordSize (areaBytes image d) ≡ true)
+      → areaClean recordSize (areaBytes image′ d) ≡ true
+  -- no other byte is changed, and bytes stay bytes
   pub one-length : length image′ ≡ length image
   pub outside : (i : ℕ) → ¬ InArea scratch i → ¬ InArea source i → byteAt image′ i ≡ byteAt image i
+  pub octets : Octets image → Octets image′
   -- no record is new
   pub fewer : (b : Bytes) → List·Memᴰ b (acceptedRecords image′ ds) → List·Memᴰ b (acceptedRecords image ds)
   -- exactly what was live is live, with the same counting record: its number, parent and name
@@ -123,12 +138,22 @@ pub record AfterCollect (image image′ : Bytes) (ds : List Descriptor) : Type 0
       → ((inodeOf byBytes (volume image′ ds) i ≡ inodeOf byBytes (volume image ds) i)
       × (fateOf byBytes (volume image′ ds) i ≡ fateOf byBytes (volume image ds) i))
       ⊎ ((fateOf byBytes (volume image ds) i ≡ dead) × (inodeOf byBytes (volume image′ ds) i ≡ none))
+  -- a block id has the counting record that it had, or its block was dead and it has none any more
+  pub blocks : (i : ℕ)
+      → (blockOf byBytes (volume image′ ds) i ≡ blockOf byBytes (volume image ds) i)
+      ⊎ (((r : Bytes) × (blockOf byBytes (volume image ds) i ≡ some r) × (blockDead byBytes (volume image ds) r ≡ true))
+      × (blockOf byBytes (volume image′ ds) i ≡ none))
+  -- "A dead inode isn't copied if no accepted record .. names its id": an inode that has no record any more was no other's parent and owned no block
+  pub unnamed : (i : ℕ) → inodeOf byBytes (volume image ds) i ≢ none → inodeOf byBytes (volume image′ ds) i ≡ none
+      → (b : Bytes) → List·Memᴰ b (acceptedRecords image ds) → recordLink b ≡ i → recordId b ≡ i
+  pub unowned : (i : ℕ) → inodeOf byBytes (volume image ds) i ≢ none → inodeOf byBytes (volume image′ ds) i ≡ none
+      → (b : Bytes) → List·Memᴰ b (volume image ds .blocks) → byBytes .owner b ≢ i
   -- a file that was not dead has the blocks that it had, or is broken as it was
   pub contents : (f : ℕ) → fateOf byBytes (volume image ds) f ≢ dead
       → fileBlocks byBytes (volume image′ ds) f ≡ fileBlocks byBytes (volume image ds) f
   -- "everything else that could be reached by path reads as before": every path and every read is answered as before
   pub paths : (b p : Bytes) → resolve image′ ds b p ≡ resolve image ds b p
-  pub reads : (i position room : ℕ) → give (volume image′ ds) i position room ≡ give (volume image ds) i position room
+  pub reads : (i position room : ℕ) → readGiven image′ ds i position room ≡ readGiven image ds i position room
 
 module _ (image : Bytes) (ds : List Descriptor) (g : CollectGoes image ds) where
   p : Passes image ds
@@ -266,9 +291,9 @@ module _ (image : Bytes) (ds : List Descriptor) (g : CollectGoes image ds) where
   same-paths : (c q : Bytes) → resolve image′ ds c q ≡ resolve image ds c q
   same-paths c q = resolve-alike image image′ ds c q (g .mounted) (mounts image′ ds still) (λ e. same-lookups byBytes v w left (pathNames c q))
 
-  same-reads : (i position room : ℕ) → give w i position room ≡ give v i position room
+  same-given : (i position room : ℕ) → give w i position room ≡ give v i position room
   unfolding give
-  same-reads i position room = go (fate-discrete (fateOf byBytes v i) live)
+  same-given i position room = go (fate-discrete (fateOf byBytes v i) live)
     where
       unlive : (f : Fate) → f ≢ live → isLive f ≡ false
       unlive live n = absurd (n refl)
@@ -278,6 +303,50 @@ module _ (image : Bytes) (ds : List Descriptor) (g : CollectGoes image ds) where
       go : Dec (fateOf byBytes v i ≡ live) → give w i position room ≡ give v i position room
       go (yes e) = rw (give, e, stays-live byBytes v w left i e, kept-contents byBytes v w left i (λ q. live-not-dead (sym e ∙ q)))
       go (no e) = rw (give, unlive (fateOf byBytes v i) e, unlive (fateOf byBytes w i) (λ q. e (no-new-life byBytes v w left i q)))
+
+  same-reads : (i position room : ℕ) → readGiven image′ ds i position room ≡ readGiven image ds i position room
+  same-reads i position room = read-alike image image′ ds (g .mounted) (mounts image′ ds still) i position room (same-given i position room)
+
+  -- ---- what is dropped
+
+  -- an inode that had a record and has none is one of those left out
+  inode-left : (i : ℕ) → inodeOf byBytes v i ≢ none → inodeOf byBytes w i ≡ none → InodeDropped byBytes v w i
+  inode-left i n z = ⊎-elim (λ e. absurd (n (sym e ∙ z))) (λ x. x) (left .each-inode i)
+
+  not-owned : (i : ℕ) → inodeOf byBytes v i ≢ none → inodeOf byBytes w i ≡ none → (b : Bytes) → List·Memᴰ b (v .blocks) → byBytes .owner b ≢ i
+  not-owned i n z b m e = go (inodeOf byBytes v i) refl
+    where
+      go : (o : Option Bytes) → inodeOf byBytes v i ≡ o → ⊥
+      go none q = n q
+      go (some r) q =
+          let k = counting-mem byBytes (v .inodes) i r q in
+          kinds-apart byBytes v (volume-sound image ds) r b (k .0) m (k .1 ∙ sym (inode-left i n z .unowned b m e))
+
+  block-each : (i : ℕ) → (blockOf byBytes w i ≡ blockOf byBytes v i)
+      ⊎ (((r : Bytes) × (blockOf byBytes v i ≡ some r) × (blockDead byBytes v r ≡ true)) × (blockOf byBytes w i ≡ none))
+  unfolding blockDead
+  block-each i = ⊎-elim inl (λ x. go (blockOf byBytes v i) refl x) (left .each-block i)
+    where
+      go : (o : Option Bytes) → blockOf byBytes v i ≡ o → BlockDropped byBytes v w i → (blockOf byBytes w i ≡ blockOf byBytes v i)
+          ⊎ (((r : Bytes) × (blockOf byBytes v i ≡ some r) × (isDead (fateOf byBytes v (byBytes .owner r)) ≡ true)) × (blockOf byBytes w i ≡ none))
+      go none q x = inl (x .none-left ∙ sym q)
+      go (some r) q x = inr ((r, q, ap isDead (x .died r q)), x .none-left)
+
+  -- ---- the file areas
+
+  area-file : (d : Descriptor) → List·Memᴰ d (fileAreas image′ ds) ↔ ((d ≡ t) ⊎ (List·Memᴰ d (fileAreas image ds) × (d ≢ s)))
+  area-file d = (
+    (λ m. ⊎-elim inl (λ h. inr (h .0, h .1)) (c .files d m)),
+    ⊎-elim (λ e. rw e (c .now-file)) (λ h. c .still-files d (h .0) (h .1)),
+  )
+
+  clean-still : (d : Descriptor) → List·Memᴰ d (fileAreas image′ ds) → (d ≢ t → areaClean recordSize (areaBytes image d) ≡ true)
+      → areaClean recordSize (areaBytes image′ d) ≡ true
+  clean-still d m h = go (c .files d m)
+    where
+      go : (d ≡ t) ⊎ (List·Memᴰ d (fileAreas image ds) × (d ≢ s) × (d ≢ t)) → areaClean recordSize (areaBytes image′ d) ≡ true
+      go (inl e) = rw e (c .clean)
+      go (inr k) = ap (areaClean recordSize) (c .elsewhere d (file-listed image ds d (k .0)) (k .2) (k .1)) ∙ h (k .2)
 
   after-collect : AfterCollect image image′ ds
   after-collect = record {
@@ -291,16 +360,26 @@ module _ (image : Bytes) (ds : List Descriptor) (g : CollectGoes image ds) where
     lowest = from .2;
     now-file = c .now-file;
     takes-id = c .takes-id;
+    keeps-count = c .keeps-count;
+    filled = c .filled;
     copied = c .copied;
     clean = c .clean;
     now-scratch = scratch-now;
     emptied = c .emptied;
+    files = area-file;
+    elsewhere = c .elsewhere;
+    stays-clean = clean-still;
     one-length = c .one-length;
     outside = c .outside;
+    octets = c .octets;
     fewer = fewer;
     lives = λ i e. (stays-live byBytes v w left i e, kept-inode byBytes v w left i (λ q. live-not-dead (sym e ∙ q)));
     no-new-life = no-new-life byBytes v w left;
     inodes = each;
+    blocks = block-each;
+    unnamed = λ i n z b m e. let x = inode-left i n z in
+        ⊎-elim (λ k. x .unnamed b k e) (λ k. x .unowned b k e) (accepted-kind image ds b m);
+    unowned = not-owned;
     contents = kept-contents byBytes v w left;
     paths = same-paths;
     reads = same-reads;

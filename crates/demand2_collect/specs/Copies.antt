@@ -7,7 +7,7 @@ use mathlib.Core.Option.{Option, none, some}
 use mathlib.Core.List.{List, List·Memᴰ, Memᴰ·cast}
 use lib.Dec.{T-not}
 use Rattle.format.specs.Bytes.{Bytes}
-use Rattle.format.specs.Record.{recordSize, recordId}
+use Rattle.format.specs.Record.{recordSize, recordId, recordLink}
 use Rattle.format.specs.Reading.{areaRecords}
 use Rattle.volume.specs.View.{byBytes}
 use Rattle.volume.specs.Counting.{Volume, volumeOf, inodeOf, blockOf}
@@ -74,13 +74,18 @@ module _ (rs ss : List Bytes) (area : Bytes) (elsewhere bs : List Bytes) (m : Mo
       → InodeDropped byBytes v w i
   inode-dropped i r e out h = record {
     died = ap (fateOf byBytes v) (sym (own .1)) ∙ h .died;
-    unnamed = λ s n q. ⊎-elim (λ z. h .unnamed s z (q ∙ sym (own .1)) ∙ own .1) (λ z. absurd (h .unnamed-elsewhere s z (q ∙ sym (own .1))))
-        (m .was s (inode-in rs s n .0));
+    unnamed = λ s n. only-own s (inode-in rs s n .0);
+    unowned = λ s n. only-own s (block-in rs s n .0);
     none-left = counting-absent byBytes (w .inodes) i gone;
   }
     where
       own : List·Memᴰ r (v .inodes) × (recordId r ≡ i)
       own = counting-mem byBytes (v .inodes) i r e
+
+      -- no record but its own names it
+      only-own : (s : Bytes) → List·Memᴰ s rs → recordLink s ≡ i → recordId s ≡ i
+      only-own s n q =
+          ⊎-elim (λ z. h .unnamed s z (q ∙ sym (own .1)) ∙ own .1) (λ z. absurd (h .unnamed-elsewhere s z (q ∙ sym (own .1)))) (m .was s n)
 
       gone : (s : Bytes) → List·Memᴰ s (w .inodes) → recordId s ≢ i
       gone s n q = ⊎-elim again (λ z. h .none-elsewhere s z (q ∙ sym (own .1))) (m .is s (inode-in ss s n .0))

@@ -1,21 +1,26 @@
 -- Demand 2, whole: for any image and any area list, what each call leaves.
-use Prim.Native.Nat.{ℕ, _≤_}
-use mathlib.Core.Path.{_≡_}
-use mathlib.Core.Option.{some}
+use Prim.Native.Nat.{ℕ, _≤_, _<_}
+use mathlib.Core.Path.{_≡_, _∙_}
+use mathlib.Core.Logic.{_⊎_, inl, inr}
+use mathlib.Core.Option.{Option, some}
 use mathlib.Core.List.{List, [], List·Memᴰ}
+use native.Mathlib.Omega.{arith}
+use native.Mathlib.Decide.{ℕ-discrete}
 use Rattle.format.specs.Bytes.{Bytes}
 use Rattle.format.specs.Record.{recordId, recordSequence}
 use Rattle.format_laws.specs.Crc.{Octets}
 use Rattle.volume.specs.View.{byBytes}
 use Rattle.volume.specs.Counting.{counting, inodeOf, blockOf}
-use Rattle.volume_laws.specs.Counting.{counting-mem, counting-top}
-use Rattle.calls.specs.Mount.{volume}
+use Rattle.volume_laws.specs.Counting.{Agree, counting-mem, counting-top, counting-some, counting-is}
+use Rattle.calls.specs.Mount.{volume, mountNumber}
 use Rattle.calls.specs.Format.{formatNumber, imageFormatted}
 use Rattle.calls.specs.Create.{createOf, imageCreated}
 use Rattle.calls.specs.Append.{appendOf, imageAppended}
 use Rattle.calls.specs.Unlink.{unlinkOf, imageUnlinked}
 use Rattle.calls.specs.Collect.{collectOf, imageCollected}
 use Rattle.calls.specs.declared.Descriptor.{Descriptor}
+use Rattle.calls_laws.specs.Checks.{passes}
+use Rattle.demand2.specs.Mounted.{agreed-inodes, agreed-blocks}
 use Rattle.demand2.specs.Format.{AfterFormat, format}
 use Rattle.demand2.specs.Create.{AfterCreate, create}
 use Rattle.demand2.specs.Append.{AfterAppend, append, append-nothing}
@@ -29,13 +34,33 @@ pub record Greatest (rs : List Bytes) (i : ℕ) (r : Bytes) : Type 0 where
   pub own-id : recordId r ≡ i
   pub top : (s : Bytes) → List·Memᴰ s rs → recordId s ≡ i → recordSequence s ≤ recordSequence r
 
-greatest : (rs : List Bytes) (i : ℕ) (r : Bytes) → counting byBytes rs i ≡ some r → Greatest rs i r
-greatest rs i r e = let m = counting-mem byBytes rs i r e in record { there = m .0; own-id = m .1; top = counting-top byBytes rs i r e }
+-- c says of each id which of the records rs counts. The mount's number tells whether check 6 lets no two of one sequence stand.
+pub record GreatestCounts (mount : ℕ) (rs : List Bytes) (c : ℕ → Option Bytes) : Type 0 where
+  -- what counts is such a record, and where any record bears the id, one counts
+  pub greatest : (i : ℕ) (r : Bytes) → c i ≡ some r → Greatest rs i r
+  pub each : (r : Bytes) → List·Memᴰ r rs → (s : Bytes) × (c (recordId r) ≡ some s)
+  -- and of a volume that mounts exactly that record
+  pub exactly : mount ≡ 0 → (i : ℕ) (r : Bytes) → Greatest rs i r → c i ≡ some r
+
+greatest-counts : (mount : ℕ) (rs : List Bytes) → (mount ≡ 0 → Agree byBytes rs) → GreatestCounts mount rs (counting byBytes rs)
+greatest-counts mount rs agreed = record {
+  greatest = λ i r e. let m = counting-mem byBytes rs i r e in record { there = m .0; own-id = m .1; top = counting-top byBytes rs i r e };
+  each = counting-some byBytes rs;
+  exactly = sole;
+}
+  where
+    sole : mount ≡ 0 → (i : ℕ) (r : Bytes) → Greatest rs i r → counting byBytes rs i ≡ some r
+    sole z i r g = rw (← g .own-id) (counting-is byBytes rs r (g .there) (λ s m e. rival s m e (ℕ-discrete (recordSequence s) (recordSequence r))))
+      where
+        rival : (s : Bytes) → List·Memᴰ s rs → recordId s ≡ recordId r → Dec (recordSequence s ≡ recordSequence r)
+            → (s ≡ r) ⊎ (recordSequence s < recordSequence r)
+        rival s m e (yes q) = inl (agreed z s r m (g .there) e q)
+        rival s m e (no q) = inr (omega (arith, g .top s m (e ∙ g .own-id)))
 
 pub record Demand2 (image : Bytes) (ds : List Descriptor) : Type 0 where
   -- "for each object the greatest sequence number counts"
-  pub inodes : (i : ℕ) (r : Bytes) → inodeOf byBytes (volume image ds) i ≡ some r → Greatest (volume image ds .inodes) i r
-  pub blocks : (i : ℕ) (r : Bytes) → blockOf byBytes (volume image ds) i ≡ some r → Greatest (volume image ds .blocks) i r
+  pub inodes : GreatestCounts (mountNumber image ds) (volume image ds .inodes) (inodeOf byBytes (volume image ds))
+  pub blocks : GreatestCounts (mountNumber image ds) (volume image ds .blocks) (blockOf byBytes (volume image ds))
   -- "After an append the file reads as its old contents and then the new data. Creating, unlinking and collecting do what is written there,
   -- and everything else that could be reached by path reads as before": of each accepted call; names, data and image are bytes
   pub formats : formatNumber image ds ≡ 0 → AfterFormat image (imageFormatted image ds) ds
@@ -53,8 +78,8 @@ pub record Demand2 (image : Bytes) (ds : List Descriptor) : Type 0 where
 
 pub demand2 : (image : Bytes) (ds : List Descriptor) → Demand2 image ds
 demand2 image ds = record {
-  inodes = greatest (volume image ds .inodes);
-  blocks = greatest (volume image ds .blocks);
+  inodes = greatest-counts (mountNumber image ds) (volume image ds .inodes) (λ z. agreed-inodes image ds (passes image ds z));
+  blocks = greatest-counts (mountNumber image ds) (volume image ds .blocks) (λ z. agreed-blocks image ds (passes image ds z));
   formats = format image ds;
   creates = create image ds;
   appends = append image ds;

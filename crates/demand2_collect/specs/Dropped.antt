@@ -21,10 +21,11 @@ use Rattle.volume_laws.specs.Tree.{lookup-same}
 use Rattle.volume_laws.specs.Contents.{blocks-same}
 
 module _ {A : Type 0} (F : View A) where
-  -- an inode id that is left out: it was dead, no record but its own names it as parent, and none of it is left
+  -- an inode id that is left out: it was dead, no record but its own names it as parent or owner, and none of it is left
   pub record InodeDropped (v w : Volume A) (i : ℕ) : Type 0 where
     pub died : fateOf F v i ≡ dead
     pub unnamed : (r : A) → List·Memᴰ r (v .inodes) → F .parent r ≡ i → F .id r ≡ i
+    pub unowned : (r : A) → List·Memᴰ r (v .blocks) → F .owner r ≡ i → F .id r ≡ i
     pub none-left : inodeOf F w i ≡ none
 
   -- a block id that is left out: its counting block's owner was dead, and none of it is left

@@ -4,16 +4,18 @@ use mathlib.Core.Path.{_≡_, refl, sym, ap, _∙_}
 use mathlib.Core.Logic.{_⊎_, inl, inr, _≢_}
 use mathlib.Core.Bool.{true, false, not}
 use mathlib.Core.Option.{Option, none, some}
-use mathlib.Core.List.{List, [], _∷_, List·Memᴰ, List·Memᴰ·eq-of-singleton, Memᴰ·cast, Memᴰ·map, Memᴰ·of-map}
+use mathlib.Core.List.{List, [], _∷_, _++_, List·Memᴰ, List·Memᴰ·head, List·Memᴰ·tail, List·Memᴰ·eq-of-singleton, Memᴰ·cast, Memᴰ·map, Memᴰ·of-map}
 use native.Mathlib.Omega.{arith}
-use lib.ListN.{length, drop}
-use lib.Seq.{drop-at}
+use lib.ListN.{length, take, drop, length-append, List·getD-append}
+use lib.Seq.{drop-at, length-take-le, getD-take}
 use lib.Dec.{T, eqb, eqb-refl, T-not}
 use borrow.Author.Tests.{eqb-true}
 use Rattle.format.specs.Bytes.{Bytes, byteAt}
-use Rattle.format.specs.AreaHeader.{areaHeaderSize, areaId, scratchId, validHeader, isFileArea, isScratch}
+use Rattle.format.specs.AreaHeader.{areaHeaderSize, areaId, collectionCount, scratchId, validHeader, isFileArea, isScratch}
 use Rattle.format.specs.Record.{recordSize}
 use Rattle.format.specs.Reading.{Placed, areaClean}
+use Rattle.format_laws.specs.Crc.{Octets}
+use Rattle.format_laws.specs.Encoding.{octets-none, octets-cons}
 use Rattle.format_laws.specs.Reading.{records-lawful}
 use Rattle.volume.specs.Lists.{keep}
 use Rattle.volume_laws.specs.Tests.{true→T, T→true, not-T→false, and-T, not-is-false, or-is-false, T-other}
@@ -38,7 +40,8 @@ use Rattle.collect_laws.specs.Stores.{filledScratch, filled-long}
 use Rattle.collect_laws.specs.Mounted.{scratch-is, file-is, copied-survive, copied-fit, collected-is}
 use Rattle.demand2.specs.Store.{same-area, area-length}
 use Rattle.demand2.specs.Places.{area-lengths}
-use Rattle.demand2.specs.Format.{empty-length, empty-scratch}
+use Rattle.demand2.specs.Octet.{octets-take, octets-drop, octets-append, octets-erased, octets-put, record-octets}
+use Rattle.demand2.specs.Format.{empty-length, empty-scratch, octets-empty}
 use Rattle.demand2_collect.specs.Copies.{Moved}
 use Rattle.demand2_collect.specs.Filled.{reads-back}
 
@@ -93,14 +96,18 @@ pub record ImageCollected (image : Bytes) (ds : List Descriptor) (t s : Descript
   pub one-length : length (collected image ds t s) ≡ length image
   pub outside : (i : ℕ) → ¬ InArea t i → ¬ InArea s i → byteAt (collected image ds t s) i ≡ byteAt image i
   pub elsewhere : (d : Descriptor) → List·Memᴰ d ds → d ≢ t → d ≢ s → areaBytes (collected image ds t s) d ≡ areaBytes image d
-  -- the former scratch area
+  -- the former scratch area: its header with the source's id, the copies, and FF
+  pub filled : areaBytes (collected image ds t s) t
+      ≡ filledScratch image t (areaId (areaBytes image s)) (joinedBytes (copiedRecords image ds s))
   pub takes-id : areaId (areaBytes (collected image ds t s) t) ≡ areaId (areaBytes image s)
+  pub keeps-count : countOf (collected image ds t s) t ≡ countOf image t
   pub copied : bytesOf (recordsOf (collected image ds t s) t)
       ≡ copies (volume image ds) (bytesOf (recordsOf image s)) (recordsElsewhere image (fileAreas image ds) s)
   pub clean : areaClean recordSize (areaBytes (collected image ds t s) t) ≡ true
   pub now-file : List·Memᴰ t (fileAreas (collected image ds t s) ds)
   pub files : (d : Descriptor) → List·Memᴰ d (fileAreas (collected image ds t s) ds)
       → (d ≡ t) ⊎ (List·Memᴰ d (fileAreas image ds) × (d ≢ s) × (d ≢ t))
+  pub still-files : (d : Descriptor) → List·Memᴰ d (fileAreas image ds) → d ≢ s → List·Memᴰ d (fileAreas (collected image ds t s) ds)
   -- the former source
   pub emptied : areaBytes (collected image ds t s) s ≡ emptyArea (s .length) (nextCount (countOf image s)) scratchId
   pub now-scratch : List·Memᴰ s (scratchAreas (collected image ds t s) ds)
@@ -108,6 +115,7 @@ pub record ImageCollected (image : Bytes) (ds : List Descriptor) (t s : Descript
   -- the records
   pub moved : Moved (acceptedRecords image ds) (acceptedRecords (collected image ds t s) ds) (bytesOf (recordsOf image s))
       (recordsElsewhere image (fileAreas image ds) s) (copiedRecords image ds s)
+  pub octets : Octets image → Octets (collected image ds t s)
 
 module _ (image : Bytes) (ds : List Descriptor) (p : Passes image ds) (t s : Descriptor) (one-scratch : scratchAreas image ds ≡ t ∷ [])
     (source-is : sourceOf image (fileAreas image ds) t ≡ some s) where
@@ -221,6 +229,18 @@ module _ (image : Bytes) (ds : List Descriptor) (p : Passes image ds) (t s : Des
   takes-id : areaId (areaBytes image′ t) ≡ areaId (areaBytes image s)
   unfolding filledScratch
   takes-id = ap areaId scratch-bytes ∙ renamed-id (areaBytes image t) (areaId (areaBytes image s)) head-long _
+
+  -- and keeps its own count
+  keeps-count : countOf image′ t ≡ countOf image t
+  unfolding filledScratch headerWithId
+  keeps-count =
+      let front = take 23 (areaBytes image t) in
+      let l : length front ≡ 23 = length-take-le 23 (areaBytes image t) (omega (arith, head-long)) in
+      let id = areaId (areaBytes image s) in
+      ap collectionCount scratch-bytes
+      ∙ List·getD-append (front ++ (id ∷ [])) _ 0 21 (omega (arith, l, length-append front (id ∷ [])))
+      ∙ List·getD-append front (id ∷ []) 0 21 (omega (arith, l))
+      ∙ getD-take 23 (areaBytes image t) 21 0 (omega arith)
 
   now-file : isFileArea (t .length) (areaBytes image′ t) ≡ true
   unfolding filledScratch
@@ -360,18 +380,45 @@ module _ (image : Bytes) (ds : List Descriptor) (p : Passes image ds) (t s : Des
           let q : areaBytes image′ (r .area) ≡ areaBytes image (r .area) = other-bytes (r .area) (f .0) a n in
           in-area image′ (fileAreas image′ ds) (r .area) b (file-still (r .area) (k .0) n) (r .one) (rw q (r .taken-there)) (r .bytes-are)
 
+  -- bytes stay bytes
+  octets-joined : (bs : List Bytes) → ((b : Bytes) → List·Memᴰ b bs → Octets b) → Octets (joinedBytes bs)
+  unfolding joinedBytes
+  octets-joined [] h = octets-none
+  octets-joined (b ∷ bs) h = octets-append b (joinedBytes bs) (h b (List·Memᴰ·head refl)) (octets-joined bs (λ c m. h c (List·Memᴰ·tail m)))
+
+  octets-area : (d : Descriptor) → Octets image → Octets (areaBytes image d)
+  octets-area d o = octets-take (d .length) (drop (d .offset) image) (octets-drop (d .offset) image o)
+
+  octets-after : Octets image → Octets image′
+  unfolding filledScratch headerWithId nextCount
+  octets-after o =
+      let id-low : areaId (areaBytes image s) < 256
+      = octets-area s o .at 23 (omega (arith, area-length image s (fits s source-in .1), fits s source-in .0)) in
+      rw puts (octets-put image₁ (s .offset) emptied
+      (octets-put image (t .offset) filled o
+      (octets-append (headerWithId (areaBytes image t) (areaId (areaBytes image s))) _
+      (octets-append (take 23 (areaBytes image t)) _ (octets-take 23 (areaBytes image t) (octets-area t o)) (octets-cons _ id-low octets-none))
+      (octets-append (joinedBytes kept) _
+      (octets-joined kept (λ b m. record-octets image ds o b (moved .source-was b (copied-survive image ds s .from-source b m))))
+      (octets-erased (t .length - (areaHeaderSize + length (joinedBytes kept)))))))
+      (octets-empty (s .length) (nextCount (countOf image s)) scratchId (omega arith) (omega arith)))
+
   pub image-collected : ImageCollected image ds t s
   image-collected = record {
     one-length = one-length;
     outside = outside;
     elsewhere = other-bytes;
+    filled = scratch-bytes;
     takes-id = takes-id;
+    keeps-count = keeps-count;
     copied = read-copies;
     clean = clean-copies;
     now-file = scratch-file;
     files = file-after;
+    still-files = file-still;
     emptied = source-bytes;
     now-scratch = source-scratch;
     only-scratch = only-scratch;
     moved = moved;
+    octets = octets-after;
   }

@@ -1,0 +1,468 @@
+-- Each call's number is given exactly when the table says.
+use Prim.Native.Nat.{ℕ, suc, _+_, _≤_, _<_}
+use mathlib.Core.Path.{_≡_, refl, sym, ap, _∙_}
+use mathlib.Core.Logic.{_⊎_, inl, inr, _≢_, ⊎-elim}
+use mathlib.Core.Bool.{Bool, true, false, cond, not, _||_}
+use mathlib.Core.Option.{Option, none, some}
+use mathlib.Core.List.{List, [], _∷_, _++_, List·Memᴰ, List·Memᴰ·head, List·Memᴰ·tail, List·Memᴰ·cases-cons, List·Memᴰ·not-nil}
+use mathlib.Core.List.{List·Memᴰ·eq-of-singleton}
+use native.Mathlib.Omega.{arith}
+use native.Mathlib.Decide.{decLe}
+use lib.ListN.{length}
+use lib.Dec.{T, eqb, ltb, leb, eqb-refl, ltb→lt, not-T}
+use borrow.Author.Tests.{eqb-true, eqb-false, ltb-true, ltb-false, leb-true, leb-false}
+use Rattle.format.specs.Bytes.{Bytes}
+use Rattle.format.specs.Ids.{isDirectoryId}
+use Rattle.format.specs.Record.{recordSize}
+use Rattle.format.specs.Reading.{areaClean}
+use Rattle.volume.specs.Lists.{bind, keep, all}
+use Rattle.volume.specs.View.{byBytes}
+use Rattle.volume.specs.Counting.{Volume, inodeOf, inodeIds, blockIds}
+use Rattle.volume.specs.Fate.{Fate, live, dead, orphan, isLive, fateOf}
+use Rattle.volume.specs.Contents.{fileBlocks, textOf}
+use Rattle.volume.specs.Path.{goodPath, pathNames}
+use Rattle.volume.specs.Tree.{Found, found, absent, children, lookupNames}
+use Rattle.volume_laws.specs.Tests.{true→T, T→true, eqb-differ, or-is-false, not-is-false}
+use Rattle.volume_laws.specs.Lists.{mem-keep, mem-all}
+use Rattle.volume_laws.specs.Tree.{children-mem}
+use Rattle.calls.specs.Refusal.{firstRefusal}
+use Rattle.calls.specs.Mount.{mostInodes, mostBlocks, volume, badDescription, wrongAreas, mountNumber}
+use Rattle.calls.specs.Attempt.{Attempt, goes, refuses, numberOf, unless, atFound, attemptAt}
+use Rattle.calls.specs.Areas.{areaEnd, areaBytes, fileAreas, scratchAreas}
+use Rattle.calls.specs.Storing.{Space, Fit, Store, spaces, keepSpace, firstFit, prepend, placeAll, noPlace}
+use Rattle.calls.specs.Report.{mountedReport, refusedReport, reportOf}
+use Rattle.calls.specs.Lookup.{resolve, lookupAnswer, lookupOf, fileOnly, openAnswer, openOf}
+use Rattle.calls.specs.Read.{refused, giveBlocks, giveFile, give, readGiven, readAnswer}
+use Rattle.calls.specs.Format.{formatNumber}
+use Rattle.calls.specs.Create.{isRoot, lastName, namesBefore, newInode, createIn, creating, createOf}
+use Rattle.calls.specs.Append.{mostAppended, newBlocks, isBroken, appendTo, appending, appendOf}
+use Rattle.calls.specs.Rewrite.{lastSequence, sequenceOf, rewritePlan, rewriteNumber}
+use Rattle.calls.specs.Unlink.{deletion, unlinkOne, unlinking, unlinkOf}
+use Rattle.calls.specs.Collect.{eligible, countOf, precedes, firstLowest, sourceOf, collectFrom, collectWith, collecting, collectOf}
+use Rattle.calls.specs.declared.Descriptor.{Descriptor}
+use Rattle.calls_laws.specs.Checks.{passes}
+use Rattle.collect_laws.specs.Source.{source-found}
+use Rattle.demand2.specs.Store.{freePlace}
+use Rattle.demand1.specs.Table.{Row, _given-when_, Answers, mountRows, walkRows, pathRows, LiveChild, NoRoom, NoRoomLeft}
+use Rattle.demand1.specs.Table.{BadPath, brokenRow, endRow, sourceRow, formatRows, lookupRows, openRows, readRows, createRows, appendRows}
+use Rattle.demand1.specs.Table.{unlinkRows}
+use Rattle.demand1.specs.Table.{Exactly}
+use Rattle.demand1.specs.Stores.{fit-inside, space-of}
+use Rattle.demand1.specs.Paths.{named-names, path-means}
+use Rattle.demand1.specs.Walk.{child-means, child-listed, foundOr, walk-answers}
+use Rattle.demand1.specs.Mounting.{Means, ltb-means, eqb-means, is-means, fails-means, or-means, step, done, list-means, mount-answers}
+
+-- ---- rows one after the other
+
+-- no row has the number of success
+abbrev Refuse : List Row → Type 0
+Refuse [] = Unit {0}
+Refuse (r ∷ rs) = (r .number ≢ 0) × Refuse rs
+
+-- where the first rows refuse nothing, those behind them decide
+then-answers : (rs ss : List Row) (n m : ℕ) → Refuse rs → Answers rs n → (n ≡ 0 → Answers ss m) → Answers (rs ++ ss) (cond (eqb n 0) m n)
+unfolding Answers
+then-answers [] ss n m k a b = rw a (b a)
+then-answers (r ∷ rs) ss n m k (inl a) b = inl (a .0, rw (eqb-differ n 0 (λ z. k .0 (sym (a .1) ∙ z))) (a .1))
+then-answers (r ∷ rs) ss n m k (inr a) b = inr (a .0, then-answers rs ss n m (k .1) (a .1) b)
+
+module _ (image : Bytes) (ds : List Descriptor) where
+  -- "Every call but format makes checks 1 to 7"
+  pub mounted-answers : (ss : List Row) (m : ℕ) → (mountNumber image ds ≡ 0 → Answers ss m)
+      → Answers (mountRows image ds ++ ss) (cond (eqb (mountNumber image ds) 0) m (mountNumber image ds))
+  mounted-answers ss m =
+      then-answers (mountRows image ds) ss (mountNumber image ds) m (omega arith) (mount-answers image ds)
+
+-- a call at a path
+path-answers : (image : Bytes) (ds : List Descriptor) (bad : Bool) (w : Type 0) (ns : List Bytes) (rest : List Row) (m : ℕ → ℕ) → Means bad w
+    → ((i : ℕ) → lookupNames byBytes (volume image ds) ns ≡ found i → Answers rest (m i))
+    → Answers (pathRows image ds w ns rest)
+    (cond (eqb (mountNumber image ds) 0) (cond bad 8 (foundOr m (lookupNames byBytes (volume image ds) ns))) (mountNumber image ds))
+path-answers image ds bad w ns rest m k h =
+    mounted-answers image ds ((8 given-when w) ∷ (walkRows (volume image ds) ns ++ rest)) _
+    (λ z. step bad 8 _ w _ k (λ e. walk-answers (volume image ds) ns rest m h))
+
+-- ---- numbers as the checks give them
+
+unless-number : {A : Type 0} (r : ℕ) (t : Attempt A) → numberOf (unless r t) ≡ cond (eqb r 0) (numberOf t) r
+unless-number r t = go (eqb r 0)
+  where
+    go : (b : Bool) → numberOf (cond b t (refuses r)) ≡ cond b (numberOf t) r
+    go true = refl
+    go false = refl
+
+attempt-number : (mount : ℕ) (bad : Bool) (o : Found) (checks : ℕ → ℕ)
+    → numberOf (attemptAt mount bad o checks) ≡ cond (eqb mount 0) (cond bad 8 (foundOr checks o)) mount
+unfolding attemptAt
+attempt-number mount bad o checks =
+    unless-number mount (atFound checks (cond bad (absent 8) o)) ∙ ap (λ (n : ℕ). cond (eqb mount 0) n mount) (go bad o)
+  where
+    it : (n : ℕ) (i : ℕ) → numberOf (unless n (goes i)) ≡ n
+    it n i = go (eqb n 0) refl
+      where
+        go : (b : Bool) → eqb n 0 ≡ b → numberOf (cond b (goes i) (refuses n)) ≡ n
+        go true e = sym (eqb-true n 0 e)
+        go false e = refl
+
+    go : (b : Bool) (o : Found) → numberOf (atFound checks (cond b (absent 8) o)) ≡ cond b 8 (foundOr checks o)
+    go true o = refl
+    go false (found i) = it (checks i) i
+    go false (absent r) = refl
+
+resolve-number : (image : Bytes) (ds : List Descriptor) (base path : Bytes) (m : ℕ → ℕ) → foundOr m (resolve image ds base path)
+    ≡ cond (eqb (mountNumber image ds) 0)
+    (cond (not (goodPath base path)) 8 (foundOr m (lookupNames byBytes (volume image ds) (pathNames base path)))) (mountNumber image ds)
+unfolding resolve
+resolve-number image ds base path m = go (eqb (mountNumber image ds) 0) (goodPath base path)
+  where
+    go : (a b : Bool)
+        → foundOr m (cond a (cond b (lookupNames byBytes (volume image ds) (pathNames base path)) (absent 8)) (absent (mountNumber image ds)))
+        ≡ cond a (cond (not b) 8 (foundOr m (lookupNames byBytes (volume image ds) (pathNames base path)))) (mountNumber image ds)
+    go true true = refl
+    go true false = refl
+    go false b = refl
+
+-- ---- room
+
+-- no space has room exactly when nothing fits
+fit-none : (n : ℕ) (ss : List Space) → firstFit n ss ≡ none → (s : Space) → List·Memᴰ s ss → s .end < s .from + n
+unfolding firstFit
+fit-none n [] e s m = absurd (List·Memᴰ·not-nil m)
+fit-none n (u ∷ ss) e s m = go (leb (u .from + n) (u .end)) refl e (fit-none n ss)
+  where
+    rest : (o : Option Fit) → keepSpace u o ≡ none → o ≡ none
+    rest none e = refl
+    rest (some f) e = let z : _≡_ {A = ℕ} 0 1 = cc in absurd (omega arith)
+
+    go : (b : Bool) → leb (u .from + n) (u .end) ≡ b
+        → cond b (some (record { place = u .from; left = record { from = u .from + n; end = u .end } ∷ ss })) (keepSpace u (firstFit n ss)) ≡ none
+        → (firstFit n ss ≡ none → (s : Space) → List·Memᴰ s ss → s .end < s .from + n) → s .end < s .from + n
+    go true b e ih = let z : _≡_ {A = ℕ} 0 1 = cc in absurd (omega arith)
+    go false b e ih = ⊎-elim (λ q. rw q (leb-false (u .from + n) (u .end) b)) (ih (rest (firstFit n ss) e) s) (List·Memᴰ·cases-cons m)
+
+-- the free space of a clean file area is one of the spaces
+space-in : (image : Bytes) (fs : List Descriptor) (d : Descriptor) → List·Memᴰ d fs → areaClean recordSize (areaBytes image d) ≡ true
+    → List·Memᴰ (record { from = freePlace image d; end = areaEnd d }) (spaces image fs)
+unfolding spaces
+space-in image (e ∷ fs) d m c = go (areaClean recordSize (areaBytes image e)) refl (space-in image fs d)
+  where
+    go : (b : Bool) → areaClean recordSize (areaBytes image e) ≡ b
+        → (List·Memᴰ d fs → areaClean recordSize (areaBytes image d) ≡ true
+        → List·Memᴰ (record { from = freePlace image d; end = areaEnd d }) (spaces image fs))
+        → List·Memᴰ (record { from = freePlace image d; end = areaEnd d })
+        (cond b (record { from = freePlace image e; end = areaEnd e } ∷ spaces image fs) (spaces image fs))
+    go true q ih = ⊎-elim
+        (λ z. List·Memᴰ·head (ap (λ (x : Descriptor). record { from = freePlace image x; end = areaEnd x }) z))
+        (λ k. List·Memᴰ·tail (ih k c)) (List·Memᴰ·cases-cons m)
+    go false q ih = ⊎-elim (λ z. absurd (dirty z)) (λ k. ih k c) (List·Memᴰ·cases-cons m)
+      where
+        dirty : d ≡ e → ⊥
+        dirty z = let t : T (areaClean recordSize (areaBytes image e)) = rw z at (true→T c) in rw q at t
+
+-- "15: a record fits in no clean file area"
+room-means : (image : Bytes) (ds : List Descriptor) (b : Bytes)
+    → Means (noPlace (placeAll (spaces image (fileAreas image ds)) (b ∷ []))) (NoRoom image ds b)
+unfolding placeAll
+room-means image ds b = go (firstFit (length b) (spaces image (fileAreas image ds))) refl
+  where
+    placed : (f : Fit) → firstFit (length b) (spaces image (fileAreas image ds)) ≡ some f → ¬ NoRoom image ds b
+    placed f q h =
+        let i = fit-inside (length b) (spaces image (fileAreas image ds)) f q .0 in
+        let t = space-of image (fileAreas image ds) (i .0) (i .1) in
+        let from : i .0 .from ≡ freePlace image (t .0) = λ j. t .3 j .from in
+        let end : i .0 .end ≡ areaEnd (t .0) = λ j. t .3 j .end in
+        omega (arith, i .2 .behind, i .2 .before-end, h (t .0) (t .1) (t .2))
+
+    go : (o : Option Fit) → firstFit (length b) (spaces image (fileAreas image ds)) ≡ o
+        → Means (noPlace (bind o (λ f. prepend (record { place = f .place; bytes = b }) (some [])))) (NoRoom image ds b)
+    go none q = (
+      (λ e d m c. fit-none (length b) (spaces image (fileAreas image ds)) q (record { from = freePlace image d; end = areaEnd d })
+          (space-in image (fileAreas image ds) d m c)),
+      (λ e. let z : _≡_ {A = ℕ} 0 1 = cc in absurd (omega arith)),
+    )
+    go (some f) q = ((λ e. let z : _≡_ {A = ℕ} 0 1 = cc in absurd (omega arith)), (λ e. placed f q))
+
+-- and of several: "all pieces or none"
+place-means : (bs : List Bytes) (ss : List Space) → Means (noPlace (placeAll ss bs)) (NoRoomLeft ss bs)
+unfolding placeAll NoRoomLeft
+place-means [] ss = ((λ e. let z : _≡_ {A = ℕ} 0 1 = cc in absurd (omega arith)), (λ e n. n))
+place-means (b ∷ bs) ss = go (firstFit (length b) ss) refl (place-means bs)
+  where
+    same-place : (s : Store) (o : Option (List Store)) → noPlace (prepend s o) ≡ noPlace o
+    same-place s none = refl
+    same-place s (some l) = refl
+
+    roomy : (f : Fit) → firstFit (length b) ss ≡ some f → ((s : Space) → List·Memᴰ s ss → s .end < s .from + length b) → ⊥
+    roomy f q h = let i = fit-inside (length b) ss f q .0 in omega (arith, i .2 .behind, i .2 .before-end, h (i .0) (i .1))
+
+    go : (o : Option Fit) → firstFit (length b) ss ≡ o → ((ss : List Space) → Means (noPlace (placeAll ss bs)) (NoRoomLeft ss bs))
+        → Means (noPlace (bind o (λ f. prepend (record { place = f .place; bytes = b }) (placeAll (f .left) bs))))
+        (((s : Space) → List·Memᴰ s ss → s .end < s .from + length b) ⊎ ((f : Fit) × (firstFit (length b) ss ≡ some f) × NoRoomLeft (f .left) bs))
+    go none q ih = (
+      (λ e. inl (fit-none (length b) ss q)),
+      (λ e. let z : _≡_ {A = ℕ} 0 1 = cc in absurd (omega arith)),
+    )
+    go (some f) q ih =
+        let p = same-place (record { place = f .place; bytes = b }) (placeAll (f .left) bs) in (
+          (λ e. inr (f, q, ih (f .left) .0 (sym p ∙ e))),
+          (λ e. ⊎-elim (roomy f q) (λ x.
+              let y : _≡_ {A = Option Fit} (some (x .0)) (some f) = sym (x .1) ∙ q in
+              let w : x .0 ≡ f = cc in
+              ih (f .left) .1 (sym p ∙ e) (rw w at (x .2)))),
+        )
+
+-- ---- single tests
+
+none-some : {A : Type 0} {a : A} → none ≡ some a → ⊥
+none-some e = let z : _≡_ {A = ℕ} 0 1 = cc in omega arith
+
+root-means : (ns : List Bytes) → Means (isRoot ns) (ns ≡ [])
+root-means [] = ((λ e. refl), (λ e z. eqb-false 0 0 e refl))
+root-means (n ∷ ns) = (
+  (λ e. absurd (omega (arith, eqb-true (suc (length ns)) 0 e))),
+  (λ e z. let y : length (n ∷ ns) ≡ 0 = ap length z in omega arith),
+)
+
+broken-means : (o : Option (List Bytes)) → Means (isBroken o) (o ≡ none)
+broken-means none = ((λ e. refl), (λ e. let z : _≡_ {A = ℕ} 0 1 = cc in absurd (omega arith)))
+broken-means (some bs) = ((λ e. let z : _≡_ {A = ℕ} 0 1 = cc in absurd (omega arith)), (λ e z. none-some (sym z)))
+
+live-means : (f : Fate) → Means (not (isLive f)) (f ≢ live)
+live-means live = ((λ e. let z : _≡_ {A = ℕ} 0 1 = cc in absurd (omega arith)), (λ e n. n refl))
+live-means dead = ((λ e z. let y : _≡_ {A = ℕ} 0 1 = cc in omega arith), (λ e. let z : _≡_ {A = ℕ} 0 1 = cc in absurd (omega arith)))
+live-means orphan = ((λ e z. let y : _≡_ {A = ℕ} 0 1 = cc in omega arith), (λ e. let z : _≡_ {A = ℕ} 0 1 = cc in absurd (omega arith)))
+
+-- "12: create: the name is there (once or oftener)"
+name-means : (v : Volume Bytes) (d : ℕ) (n : Bytes) → Means (ltb 0 (length (children byBytes v d n))) ((i : ℕ) × LiveChild v d n i)
+name-means v d n = go (children byBytes v d n) (λ i m. child-means v d n i .0 (T→true (children-mem byBytes v d n i m))) (child-listed v d n)
+  where
+    go : (l : List ℕ) → ((i : ℕ) → List·Memᴰ i l → LiveChild v d n i) → ((i : ℕ) → LiveChild v d n i → List·Memᴰ i l)
+        → Means (ltb 0 (length l)) ((i : ℕ) × LiveChild v d n i)
+    go [] f g = ((λ e. absurd (omega (arith, ltb-true 0 0 e))), (λ e p. List·Memᴰ·not-nil (g (p .0) (p .1))))
+    go (i ∷ l) f g = ((λ e. (i, f i (List·Memᴰ·head refl))), (λ e p. omega (arith, ltb-false 0 (suc (length l)) e)))
+
+-- ---- 17
+
+-- of some areas one has the lowest count
+lowest-count : (image : Bytes) (es : List Descriptor) (d : Descriptor) → List·Memᴰ d es
+    → (s : Descriptor) × List·Memᴰ s es × ((e : Descriptor) → List·Memᴰ e es → countOf image s ≤ countOf image e)
+lowest-count image (d ∷ []) e m = (d, List·Memᴰ·head refl, λ x k. rw (List·Memᴰ·eq-of-singleton k) (omega arith))
+lowest-count image (d ∷ f ∷ es) e m = go (lowest-count image (f ∷ es) f (List·Memᴰ·head refl))
+  where
+    go : (s : Descriptor) × List·Memᴰ s (f ∷ es) × ((e : Descriptor) → List·Memᴰ e (f ∷ es) → countOf image s ≤ countOf image e)
+        → (s : Descriptor) × List·Memᴰ s (d ∷ f ∷ es) × ((e : Descriptor) → List·Memᴰ e (d ∷ f ∷ es) → countOf image s ≤ countOf image e)
+    go t = at (decLe (countOf image d) (countOf image (t .0)))
+      where
+        same : (x y : Descriptor) → x ≡ y → countOf image y ≤ countOf image x
+        same x y q = rw q (omega arith)
+
+        at : Dec (countOf image d ≤ countOf image (t .0))
+            → (s : Descriptor) × List·Memᴰ s (d ∷ f ∷ es) × ((e : Descriptor) → List·Memᴰ e (d ∷ f ∷ es) → countOf image s ≤ countOf image e)
+        at (yes l) = (d, List·Memᴰ·head refl, λ x k. ⊎-elim (same x d) (λ k. omega (arith, t .2 x k)) (List·Memᴰ·cases-cons k))
+        at (no l) = (t .0, List·Memᴰ·tail (t .1), λ x k. ⊎-elim (λ q. omega (arith, same x d q)) (t .2 x) (List·Memᴰ·cases-cons k))
+
+none-lowest : (image : Bytes) (es ds : List Descriptor) → firstLowest image es ds ≡ none → (s : Descriptor) → List·Memᴰ s ds
+    → all (λ e. not (precedes (countOf image e) (countOf image s))) es ≡ false
+unfolding firstLowest
+none-lowest image es [] q s m = absurd (List·Memᴰ·not-nil m)
+none-lowest image es (d ∷ ds) q s m = go (all (λ e. not (precedes (countOf image e) (countOf image d))) es) refl q (none-lowest image es ds)
+  where
+    go : (b : Bool) → all (λ e. not (precedes (countOf image e) (countOf image d))) es ≡ b → cond b (some d) (firstLowest image es ds) ≡ none
+        → (firstLowest image es ds ≡ none → (s : Descriptor) → List·Memᴰ s ds
+        → all (λ e. not (precedes (countOf image e) (countOf image s))) es ≡ false)
+        → all (λ e. not (precedes (countOf image e) (countOf image s))) es ≡ false
+    go true a q ih = absurd (none-some (sym q))
+    go false a q ih = ⊎-elim (λ z. rw z a) (ih q s) (List·Memᴰ·cases-cons m)
+
+-- a source is found where a file area is as long as scratch
+source-none : (image : Bytes) (fs : List Descriptor) (t : Descriptor) → sourceOf image fs t ≡ none → (f : Descriptor) → List·Memᴰ f fs
+    → f .length ≢ t .length
+unfolding sourceOf eligible precedes
+source-none image fs t q f m z =
+    let es = keep (λ d. eqb (d .length) (t .length)) fs in
+    let k : List·Memᴰ f es = mem-keep (λ d. eqb (d .length) (t .length)) fs m (rw z (eqb-refl (t .length))) in
+    let s = lowest-count image es f k in
+    let n = none-lowest image es es q (s .0) (s .1) in
+    let a = mem-all (λ e. not (ltb (countOf image e) (countOf image (s .0)))) es
+    (λ e k. not-T (ltb (countOf image e) (countOf image (s .0)))
+    (λ t. let l = ltb→lt (countOf image e) (countOf image (s .0)) t in omega (arith, s .2 e k))) in
+    rw n at a
+
+module _ (image : Bytes) (ds : List Descriptor) where
+  collect-answers : mountNumber image ds ≡ 0
+      → Answers (sourceRow (fileAreas image ds) (scratchAreas image ds) ∷ [])
+      (numberOf (collectWith image (fileAreas image ds) (scratchAreas image ds)))
+  unfolding Answers wrongAreas
+  collect-answers z =
+      let o = or-is-false (eqb (length (fileAreas image ds)) 0) (not (eqb (length (scratchAreas image ds)) 1)) (passes image ds z .areas) in
+      let n = eqb-true (length (scratchAreas image ds)) 1 (not-is-false (eqb (length (scratchAreas image ds)) 1) (o .1)) in
+      go (scratchAreas image ds) n
+    where
+      go : (ss : List Descriptor) → length ss ≡ 1
+          → Answers (sourceRow (fileAreas image ds) ss ∷ [])
+          (numberOf (collectWith image (fileAreas image ds) ss))
+      go [] n = absurd (omega arith)
+      go (t ∷ u ∷ ss) n = absurd (omega arith)
+      go (t ∷ []) n = at (sourceOf image (fileAreas image ds) t) refl
+        where
+          at : (o : Option Descriptor) → sourceOf image (fileAreas image ds) t ≡ o
+              → Answers (sourceRow (fileAreas image ds) (t ∷ []) ∷ [])
+              (numberOf (collectFrom t o))
+          at none q = inl ((λ s f m k. rw (List·Memᴰ·eq-of-singleton m) (source-none image (fileAreas image ds) t q f k)), refl)
+          at (some s) q =
+              let c = source-found image (fileAreas image ds) t s q in
+              inr ((λ h. h t s (List·Memᴰ·head refl) (c .0) (c .1)), refl)
+
+  file-answers : (id position room : ℕ)
+      → Answers (brokenRow (volume image ds) id ∷ endRow (volume image ds) id position ∷ [])
+      (readAnswer (giveFile (fileBlocks byBytes (volume image ds) id) position room) .number)
+  unfolding Answers giveBlocks
+  file-answers id position room = go (fileBlocks byBytes (volume image ds) id) refl
+    where
+      go : (o : Option (List Bytes)) → fileBlocks byBytes (volume image ds) id ≡ o
+          → Answers (brokenRow (volume image ds) id ∷ endRow (volume image ds) id position ∷ [])
+          (readAnswer (giveFile o position room) .number)
+      go none q = inl (q, refl)
+      go (some bs) q = inr ((λ z. none-some (sym z ∙ q)), at (leb position (length (textOf byBytes bs))) refl)
+        where
+          at : (b : Bool) → leb position (length (textOf byBytes bs)) ≡ b
+              → Answers (endRow (volume image ds) id position ∷ [])
+              (readAnswer (cond b (giveBlocks bs position room) (refused 14)) .number)
+          at true e = inr (
+            (λ p. let z : _≡_ {A = Option (List Bytes)} (some (p .0)) (some bs) = sym (p .1) ∙ q in
+                let y : p .0 ≡ bs = cc in
+                omega (arith, leb-true position (length (textOf byBytes bs)) e, p .2, ap (λ (l : List Bytes). length (textOf byBytes l)) y)),
+            refl,
+          )
+          at false e = inl ((bs, q, omega (arith, leb-false position (length (textOf byBytes bs)) e)), refl)
+
+  give-number : (id position room : ℕ) → readAnswer (give (volume image ds) id position room) .number
+      ≡ cond (not (isLive (fateOf byBytes (volume image ds) id))) 9 (cond (isDirectoryId id) 11
+      (readAnswer (giveFile (fileBlocks byBytes (volume image ds) id) position room) .number))
+  unfolding give
+  give-number id position room = go (isLive (fateOf byBytes (volume image ds) id)) (isDirectoryId id)
+    where
+      go : (a b : Bool)
+          → readAnswer (cond a (cond b (refused 11) (giveFile (fileBlocks byBytes (volume image ds) id) position room)) (refused 9)) .number
+          ≡ cond (not a) 9 (cond b 11 (readAnswer (giveFile (fileBlocks byBytes (volume image ds) id) position room) .number))
+      go true true = refl
+      go true false = refl
+      go false b = refl
+
+  read-number : (id position room : ℕ) → readAnswer (readGiven image ds id position room) .number
+      ≡ cond (eqb (mountNumber image ds) 0) (readAnswer (give (volume image ds) id position room) .number) (mountNumber image ds)
+  unfolding readGiven
+  read-number id position room = go (eqb (mountNumber image ds) 0)
+    where
+      go : (b : Bool) → readAnswer (cond b (give (volume image ds) id position room) (refused (mountNumber image ds))) .number
+          ≡ cond b (readAnswer (give (volume image ds) id position room) .number) (mountNumber image ds)
+      go true = refl
+      go false = refl
+
+  report-number : reportOf image ds .number ≡ mountNumber image ds
+  unfolding reportOf mountedReport
+  report-number = go (eqb (mountNumber image ds) 0) refl
+    where
+      go : (b : Bool) → eqb (mountNumber image ds) 0 ≡ b
+          → cond b (mountedReport image ds) (refusedReport (mountNumber image ds)) .number ≡ mountNumber image ds
+      go true e = sym (eqb-true (mountNumber image ds) 0 e)
+      go false e = refl
+
+  looked-up : (o : Found) → lookupAnswer o .number ≡ foundOr (λ i. 0) o
+  looked-up (found i) = refl
+  looked-up (absent r) = refl
+
+  opened : (o : Found) → openAnswer (fileOnly o) .number ≡ foundOr (λ i. cond (isDirectoryId i) 11 0) o
+  opened (found i) = go (isDirectoryId i)
+    where
+      go : (b : Bool) → openAnswer (cond b (absent 11) (found i)) .number ≡ cond b 11 0
+      go true = refl
+      go false = refl
+  opened (absent r) = refl
+
+  -- ---- the calls
+
+  abbrev v : Volume Bytes
+  v = volume image ds
+
+  format-answers : Answers (formatRows image ds) (formatNumber image ds)
+  unfolding formatNumber firstRefusal
+  format-answers =
+      step (badDescription image ds) 1 _ _ _ (list-means image ds)
+      (λ e. step (ltb (length ds) 2) 3 0 _ [] (ltb-means (length ds) 2) (λ e. done))
+
+  read-answers : (id position room : ℕ) → Answers (readRows image ds id position) (readAnswer (readGiven image ds id position room) .number)
+  read-answers id position room =
+      rw (read-number id position room) (mounted-answers image ds _ _ (λ z. rw (give-number id position room)
+      (step (not (isLive (fateOf byBytes v id))) 9 _ _ _ (live-means (fateOf byBytes v id)) (λ e.
+      step (isDirectoryId id) 11 _ _ _ (is-means (isDirectoryId id)) (λ e. file-answers id position room)))))
+
+  module _ (base path : Bytes) where
+    abbrev names : List Bytes
+    names = pathNames base path
+
+    abbrev bad : Bool
+    bad = not (goodPath base path)
+
+    -- "bad path or name; .. creating or unlinking the root"
+    named-means : Means (bad || isRoot names) (BadPath base path ⊎ (names ≡ []))
+    named-means = or-means bad (isRoot names) (path-means base path) (root-means names)
+
+    lookup-answers : Answers (lookupRows image ds base path) (lookupOf image ds base path .number)
+    unfolding lookupOf
+    lookup-answers = rw (looked-up (resolve image ds base path), resolve-number image ds base path (λ i. 0))
+        (path-answers image ds bad _ names [] (λ i. 0) (path-means base path) (λ i q. done))
+
+    open-answers : Answers (openRows image ds base path) (openOf image ds base path .number)
+    unfolding openOf
+    open-answers = rw (opened (resolve image ds base path), resolve-number image ds base path (λ i. cond (isDirectoryId i) 11 0))
+        (path-answers image ds bad _ names _ (λ i. cond (isDirectoryId i) 11 0) (path-means base path)
+        (λ i q. step (isDirectoryId i) 11 0 _ [] (rw q (is-means (isDirectoryId i))) (λ e. done)))
+
+    create-answers : (kind : ℕ) → Answers (createRows image ds base path kind) (createOf image ds base path kind .number)
+    unfolding createOf creating createIn firstRefusal
+    create-answers kind = rw (attempt-number (mountNumber image ds) (bad || isRoot names) (lookupNames byBytes v (namesBefore names))
+        (λ d. createIn image ds kind d (lastName names)))
+        (path-answers image ds (bad || isRoot names) _ (namesBefore names) _ _ named-means (λ d q.
+        let b = newInode v kind d (lastName names) in
+        step (not (isDirectoryId d)) 11 _ _ _ (rw q (fails-means (isDirectoryId d))) (λ e.
+        step (ltb 0 (length (children byBytes v d (lastName names)))) 12 _ _ _ (rw q (name-means v d (lastName names))) (λ e.
+        step (ltb mostInodes (suc (length (inodeIds byBytes v)))) 5 _ _ _ (ltb-means mostInodes _) (λ e.
+        step (noPlace (placeAll (spaces image (fileAreas image ds)) (b ∷ []))) 15 0 _ [] (rw q (room-means image ds b)) (λ e. done))))))
+
+    append-answers : (text : Bytes) → Answers (appendRows image ds base path text) (appendOf image ds base path text)
+    unfolding appendOf appending appendTo firstRefusal
+    append-answers text = rw (attempt-number (mountNumber image ds) (bad || ltb mostAppended (length text)) (lookupNames byBytes v names)
+        (λ f. appendTo image ds f text))
+        (path-answers image ds (bad || ltb mostAppended (length text)) _ names _ _
+        (or-means bad (ltb mostAppended (length text)) (path-means base path) (ltb-means mostAppended (length text))) (λ f q.
+        let ss = spaces image (fileAreas image ds) in
+        let bs = newBlocks image ds f text in
+        step (isDirectoryId f) 11 _ _ _ (rw q (is-means (isDirectoryId f))) (λ e.
+        step (isBroken (fileBlocks byBytes v f)) 13 _ _ _ (rw q (broken-means (fileBlocks byBytes v f))) (λ e.
+        step (ltb mostBlocks (length (blockIds byBytes v) + length (newBlocks image ds f text))) 5 _ _ _ (rw q (ltb-means mostBlocks _)) (λ e.
+        step (noPlace (placeAll ss bs)) 15 0 _ [] (rw q (place-means bs ss)) (λ e. done))))))
+
+    unlink-answers : Answers (unlinkRows image ds base path) (unlinkOf image ds base path)
+    unfolding unlinkOf unlinking unlinkOne rewriteNumber rewritePlan deletion firstRefusal
+    unlink-answers = rw (attempt-number (mountNumber image ds) (bad || isRoot names) (lookupNames byBytes v names) (unlinkOne image ds))
+        (path-answers image ds (bad || isRoot names) _ names _ _ named-means (λ i q.
+        let b = deletion v i in
+        step (eqb (sequenceOf (inodeOf byBytes v i)) lastSequence) 16 _ _ _ (rw q (eqb-means _ lastSequence)) (λ e.
+        step (noPlace (placeAll (spaces image (fileAreas image ds)) (b ∷ []))) 15 0 _ [] (rw q (room-means image ds b)) (λ e. done))))
+
+  pub exactly : Exactly image ds
+  unfolding collectOf collecting
+  exactly = record {
+    names = named-names;
+    format = format-answers;
+    report = rw report-number (mount-answers image ds);
+    lookup = lookup-answers;
+    opened = open-answers;
+    read = read-answers;
+    create = create-answers;
+    append = append-answers;
+    unlink = unlink-answers;
+    collect = rw (unless-number (mountNumber image ds) (collectWith image (fileAreas image ds) (scratchAreas image ds)))
+        (mounted-answers image ds _ _ collect-answers);
+  }

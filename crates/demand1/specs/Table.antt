@@ -1,0 +1,264 @@
+-- The table of document 01, "Numbers of refusal, in order of check", in its words: for each call the rows that it asks, in order.
+use Prim.Native.Nat.{ℕ, suc, _+_, _≤_, _<_}
+use mathlib.Core.Path.{_≡_}
+use mathlib.Core.Logic.{_⊎_, _≢_}
+use mathlib.Core.Bool.{true, false}
+use mathlib.Core.Option.{none, some}
+use mathlib.Core.List.{List, [], _∷_, _++_, List·Memᴰ}
+use lib.ListN.{length}
+use Rattle.format.specs.Bytes.{Bytes}
+use Rattle.format.specs.Ids.{rootId, isDirectoryId}
+use Rattle.format.specs.AreaHeader.{areaId}
+use Rattle.format.specs.Record.{recordSize, recordId, recordSequence}
+use Rattle.format.specs.Reading.{areaClean}
+use Rattle.volume.specs.View.{byBytes}
+use Rattle.volume.specs.Counting.{Volume, inodeOf, inodeIds, blockIds}
+use Rattle.volume.specs.Fate.{live, fateOf}
+use Rattle.volume.specs.Contents.{fileBlocks, textOf}
+use Rattle.volume.specs.Path.{SLASH, pathNames}
+use Rattle.volume.specs.Tree.{Found, found, absent, lookupNames}
+use Rattle.calls.specs.Areas.{areaEnd, areaBytes, fileAreas, scratchAreas}
+use Rattle.calls.specs.Mount.{acceptedRecords, volume}
+use Rattle.calls.specs.Storing.{Space, Fit, spaces, firstFit}
+use Rattle.calls.specs.Create.{lastName, namesBefore, newInode, createOf}
+use Rattle.calls.specs.Append.{newBlocks, appendOf}
+use Rattle.calls.specs.Rewrite.{sequenceOf}
+use Rattle.calls.specs.Unlink.{deletion, unlinkOf}
+use Rattle.calls.specs.Format.{formatNumber}
+use Rattle.calls.specs.Report.{reportOf}
+use Rattle.calls.specs.Lookup.{lookupOf, openOf}
+use Rattle.calls.specs.Read.{readGiven, readAnswer}
+use Rattle.calls.specs.Collect.{collectOf}
+use Rattle.calls.specs.declared.Descriptor.{Descriptor}
+use Rattle.calls_laws.specs.Checks.{InArea}
+use Rattle.demand2.specs.Store.{freePlace}
+
+-- a row: a number, and when it is given
+pub record Row : Type 1 where
+  pub number : ℕ
+  pub holds : Type 0
+
+infix 4 _given-when_
+abbrev pub _given-when_ : ℕ → Type 0 → Row
+_given-when_ n w = record { number = n; holds = w }
+
+-- "Given exactly when", "in order of check": n is the number of the first row that holds, and 0 where none does
+unfoldable pub Answers : List Row → ℕ → Type 0
+Answers [] n = n ≡ 0
+Answers (r ∷ rs) n = ((r .holds) × (n ≡ r .number)) ⊎ ((¬ r .holds) × Answers rs n)
+
+-- ---- 1 to 7
+
+-- "no two overlapping": no byte is in two of them
+abbrev pub NoOverlap : List Descriptor → Type 0
+NoOverlap [] = Unit {0}
+NoOverlap (d ∷ l) = ((e : Descriptor) → List·Memᴰ e l → (i : ℕ) → InArea d i → ¬ InArea e i) × NoOverlap l
+
+-- "Good: 1 to 8 entries, each length 128 to 65,536, each wholly inside the image, no two overlapping"
+pub record GoodList (size : ℕ) (ds : List Descriptor) : Type 0 where
+  pub entries : (1 ≤ length ds) × (length ds ≤ 8)
+  pub each : (d : Descriptor) → List·Memᴰ d ds → (128 ≤ d .length) × (d .length ≤ 65536) × (areaEnd d ≤ size)
+  pub apart : NoOverlap ds
+
+-- "1: image over 65,536 bytes or descriptors not good"
+abbrev pub listRow : Bytes → List Descriptor → Row
+listRow image ds = 1 given-when ((65536 < length image) ⊎ (¬ GoodList (length image) ds))
+
+abbrev pub mountRows : Bytes → List Descriptor → List Row
+mountRows image ds =
+    listRow image ds
+    -- "two file areas have one id"
+    ∷ (2 given-when ((d e : Descriptor) × List·Memᴰ d (fileAreas image ds) × List·Memᴰ e (fileAreas image ds) × (d ≢ e)
+    × (areaId (areaBytes image d) ≡ areaId (areaBytes image e))))
+    -- "no file area, or not exactly one scratch area"
+    ∷ (3 given-when ((length (fileAreas image ds) ≡ 0) ⊎ (length (scratchAreas image ds) ≢ 1)))
+    -- "scratch shorter than a file area"
+    ∷ (4 given-when ((s f : Descriptor) × List·Memᴰ s (scratchAreas image ds) × List·Memᴰ f (fileAreas image ds) × (s .length < f .length)))
+    -- "more than 64 inode ids or 256 block ids in accepted records"
+    ∷ (5 given-when ((64 < length (inodeIds byBytes (volume image ds))) ⊎ (256 < length (blockIds byBytes (volume image ds)))))
+    -- "two records of one id, same sequence, different bytes"
+    ∷ (6 given-when ((r s : Bytes) × List·Memᴰ r (acceptedRecords image ds) × List·Memᴰ s (acceptedRecords image ds) × (recordId r ≡ recordId s)
+    × (recordSequence r ≡ recordSequence s) × (r ≢ s)))
+    -- "no record of id 0"
+    ∷ (7 given-when ((r : Bytes) → List·Memᴰ r (volume image ds .inodes) → recordId r ≢ rootId))
+    ∷ []
+
+-- ---- 8: bad paths
+
+-- names "parted by single slashes, none at the end"
+unfoldable pub parted : List Bytes → Bytes
+parted [] = []
+parted (n ∷ []) = n
+parted (n ∷ m ∷ ns) = n ++ (SLASH ∷ parted (m ∷ ns))
+
+-- "names of 1 to 255 bytes, .. no NUL"; a slash parts two
+pub record IsName (n : Bytes) : Type 0 where
+  pub size : (1 ≤ length n) × (length n ≤ 255)
+  pub no-slash : ¬ List·Memᴰ SLASH n
+  pub no-nul : ¬ List·Memᴰ 0 n
+
+-- an absolute path of these names: "'/' is the root. Otherwise names .."; "1 to 1,024 bytes"
+pub record Absolute (p : Bytes) (ns : List Bytes) : Type 0 where
+  pub short : length p ≤ 1024
+  pub spelt : p ≡ SLASH ∷ parted ns
+  pub named : (n : Bytes) → List·Memᴰ n ns → IsName n
+
+-- and one "without a leading slash"
+pub record Relative (p : Bytes) (ns : List Bytes) : Type 0 where
+  pub short : length p ≤ 1024
+  pub spelt : p ≡ parted ns
+  pub some-name : ns ≢ []
+  pub named : (n : Bytes) → List·Memᴰ n ns → IsName n
+
+-- a good path of these names: "A path without a leading slash is taken below a base path lent beside it, which must then be a good absolute path;
+-- else the base isn't looked at"
+abbrev pub Named : Bytes → Bytes → List Bytes → Type 0
+Named base p ns = Absolute p ns ⊎ ((bs rs : List Bytes) × Absolute base bs × Relative p rs × (ns ≡ bs ++ rs))
+
+-- "8: bad path or name"
+abbrev pub BadPath : Bytes → Bytes → Type 0
+BadPath base p = ¬ ((ns : List Bytes) × Named base p ns)
+
+-- ---- 9 to 11: a walk
+
+-- a walk along names fails at a name that is looked for in an inode, to which the names before it lead
+pub record FailsAt (v : Volume Bytes) (ns : List Bytes) (why : ℕ → Bytes → Type 0) : Type 0 where
+  pub before : List Bytes
+  pub name : Bytes
+  pub behind : List Bytes
+  pub split : ns ≡ before ++ (name ∷ behind)
+  pub inode : ℕ
+  pub led : lookupNames byBytes v before ≡ found inode
+  pub fails : why inode name
+
+-- i is a live child of d, of the name n
+pub record LiveChild (v : Volume Bytes) (d : ℕ) (n : Bytes) (i : ℕ) : Type 0 where
+  pub counted : Bytes
+  pub counts : inodeOf byBytes v i ≡ some counted
+  pub parent-is : byBytes .parent counted ≡ d
+  pub name-is : byBytes .name counted ≡ n
+  pub lives : fateOf byBytes v i ≡ live
+
+-- "no such child"
+abbrev pub NoChild : Volume Bytes → ℕ → Bytes → Type 0
+NoChild v d n = (isDirectoryId d ≡ true) × ((i : ℕ) → ¬ LiveChild v d n i)
+
+-- "two or more live children of that name"
+abbrev pub TwoChildren : Volume Bytes → ℕ → Bytes → Type 0
+TwoChildren v d n = (isDirectoryId d ≡ true) × ((i j : ℕ) × (i ≢ j) × LiveChild v d n i × LiveChild v d n j)
+
+-- "a name asked for below a file is 11, not 9"
+abbrev pub NoDirectory : ℕ → Bytes → Type 0
+NoDirectory d n = isDirectoryId d ≡ false
+
+-- "Where a path is walked, the first failing step decides among 9, 10 and 11": a walk has no more than one such step
+abbrev pub walkRows : Volume Bytes → List Bytes → List Row
+walkRows v ns =
+    (9 given-when FailsAt v ns (NoChild v)) ∷ (10 given-when FailsAt v ns (TwoChildren v)) ∷ (11 given-when FailsAt v ns NoDirectory) ∷ []
+
+-- a call at a path: 1 to 7, then 8, then the walk, and then the rows of the call
+abbrev pub pathRows : Bytes → List Descriptor → Type 0 → List Bytes → List Row → List Row
+pathRows image ds bad ns rest = mountRows image ds ++ ((8 given-when bad) ∷ (walkRows (volume image ds) ns ++ rest))
+
+-- the walk leads to an inode of which p holds
+abbrev pub Leads : Found → (ℕ → Type 0) → Type 0
+Leads (found i) p = p i
+Leads (absent r) p = ⊥
+
+-- "15: a record fits in no clean file area"
+abbrev pub NoRoom : Bytes → List Descriptor → Bytes → Type 0
+NoRoom image ds b = (d : Descriptor) → List·Memᴰ d (fileAreas image ds) → areaClean recordSize (areaBytes image d) ≡ true
+    → areaEnd d < freePlace image d + length b
+
+-- and of several, placed one after the other: one for which no free space that is left has room, where those before it took theirs
+unfoldable pub NoRoomLeft : List Space → List Bytes → Type 0
+NoRoomLeft ss [] = ⊥
+NoRoomLeft ss (b ∷ bs) = ((s : Space) → List·Memᴰ s ss → s .end < s .from + length b)
+    ⊎ ((f : Fit) × (firstFit (length b) ss ≡ some f) × NoRoomLeft (f .left) bs)
+
+-- ---- the calls
+
+-- "checks 1, then 3 if fewer than two entries"
+abbrev pub formatRows : Bytes → List Descriptor → List Row
+formatRows image ds = listRow image ds ∷ (3 given-when (length ds < 2)) ∷ []
+
+abbrev pub lookupRows : Bytes → List Descriptor → Bytes → Bytes → List Row
+lookupRows image ds base path = pathRows image ds (BadPath base path) (pathNames base path) []
+
+-- "open .. of a directory [is] 11"
+abbrev pub openRows : Bytes → List Descriptor → Bytes → Bytes → List Row
+openRows image ds base path =
+    pathRows image ds (BadPath base path) (pathNames base path)
+    ((11 given-when Leads (lookupNames byBytes (volume image ds) (pathNames base path)) (λ i. isDirectoryId i ≡ true)) ∷ [])
+
+-- "13: read or append of a broken file"
+abbrev pub brokenRow : Volume Bytes → ℕ → Row
+brokenRow v f = 13 given-when (fileBlocks byBytes v f ≡ none)
+
+-- "14: read begins after the end"
+abbrev pub endRow : Volume Bytes → ℕ → ℕ → Row
+endRow v f position = 14 given-when ((bs : List Bytes) × (fileBlocks byBytes v f ≡ some bs) × (length (textOf byBytes bs) < position))
+
+-- "a handle's id isn't live", "a file where a directory is needed, or the reverse"
+abbrev pub readRows : Bytes → List Descriptor → ℕ → ℕ → List Row
+readRows image ds id position =
+    let v = volume image ds in
+    mountRows image ds
+    ++ ((9 given-when (fateOf byBytes v id ≢ live)) ∷ (11 given-when (isDirectoryId id ≡ true)) ∷ brokenRow v id ∷ endRow v id position ∷ [])
+
+-- "creating .. the root" is 8; "create walks all but the last name, and for that name, in a directory, only 12 is asked"; 5 again "with the new
+-- records counted in", before 15
+abbrev pub createRows : Bytes → List Descriptor → Bytes → Bytes → ℕ → List Row
+createRows image ds base path kind =
+    let v = volume image ds in
+    let ns = pathNames base path in
+    let o = lookupNames byBytes v (namesBefore ns) in
+    pathRows image ds (BadPath base path ⊎ (ns ≡ [])) (namesBefore ns)
+    ((11 given-when Leads o (λ d. isDirectoryId d ≡ false))
+    ∷ (12 given-when Leads o (λ d. (i : ℕ) × LiveChild v d (lastName ns) i))
+    ∷ (5 given-when (64 < suc (length (inodeIds byBytes v))))
+    ∷ (15 given-when Leads o (λ d. NoRoom image ds (newInode v kind d (lastName ns))))
+    ∷ [])
+
+-- "over 8,192 bytes to append" is 8; "append of a directory" is 11; "all pieces or none"
+abbrev pub appendRows : Bytes → List Descriptor → Bytes → Bytes → Bytes → List Row
+appendRows image ds base path text =
+    let v = volume image ds in
+    let o = lookupNames byBytes v (pathNames base path) in
+    pathRows image ds (BadPath base path ⊎ (8192 < length text)) (pathNames base path)
+    ((11 given-when Leads o (λ f. isDirectoryId f ≡ true))
+    ∷ (13 given-when Leads o (λ f. fileBlocks byBytes v f ≡ none))
+    ∷ (5 given-when Leads o (λ f. 256 < length (blockIds byBytes v) + length (newBlocks image ds f text)))
+    ∷ (15 given-when Leads o (λ f. NoRoomLeft (spaces image (fileAreas image ds)) (newBlocks image ds f text)))
+    ∷ [])
+
+-- "unlinking the root" is 8; "sequence is ffffffff"; "16 comes before 15"
+abbrev pub unlinkRows : Bytes → List Descriptor → Bytes → Bytes → List Row
+unlinkRows image ds base path =
+    let v = volume image ds in
+    let o = lookupNames byBytes v (pathNames base path) in
+    pathRows image ds (BadPath base path ⊎ (pathNames base path ≡ [])) (pathNames base path)
+    ((16 given-when Leads o (λ i. sequenceOf (inodeOf byBytes v i) ≡ 0xffffffff))
+    ∷ (15 given-when Leads o (λ i. NoRoom image ds (deletion v i)))
+    ∷ [])
+
+-- "17: collect: no file area is as long as the scratch area"
+abbrev pub sourceRow : List Descriptor → List Descriptor → Row
+sourceRow fs ss = 17 given-when ((s f : Descriptor) → List·Memᴰ s ss → List·Memᴰ f fs → f .length ≢ s .length)
+
+abbrev pub collectRows : Bytes → List Descriptor → List Row
+collectRows image ds = mountRows image ds ++ (sourceRow (fileAreas image ds) (scratchAreas image ds) ∷ [])
+
+-- "given exactly when that document says"
+pub record Exactly (image : Bytes) (ds : List Descriptor) : Type 0 where
+  -- the names of a good path, for the walk, are those that it spells
+  pub names : (base path : Bytes) (ns : List Bytes) → Named base path ns → pathNames base path ≡ ns
+  pub format : Answers (formatRows image ds) (formatNumber image ds)
+  pub report : Answers (mountRows image ds) (reportOf image ds .number)
+  pub lookup : (base path : Bytes) → Answers (lookupRows image ds base path) (lookupOf image ds base path .number)
+  pub opened : (base path : Bytes) → Answers (openRows image ds base path) (openOf image ds base path .number)
+  pub read : (id position room : ℕ) → Answers (readRows image ds id position) (readAnswer (readGiven image ds id position room) .number)
+  pub create : (base path : Bytes) (kind : ℕ) → Answers (createRows image ds base path kind) (createOf image ds base path kind .number)
+  pub append : (base path text : Bytes) → Answers (appendRows image ds base path text) (appendOf image ds base path text)
+  pub unlink : (base path : Bytes) → Answers (unlinkRows image ds base path) (unlinkOf image ds base path)
+  pub collect : Answers (collectRows image ds) (collectOf image ds)
