@@ -87,7 +87,7 @@ answers-once (r ∷ rs) m n (inr a) (inr b) = answers-once rs m n (a .1) (b .1)
 
 -- ---- check 1
 
-apart-means : (d e : Descriptor) → 128 ≤ d .length → 128 ≤ e .length → Means (disjoint d e) ((i : ℕ) → InArea d i → ¬ InArea e i)
+apart-means : (d e : Descriptor) → shortestArea ≤ d .length → shortestArea ≤ e .length → Means (disjoint d e) ((i : ℕ) → InArea d i → ¬ InArea e i)
 unfolding disjoint
 apart-means d e m n = (to, back)
   where
@@ -108,7 +108,7 @@ apart-means d e m n = (to, back)
             let w = leb-false (areaEnd e) (d .offset) q in
             h (max (d .offset) (e .offset)) (omega arith, omega arith) (omega arith, omega arith)
 
-overlap-means : (ds : List Descriptor) → ((d : Descriptor) → List·Memᴰ d ds → 128 ≤ d .length)
+overlap-means : (ds : List Descriptor) → ((d : Descriptor) → List·Memᴰ d ds → shortestArea ≤ d .length)
     → (T (allDisjoint ds) → NoOverlap ds) × (NoOverlap ds → T (allDisjoint ds))
 unfolding allDisjoint
 overlap-means [] h = (λ t. tt, λ n. tt)
@@ -144,7 +144,7 @@ good-means size ds = ((λ e. good (true→T e)), (λ e g. back e g))
           apart = overlap-means ds (λ d m. each (u .1) d m .0) .0 (s .1);
         }
       where
-        each : T (all (goodArea size) ds) → (d : Descriptor) → List·Memᴰ d ds → (128 ≤ d .length) × (d .length ≤ 65536) × (areaEnd d ≤ size)
+        each : T (all (goodArea size) ds) → (d : Descriptor) → List·Memᴰ d ds → (shortestArea ≤ d .length) × (d .length ≤ largestImage) × (areaEnd d ≤ size)
         each t d m =
             let g = all-mem (goodArea size) ds t m in
             let s = and-T (leb shortestArea (d .length) && leb (d .length) largestImage) (leb (areaEnd d) size) g in
@@ -163,7 +163,7 @@ good-means size ds = ((λ e. good (true→T e)), (λ e g. back e g))
         (overlap-means ds (λ d m. g .each d m .0) .1 (g .apart)) in
         rw e at t
 
-pub list-means : (image : Bytes) (ds : List Descriptor) → Means (badDescription image ds) ((65536 < length image) ⊎ (¬ GoodList (length image) ds))
+pub list-means : (image : Bytes) (ds : List Descriptor) → Means (badDescription image ds) ((largestImage < length image) ⊎ (¬ GoodList (length image) ds))
 unfolding badDescription
 list-means image ds =
     or-means (ltb largestImage (length image)) (not (goodAreas (length image) ds)) (ltb-means largestImage (length image))
@@ -255,7 +255,7 @@ module _ (image : Bytes) (ds : List Descriptor) where
   -- ---- checks 5 to 7
 
   ids-means : Means (tooManyIds (volume image ds))
-      ((64 < length (inodeIds byBytes (volume image ds))) ⊎ (256 < length (blockIds byBytes (volume image ds))))
+      ((mostInodes < length (inodeIds byBytes (volume image ds))) ⊎ (mostBlocks < length (blockIds byBytes (volume image ds))))
   unfolding tooManyIds
   ids-means =
       or-means (ltb mostInodes (length (inodeIds byBytes (volume image ds)))) (ltb mostBlocks (length (blockIds byBytes (volume image ds))))

@@ -15,14 +15,14 @@ use Rattle.volume.specs.View.{byBytes}
 use Rattle.volume.specs.Counting.{Volume, inodeOf, inodeIds, blockIds}
 use Rattle.volume.specs.Fate.{live, fateOf}
 use Rattle.volume.specs.Contents.{fileBlocks, textOf}
-use Rattle.volume.specs.Path.{SLASH, pathNames}
+use Rattle.volume.specs.Path.{SLASH, longestName, longestPath, pathNames}
 use Rattle.volume.specs.Tree.{Found, found, absent, lookupNames}
-use Rattle.calls.specs.Areas.{areaEnd, areaBytes, fileAreas, scratchAreas}
-use Rattle.calls.specs.Mount.{acceptedRecords, volume}
+use Rattle.calls.specs.Areas.{mostAreas, shortestArea, largestImage, areaEnd, areaBytes, fileAreas, scratchAreas}
+use Rattle.calls.specs.Mount.{mostInodes, mostBlocks, acceptedRecords, volume}
 use Rattle.calls.specs.Storing.{Space, Fit, spaces, firstFit}
 use Rattle.calls.specs.Create.{lastName, namesBefore, newInode, createOf}
-use Rattle.calls.specs.Append.{newBlocks, appendOf}
-use Rattle.calls.specs.Rewrite.{sequenceOf}
+use Rattle.calls.specs.Append.{mostAppended, newBlocks, appendOf}
+use Rattle.calls.specs.Rewrite.{lastSequence, sequenceOf}
 use Rattle.calls.specs.Unlink.{deletion, unlinkOf}
 use Rattle.calls.specs.Format.{formatNumber}
 use Rattle.calls.specs.Report.{reportOf}
@@ -56,13 +56,13 @@ NoOverlap (d ∷ l) = ((e : Descriptor) → List·Memᴰ e l → (i : ℕ) → I
 
 -- "Good: 1 to 8 entries, each length 128 to 65,536, each wholly inside the image, no two overlapping"
 pub record GoodList (size : ℕ) (ds : List Descriptor) : Type 0 where
-  pub entries : (1 ≤ length ds) × (length ds ≤ 8)
-  pub each : (d : Descriptor) → List·Memᴰ d ds → (128 ≤ d .length) × (d .length ≤ 65536) × (areaEnd d ≤ size)
+  pub entries : (1 ≤ length ds) × (length ds ≤ mostAreas)
+  pub each : (d : Descriptor) → List·Memᴰ d ds → (shortestArea ≤ d .length) × (d .length ≤ largestImage) × (areaEnd d ≤ size)
   pub apart : NoOverlap ds
 
 -- "1: image over 65,536 bytes or descriptors not good"
 abbrev pub listRow : Bytes → List Descriptor → Row
-listRow image ds = 1 given-when ((65536 < length image) ⊎ (¬ GoodList (length image) ds))
+listRow image ds = 1 given-when ((largestImage < length image) ⊎ (¬ GoodList (length image) ds))
 
 abbrev pub mountRows : Bytes → List Descriptor → List Row
 mountRows image ds =
@@ -75,7 +75,7 @@ mountRows image ds =
     -- "scratch shorter than a file area"
     ∷ (4 given-when ((s f : Descriptor) × List·Memᴰ s (scratchAreas image ds) × List·Memᴰ f (fileAreas image ds) × (s .length < f .length)))
     -- "more than 64 inode ids or 256 block ids in accepted records"
-    ∷ (5 given-when ((64 < length (inodeIds byBytes (volume image ds))) ⊎ (256 < length (blockIds byBytes (volume image ds)))))
+    ∷ (5 given-when ((mostInodes < length (inodeIds byBytes (volume image ds))) ⊎ (mostBlocks < length (blockIds byBytes (volume image ds)))))
     -- "two records of one id, same sequence, different bytes"
     ∷ (6 given-when ((r s : Bytes) × List·Memᴰ r (acceptedRecords image ds) × List·Memᴰ s (acceptedRecords image ds) × (recordId r ≡ recordId s)
     × (recordSequence r ≡ recordSequence s) × (r ≢ s)))
@@ -93,19 +93,19 @@ parted (n ∷ m ∷ ns) = n ++ (SLASH ∷ parted (m ∷ ns))
 
 -- "names of 1 to 255 bytes, .. no NUL"; a slash parts two
 pub record IsName (n : Bytes) : Type 0 where
-  pub size : (1 ≤ length n) × (length n ≤ 255)
+  pub size : (1 ≤ length n) × (length n ≤ longestName)
   pub no-slash : ¬ List·Memᴰ SLASH n
   pub no-nul : ¬ List·Memᴰ 0 n
 
 -- an absolute path of these names: "'/' is the root. Otherwise names .."; "1 to 1,024 bytes"
 pub record Absolute (p : Bytes) (ns : List Bytes) : Type 0 where
-  pub short : length p ≤ 1024
+  pub short : length p ≤ longestPath
   pub spelt : p ≡ SLASH ∷ parted ns
   pub named : (n : Bytes) → List·Memᴰ n ns → IsName n
 
 -- and one "without a leading slash"
 pub record Relative (p : Bytes) (ns : List Bytes) : Type 0 where
-  pub short : length p ≤ 1024
+  pub short : length p ≤ longestPath
   pub spelt : p ≡ parted ns
   pub some-name : ns ≢ []
   pub named : (n : Bytes) → List·Memᴰ n ns → IsName n
@@ -216,7 +216,7 @@ createRows image ds base path kind =
     pathRows image ds (BadPath base path ⊎ (ns ≡ [])) (namesBefore ns)
     ((11 given-when Leads o (λ d. isDirectoryId d ≡ false))
     ∷ (12 given-when Leads o (λ d. (i : ℕ) × LiveChild v d (lastName ns) i))
-    ∷ (5 given-when (64 < suc (length (inodeIds byBytes v))))
+    ∷ (5 given-when (mostInodes < suc (length (inodeIds byBytes v))))
     ∷ (15 given-when Leads o (λ d. NoRoom image ds (newInode v kind d (lastName ns))))
     ∷ [])
 
@@ -225,10 +225,10 @@ abbrev pub appendRows : Bytes → List Descriptor → Bytes → Bytes → Bytes 
 appendRows image ds base path text =
     let v = volume image ds in
     let o = lookupNames byBytes v (pathNames base path) in
-    pathRows image ds (BadPath base path ⊎ (8192 < length text)) (pathNames base path)
+    pathRows image ds (BadPath base path ⊎ (mostAppended < length text)) (pathNames base path)
     ((11 given-when Leads o (λ f. isDirectoryId f ≡ true))
     ∷ (13 given-when Leads o (λ f. fileBlocks byBytes v f ≡ none))
-    ∷ (5 given-when Leads o (λ f. 256 < length (blockIds byBytes v) + length (newBlocks image ds f text)))
+    ∷ (5 given-when Leads o (λ f. mostBlocks < length (blockIds byBytes v) + length (newBlocks image ds f text)))
     ∷ (15 given-when Leads o (λ f. NoRoomLeft (spaces image (fileAreas image ds)) (newBlocks image ds f text)))
     ∷ [])
 
@@ -238,7 +238,7 @@ unlinkRows image ds base path =
     let v = volume image ds in
     let o = lookupNames byBytes v (pathNames base path) in
     pathRows image ds (BadPath base path ⊎ (pathNames base path ≡ [])) (pathNames base path)
-    ((16 given-when Leads o (λ i. sequenceOf (inodeOf byBytes v i) ≡ 0xffffffff))
+    ((16 given-when Leads o (λ i. sequenceOf (inodeOf byBytes v i) ≡ lastSequence))
     ∷ (15 given-when Leads o (λ i. NoRoom image ds (deletion v i)))
     ∷ [])
 
