@@ -5,4 +5,3 @@ pub mod Filled
 pub mod Image
 pub mod Collect
 pub mod Demand2
-pub mod Example

@@ -44,6 +44,7 @@ use Rattle.volume.specs.Counting.{inodeOf}
 use Rattle.volume.specs.Fate.{orphan}
 use Rattle.volume.specs.Tree.{absent}
 use Rattle.volume.specs.Contents.{textOf, headersFrom}
+use Rattle.demand_cases.specs.Story.{directory, fileInIt, text, image₀, image₁, image₂, image₃, image₄, image₅, image₆}
 use Rattle.demand_cases.specs.Volumes.{holding, area₀, two, three, rootRecord, file, other, a, b, slash}
 use Rattle.demand_cases.specs.Volumes.{oneByte, deleted, torn, orphaned, olderLast, usedScratch, clashing, twoFiles, firstHit, twins, looping}
 
@@ -74,10 +75,14 @@ pub record Cases : Type 0 where
   pub collect-of-used-scratch : resolve (imageCollected usedScratch two) two [] (slash a) ≡ resolve usedScratch two [] (slash a)
   -- AfterCollect.paths: where versions clash, which of them counts would change with the areas' order
   pub collect-of-clashing : resolve (imageCollected clashing three) three [] (slash a) ≡ resolve clashing three [] (slash a)
+  -- the hypotheses of each theorem can be met: format, a directory, a file in it, two bytes appended, the directory unlinked, a collection
+  pub accepted : formatNumber image₀ two ∷ createOf image₁ two [] directory 0 .number ∷ createOf image₂ two [] fileInIt 1 .number
+      ∷ appendOf image₃ two [] fileInIt text ∷ unlinkOf image₄ two [] directory ∷ collectOf image₅ two ∷ mountNumber image₆ two ∷ []
+      ≡ replicate 7 0
 
 pub cases : Cases
 unfolding
-    holding oneByte deleted torn orphaned olderLast usedScratch clashing twoFiles firstHit twins looping resolve readGiven give giveBlocks textOf
+    image₀ image₁ image₂ image₃ image₄ image₅ image₆ holding oneByte deleted torn orphaned olderLast usedScratch clashing twoFiles firstHit twins looping resolve readGiven give giveBlocks textOf
     headersFrom areaHeader inodeBytes blockBytes sealed inodeFront blockFront le16 le32 crcBit crcByte crcOver check isDirectoryId isFileId
     isInodeId isBlockId recordSize nameGood inodeRule previousRule blockRule inodeRules blockRules checkRight wellFormed acceptable magicsRight
     validHeader isScratch isFileArea skip parts placed erasedEnd freeSize damagedBytes damaged areaParts areaRecords areaDamage areaFree areaClean
@@ -104,4 +109,5 @@ cases = record {
   collect-keeps-deleted = refl;
   collect-of-used-scratch = refl;
   collect-of-clashing = refl;
+  accepted = refl;
 }
