@@ -17,7 +17,7 @@ use Rattle.table_rows.specs.Parts.{part, part-long}
 use Rattle.area_pass.specs.Reading.{readingOf}
 use Rattle.area_pass.specs.Rows.{spansAt, stretchesAt, skippedAt}
 use Rattle.area_pass.specs.declared.Reading.{Reading}
-use Rattle.mount_state.specs.State.{starts, spans, Safe, Holds}
+use Rattle.mount_state.specs.State.{startsIn, spansIn, Safe, Holds}
 use Rattle.mount_state.specs.declared.Mounted.{Mounted}
 
 unfoldable pub sumOf : List ℕ → ℕ
@@ -79,7 +79,7 @@ module _ {image : Bytes} {m : Mounted} {t : List ℕ} (s : Safe image m t) where
       omega (arith, s .readings i k .skipped, column-at skippedAt i k)
 
   module _ {ds : List Descriptor} (h : Holds image ds m t) where
-    area-at : (i : ℕ) → i < m .files → areaOf (getD (starts m t) i 0) (getD (spans m t) i 0) ≡ areaOf (getD t i 0) (getD t (spansAt + i) 0)
+    area-at : (i : ℕ) → i < m .files → areaOf (getD (startsIn m t) i 0) (getD (spansIn m t) i 0) ≡ areaOf (getD t i 0) (getD t (spansAt + i) 0)
     area-at i k = rw (getD-take (m .files) t i 0 k, column-at spansAt i k)
 
     abbrev stretchesOf : Descriptor → ℕ
@@ -91,7 +91,7 @@ module _ {image : Bytes} {m : Mounted} {t : List ℕ} (s : Safe image m t) where
     pub stretches-are : sumOf (part stretchesAt (m .files) t) ≡ stretchesIn image (fileAreas image ds)
     unfolding stretchesIn readingOf
     stretches-are =
-        sums-are (stretchesIn image) stretchesOf refl (λ d l. refl) (starts m t) (spans m t) (part stretchesAt (m .files) t)
+        sums-are (stretchesIn image) stretchesOf refl (λ d l. refl) (startsIn m t) (spansIn m t) (part stretchesAt (m .files) t)
         (column-long spansAt (omega arith) ∙ sym (column-long 0 (omega arith))) (column-long stretchesAt (omega arith) ∙ sym (column-long 0 (omega arith)))
         (λ i l. let k : i < m .files = omega (arith, column-long 0 (omega arith)) in
         column-at stretchesAt i k ∙ ap (λ (r : Reading). r .stretches) (h .readings i k) ∙ ap stretchesOf (sym (area-at i k)))
@@ -100,7 +100,7 @@ module _ {image : Bytes} {m : Mounted} {t : List ℕ} (s : Safe image m t) where
     pub skipped-are : sumOf (part skippedAt (m .files) t) ≡ damagedIn image (fileAreas image ds)
     unfolding damagedIn readingOf
     skipped-are =
-        sums-are (damagedIn image) skippedOf refl (λ d l. refl) (starts m t) (spans m t) (part skippedAt (m .files) t)
+        sums-are (damagedIn image) skippedOf refl (λ d l. refl) (startsIn m t) (spansIn m t) (part skippedAt (m .files) t)
         (column-long spansAt (omega arith) ∙ sym (column-long 0 (omega arith))) (column-long skippedAt (omega arith) ∙ sym (column-long 0 (omega arith)))
         (λ i l. let k : i < m .files = omega (arith, column-long 0 (omega arith)) in
         column-at skippedAt i k ∙ ap (λ (r : Reading). r .skipped) (h .readings i k) ∙ ap skippedOf (sym (area-at i k)))

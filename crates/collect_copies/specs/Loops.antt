@@ -61,6 +61,14 @@ take-mem (suc i) [] m = m
 take-mem (suc i) (q ∷ ps) (List·Memᴰ·head e) = List·Memᴰ·head e
 take-mem (suc i) (q ∷ ps) (List·Memᴰ·tail m) = List·Memᴰ·tail (take-mem i ps m)
 
+-- and so do the copies
+pub copies-lie : (image : Bytes) (o n : ℕ) (ps : List ℕ) (t : Tables) → AllLie image ps (length ps)
+    → AllLie image (copiedPlaces image o n ps t) (length (copiedPlaces image o n ps t))
+unfolding copiedPlaces
+copies-lie image o n ps t h i l =
+    let kept = keep (copied image o n ps t) ps in
+    lies-mem image ps h (keep-mem (copied image o n ps t) ps (first-mem image kept (getD-mem (firstAt image kept) i l)) .0)
+
 -- the first k of l are the copies among the first i places
 pub record Choosing (image : Bytes) (o n : ℕ) (ps : List ℕ) (t : Tables) (l₀ l : List ℕ) (k i : ℕ) : Type 0 where
   pub long : length l ≡ length l₀

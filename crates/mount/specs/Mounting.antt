@@ -1,6 +1,7 @@
 -- From the areas that checks 1 to 4 pass, and the records in them, to the mounted volume.
 use Prim.Native.Nat.{ℕ, _+_, _≤_, _<_}
 use mathlib.Core.Path.{_≡_, refl, sym, ap, ap₂, subst, _∙_}
+use mathlib.Core.Logic.{_≢_}
 use mathlib.Core.List.{List}
 use native.Mathlib.Omega.{arith}
 use lib.ListN.{length, take, drop, getD, length-take}
@@ -37,10 +38,11 @@ unfolding recordChecks checksIn volume acceptedRecords
 record-checks image ds = refl
 
 -- a refused mount
-pub refuses : (image : Bytes) (ds : List Descriptor) (n : ℕ) (t ps : List ℕ) (m : Mounted) → m ≡ refusedMount n → (n ≡ 0 → ⊥) → n ≡ mountNumber image ds
+pub refuses : (image : Bytes) (ds : List Descriptor) (n : ℕ) (t ps : List ℕ) (m : Mounted) → m ≡ refusedMount n → n ≢ 0 → n ≡ mountNumber image ds
     → Mounts image ds m t ps
 refuses image ds n t ps m e h q = rw e (record {
   number = q;
+  refused = λ z. refl;
   safe = λ z. absurd (h z);
   holds = λ z. absurd (h z);
   safe-places = λ z. absurd (h z);
@@ -53,7 +55,7 @@ same-reading t r i a b c = rw (a, b, c)
 
 -- the answer a of checks 1 to 4, which left the file areas in the tables t
 module _ (image : Bytes) (ds : List Descriptor) (a : CheckedAreas) (t : List ℕ) (long : length t ≡ tablesSize) (c : Checked image ds a t) where
-  pub areas-refused : (t′ ps : List ℕ) (m : Mounted) → m ≡ refusedMount (a .number) → (a .number ≡ 0 → ⊥) → Mounts image ds m t′ ps
+  pub areas-refused : (t′ ps : List ℕ) (m : Mounted) → m ≡ refusedMount (a .number) → a .number ≢ 0 → Mounts image ds m t′ ps
   areas-refused t′ ps m e h = refuses image ds (a .number) t′ ps m e h (sym (mount-refused image ds (a .number) (sym (c .refusal)) h))
 
   module _ (z : a .number ≡ 0) where
@@ -98,7 +100,7 @@ module _ (image : Bytes) (ds : List Descriptor) (a : CheckedAreas) (t : List ℕ
         checked : f .number ≡ mountNumber image ds
         checked = g .number (fileAreas image ds) listed ∙ ap firstRefusal (sym (record-checks image ds)) ∙ sym (mount-goes-on image ds (sym (c .refusal) ∙ z))
 
-        pub records-refused : (t′ : List ℕ) (m : Mounted) → m ≡ refusedMount (f .number) → (f .number ≡ 0 → ⊥) → Mounts image ds m t′ ps
+        pub records-refused : (t′ : List ℕ) (m : Mounted) → m ≡ refusedMount (f .number) → f .number ≢ 0 → Mounts image ds m t′ ps
         records-refused t′ m e h = refuses image ds (f .number) t′ ps m e h checked
 
         module _ (rows-long : length rows ≡ length (part inodeIdsAt allRows u)) (y : f .number ≡ 0) where
@@ -182,6 +184,7 @@ module _ (image : Bytes) (ds : List Descriptor) (a : CheckedAreas) (t : List ℕ
               (putBack inodeIdsAt allRows u rows) ps
           mount-passes ps-long = record {
             number = sym y ∙ checked;
+            refused = λ w. absurd (w refl);
             safe = λ w. record {
               long = full-long;
               some-file = some-file;

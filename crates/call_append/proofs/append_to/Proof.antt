@@ -7,7 +7,7 @@ use lib.ListN.{length}
 use borrow.Author.Needs.{needs}
 use Rattle.calls.specs.declared.Descriptor.{Descriptor}
 use Rattle.area_pass.specs.Bridge.{placedVolume}
-use Rattle.mount_state.specs.State.{spans, Holds}
+use Rattle.mount_state.specs.State.{spansIn, Holds}
 use Rattle.mount_state.specs.Bridge.{blocks-lent, blocks-few, block-rows-lent, places-lent, names-lent}
 use Rattle.file_blocks.specs.Blocks.{lastOf}
 use Rattle.write_pieces.specs.Cut.{pieces, mostPieces, shortestOf, pieces-count, few-pieces, pieces-fit}
@@ -46,7 +46,7 @@ count-is c =
 count-few : (c : tie.After-piece-count) → c .piece-count .result ≤ mostPieces
 count-few c =
     let s = start (c .before) in
-    rw (count-is c) (few-pieces (shortestOf (spans (s .args .m) (s .args .tables .now))) (s .args .text .now) (shortest-bound (s .pre .0)) (s .pre .1 .1))
+    rw (count-is c) (few-pieces (shortestOf (spansIn (s .args .m) (s .args .tables .now))) (s .args .text .now) (shortest-bound (s .pre .0)) (s .pre .1 .1))
 
 last-unless-broken-requires : tie.Need-last-unless-broken-requires
 last-unless-broken-requires c κs =
