@@ -11,6 +11,7 @@ use Rattle.format.specs.Record.{longestData}
 use Rattle.format.specs.BlockSize.{greatestBlock}
 use Rattle.format_laws.specs.BlockSize.{block-bounds}
 use Rattle.calls.specs.Areas.{shortestArea}
+use Rattle.calls.specs.Mount.{mostBlocks}
 use Rattle.calls.specs.Storing.{Space, placeAll, storeAll, noPlace, storedOr}
 use Rattle.calls.specs.Append.{blockRecords}
 use Rattle.table_rows.specs.Parts.{part-long}
@@ -42,12 +43,13 @@ module _ {image : Bytes} {m : Mounted} {t : List ℕ} (s : Safe image m t) where
 
 -- ---- what is planned and written
 
--- the text is cut into these pieces, as many as one append may make
+-- the text is cut into these pieces, no more than one append may make and than the table of blocks has places
 pub record Cut (c : Chain) (text : Bytes) : Type 0 where
   pub some-room : 1 ≤ c .size
   pub small : c .size ≤ longestData
   pub count : c .count ≡ length (pieces (c .size) text)
   pub few : c .count ≤ mostPieces
+  pub counted : c .count ≤ mostBlocks
 
 -- with an id and a place for each
 pub record Room (c : Chain) (text : Bytes) (ids places : List ℕ) : Type 0 where

@@ -80,7 +80,7 @@ module _ {image : Bytes} {m : Mounted} {tables : List ℕ} (s : Safe image m tab
           small = s .fit .small;
           inside = omega (arith, s .fit .inside r (omega (arith, files-long)), ap (λ (d : Descriptor). d .offset + d .length) at);
           header = omega (arith, s .fit .long r (omega (arith, files-long)), ap (λ (d : Descriptor). d .length) at);
-          fill = fits-fillable image (m .scratch) copies area-copies-lie e;
+          fill = fits-fillable image (m .scratch) copies area-copies-lie (s .scratch .inside) (omega (arith, s .scratch .long)) e;
         }
 
 module _ {image : Bytes} {ds : List Descriptor} {m : Mounted} {tables : List ℕ} (h : Holds image ds m tables) where

@@ -26,14 +26,14 @@ use Rattle.record_places.specs.Place.{blockAt, sizeAt, bytesAt, byPlace}
 use Rattle.table_rows.specs.Laws.{getD-mem}
 use Rattle.image_laws.specs.Stores.{joinedBytes}
 use Rattle.area_list.specs.Places.{Clear}
-use Rattle.area_kinds.specs.Places.{AreasPass, member-fits, file-member, scratch-member, file-scratch-apart, files-disjoint, scratch-longest}
+use Rattle.area_kinds.specs.Places.{AreasPass, member-fits, file-member, file-scratch-apart, files-disjoint, scratch-longest}
 use Rattle.area_pass.specs.Listing.{recordPlaces, placesIn}
 use Rattle.area_pass.specs.Bridge.{record-places-each, record-bytes, record-lies, placedVolume}
 use Rattle.collect_copies.specs.Copied.{Tables, tableOf, AllRows, inside, dropped, countsIn, copied, copiedPlaces}
 use Rattle.collect_copies.specs.First.{first-mem}
 use Rattle.collect_copies.specs.Bridge.{parted, in-area, volume-copies}
 use Rattle.collect_stores.specs.Records.{moved, bytes-long}
-use Rattle.collect_stores.specs.Fits.{span, fits, clear-fits}
+use Rattle.collect_stores.specs.Fits.{span, fits, clear-fit}
 
 -- a record that an area is read as ends in it
 record-ends : (image : Bytes) (d : Descriptor) (p : ℕ) → List·Memᴰ p (recordPlaces (d .offset) (recordsOf image d)) → p + sizeAt image p ≤ areaEnd d
@@ -89,16 +89,14 @@ module _ (image : Bytes) (ds : List Descriptor) (pass : AreasPass image ds) (t :
     pub copies-fit : fits image t cs ≡ true
     unfolding moved
     copies-fit =
-        let f = member-fits image ds pass t (scratch-member image ds pass t scratch) in
         let g = member-fits image ds pass s (file-member image ds pass s file) in
         let v = volume-copies image ds s tables apart-all long file rows in
         let e = ap (λ l. length (joinedBytes l)) v in
         let k = copied-survive image ds s .fit in
         let d = length-drop areaHeaderSize (areaBytes image s) in
         let l = length-take (s .length) (drop (s .offset) image) in
-        clear-fits image t cs
+        clear-fit image t areaHeaderSize cs
         (λ i h. let r = record-places-each (s .offset) (getD cs i 0) (recordsOf image s) (at-cs i h) in rw (r .2) (record-lies image s (r .0) (r .1)))
-        (f .inside)
         (omega (arith, g .long, scratch-longest image ds pass s t file scratch))
         (λ i h. clear (getD cs i 0) (in-area image s (getD cs i 0) (at-cs i h) .0) (record-ends image s (getD cs i 0) (at-cs i h))
         (file-scratch-apart image ds pass s t file scratch))

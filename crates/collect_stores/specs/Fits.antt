@@ -12,11 +12,11 @@ use Rattle.format.specs.Bytes.{Bytes}
 use Rattle.format.specs.AreaHeader.{areaHeaderSize}
 use Rattle.format_laws.specs.Record.{and-left, and-right}
 use Rattle.volume_laws.specs.Tests.{true→T}
+use Rattle.volume_laws.specs.Steps.{drop-step}
 use Rattle.calls.specs.Areas.{areaEnd, disjoint}
 use Rattle.calls.specs.declared.Descriptor.{Descriptor}
 use Rattle.record_places.specs.Place.{sizeAt, bytesAt, AllLie}
 use Rattle.area_list.specs.Described.{areaOf}
-use Rattle.area_list.specs.Steps.{drop-step}
 use Rattle.area_list.specs.Places.{Clear, disjoint-clear, clear-disjoint}
 use Rattle.image_laws.specs.Apart.{Apart, apart-before, apart-after}
 use Rattle.image_laws.specs.Stores.{joinedBytes}
@@ -27,14 +27,14 @@ use Rattle.collect_stores.specs.Filled.{Fillable}
 abbrev pub span : Bytes → ℕ → Descriptor
 span x p = areaOf p (sizeAt x p)
 
--- stored one behind the other from `at` on the records end in the area, and none of them has a byte in it
+-- stored one behind the other from `at` on the records end in the area d, and none of them has a byte in it
 unfoldable pub fitFrom : Bytes → Descriptor → ℕ → List ℕ → Bool
 fitFrom x d at [] = true
 fitFrom x d at (p ∷ ps) = leb (at + sizeAt x p) (d .length) && disjoint (span x p) d && fitFrom x d (at + sizeAt x p) ps
 
--- and the area lies in the image and has a header
-unfoldable pub fits : Bytes → Descriptor → List ℕ → Bool
-fits x d ps = leb (areaEnd d) (length x) && leb areaHeaderSize (d .length) && fitFrom x d areaHeaderSize ps
+-- so stored behind the area's header
+abbrev pub fits : Bytes → Descriptor → List ℕ → Bool
+fits x d ps = fitFrom x d areaHeaderSize ps
 
 moved-one : (x : Bytes) (p : ℕ) (ps : List ℕ) → p + sizeAt x p ≤ length x → length (moved x (p ∷ ps)) ≡ sizeAt x p + length (moved x ps)
 unfolding moved joinedBytes
@@ -71,40 +71,28 @@ module _ (x : Bytes) (d : Descriptor) where
       go (suc i) h ih a = ih i (omega arith)
 
   -- where the test passes the records can be stored
-  pub fits-fillable : (ps : List ℕ) → AllLie x ps (length ps) → fits x d ps ≡ true → Fillable x (d .offset) (d .length) ps
-  unfolding fits
-  fits-fillable ps lie e =
-      let in-image = leb (areaEnd d) (length x) in
-      let header = leb areaHeaderSize (d .length) in
-      let all-fit = fitFrom x d areaHeaderSize ps in
-      let front = and-left (in-image && header) all-fit e in
-      let h = leb-true areaHeaderSize (d .length) (and-right in-image header front) in
-      let r = and-right (in-image && header) all-fit e in
-      record {
-        inside = leb-true (areaEnd d) (length x) (and-left in-image header front);
-        header = h;
-        lie = lie;
-        room = fit-room areaHeaderSize ps lie h r;
-        apart = fit-apart areaHeaderSize ps r;
-      }
+  pub fits-fillable : (ps : List ℕ) → AllLie x ps (length ps) → areaEnd d ≤ length x → areaHeaderSize ≤ d .length → fits x d ps ≡ true
+      → Fillable x (d .offset) (d .length) ps
+  fits-fillable ps lie inside header e = record {
+    inside = inside;
+    header = header;
+    lie = lie;
+    room = fit-room areaHeaderSize ps lie header e;
+    apart = fit-apart areaHeaderSize ps e;
+  }
 
   -- and it passes where they have room and no byte in common with the area
-  fit-all : (at : ℕ) (ps : List ℕ) → AllLie x ps (length ps) → at + length (moved x ps) ≤ d .length → ((i : ℕ) → i < length ps → Clear (span x (getD ps i 0)) d) → fitFrom x d at ps ≡ true
+  pub clear-fit : (at : ℕ) (ps : List ℕ) → AllLie x ps (length ps) → at + length (moved x ps) ≤ d .length → ((i : ℕ) → i < length ps → Clear (span x (getD ps i 0)) d)
+      → fitFrom x d at ps ≡ true
   unfolding fitFrom
-  fit-all at [] lie room clear = refl
-  fit-all at (p ∷ ps) lie room clear =
+  clear-fit at [] lie room clear = refl
+  clear-fit at (p ∷ ps) lie room clear =
       let m = moved-one x p ps (lie 0 (omega arith)) in
       rw (
         le-leb (at + sizeAt x p) (d .length) (omega arith),
         clear-disjoint (span x p) d (clear 0 (omega arith)),
-        fit-all (at + sizeAt x p) ps (λ i k. lie (suc i) (omega arith)) (omega arith) (λ i k. clear (suc i) (omega arith)),
+        clear-fit (at + sizeAt x p) ps (λ i k. lie (suc i) (omega arith)) (omega arith) (λ i k. clear (suc i) (omega arith)),
       )
-
-  pub clear-fits : (ps : List ℕ) → AllLie x ps (length ps) → areaEnd d ≤ length x → areaHeaderSize + length (moved x ps) ≤ d .length
-      → ((i : ℕ) → i < length ps → Clear (span x (getD ps i 0)) d) → fits x d ps ≡ true
-  unfolding fits
-  clear-fits ps lie inside room clear =
-      rw (le-leb (areaEnd d) (length x) inside, le-leb areaHeaderSize (d .length) (omega arith), fit-all areaHeaderSize ps lie room clear)
 
 -- ---- the loop: the first i records have passed, and the next goes to `at`
 
@@ -113,18 +101,8 @@ pub record Fitting (x : Bytes) (d : Descriptor) (ps : List ℕ) (at i : ℕ) : T
   pub so-far : fitFrom x d at (drop i ps) ≡ fits x d ps
 
 module _ (x : Bytes) (d : Descriptor) (ps : List ℕ) where
-  pub fits-outside : length x < areaEnd d → false ≡ fits x d ps
-  unfolding fits
-  fits-outside h = rw (lt-leb (areaEnd d) (length x) h)
-
-  module _ (inside : areaEnd d ≤ length x) where
-    pub fits-short : d .length < areaHeaderSize → false ≡ fits x d ps
-    unfolding fits
-    fits-short h = rw (le-leb (areaEnd d) (length x) inside, lt-leb areaHeaderSize (d .length) h)
-
-    pub fitting-begins : areaHeaderSize ≤ d .length → Fitting x d ps areaHeaderSize 0
-    unfolding fits
-    fitting-begins h = record { within = h; so-far = rw (le-leb (areaEnd d) (length x) inside, le-leb areaHeaderSize (d .length) h) }
+  pub fitting-begins : areaHeaderSize ≤ d .length → Fitting x d ps areaHeaderSize 0
+  fitting-begins h = record { within = h; so-far = refl }
 
   module _ (at i : ℕ) (f : Fitting x d ps at i) where
     pub fitting-ends : length ps ≤ i → true ≡ fits x d ps

@@ -16,7 +16,6 @@ ghost use Rattle.collect_stores.specs.Moving.{Movable};
 ghost use Rattle.collect_stores.specs.Filled.{Fillable};
 ghost use Rattle.collect_stores.specs.Fits.{fits};
 ghost use Rattle.collect_stores.specs.Moved.{movedInto, Removable};
-use area_list::area_end;
 use area_list::disjoint;
 use area_read::HEADER_SIZE;
 use area_read::ID_AT;
@@ -44,19 +43,14 @@ fn next_count(count: u8) -> u8
     count + 1
 }
 
-// Whether the records at some places can be stored behind an area's header, one behind the other: the area lies in the image and has room for
-// them, and none of them has a byte in it.
+// Whether the records at some places can be stored behind an area's header, one behind the other: the area has room for them, and none of
+// them has a byte in it.
 pub fn fits(image: &[u8], area: Descriptor, places: &[u16]) -> bool
     requires { ⌜ AllLie (now image) (now places) (length (now places)) ⌝ }
+    requires { ⌜ areaHeaderSize ≤ area .length ⌝ }
     ensures { λ r. ⌜ r ≡ fits (now (image .entry)) area (now (places .entry)) ⌝ }
 {
-    if area_end(area.offset, area.length) > image.len() {
-        return false;
-    }
     let span = area.length as usize;
-    if span < HEADER_SIZE {
-        return false;
-    }
     let mut at = HEADER_SIZE;
     let mut i = 0;
     while i < places.len() {

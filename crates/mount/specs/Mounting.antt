@@ -2,7 +2,7 @@
 use Prim.Native.Nat.{ℕ, _+_, _≤_, _<_}
 use mathlib.Core.Path.{_≡_, refl, sym, ap, ap₂, subst, _∙_}
 use mathlib.Core.Logic.{_≢_}
-use mathlib.Core.List.{List}
+use mathlib.Core.List.{List, List·Memᴰ·head}
 use native.Mathlib.Omega.{arith}
 use lib.ListN.{length, take, drop, getD, length-take}
 use lib.Seq.{getD-take}
@@ -21,7 +21,8 @@ use Rattle.calls.specs.declared.Descriptor.{Descriptor}
 use Rattle.calls_laws.specs.Records.{records-sound}
 use Rattle.area_list.specs.Described.{described, described-length}
 use Rattle.area_kinds.specs.Checks.{recordChecks, mount-refused, mount-goes-on, Checked, Split}
-use Rattle.area_kinds.specs.Places.{AreasPass, checked-pass, files-apart, files-lie}
+use Rattle.area_list.specs.Good.{AreaFits}
+use Rattle.area_kinds.specs.Places.{AreasPass, checked-pass, member-fits, scratch-member, files-apart, files-lie}
 use Rattle.area_kinds.specs.declared.CheckedAreas.{CheckedAreas}
 use Rattle.area_pass.specs.Listing.{placesIn, AreasFit}
 use Rattle.area_pass.specs.Reading.{readingOf}
@@ -67,6 +68,9 @@ module _ (image : Bytes) (ds : List Descriptor) (a : CheckedAreas) (t : List ℕ
 
     fits : AreasFit image (part 0 (a .files) t) (part spansAt (a .files) t)
     fits = files-lie image ds passed a t split (omega (arith, long))
+
+    scratch-fits : AreaFits (length image) (a .scratch)
+    scratch-fits = member-fits image ds passed (a .scratch) (scratch-member image ds passed (a .scratch) (rw (split .scratch) (List·Memᴰ·head refl)))
 
     -- check 3 asks for a file area
     some-file : 0 < a .files
@@ -193,6 +197,7 @@ module _ (image : Bytes) (ds : List Descriptor) (a : CheckedAreas) (t : List ℕ
               blocks-few = rowed .blocks-few;
               fit = both (AreasFit image) starts-still spans-still fits;
               readings = smalls;
+              scratch = scratch-fits;
               inodes = both (InodeTable image) inode-ids inode-spots (rowed .inodes);
               blocks = both (BlockTable image) block-ids block-spots (rowed .blocks);
             };

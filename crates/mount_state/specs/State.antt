@@ -14,6 +14,7 @@ use Rattle.calls.specs.declared.Descriptor.{Descriptor}
 use Rattle.area_pass.specs.Reading.{readingOf}
 use Rattle.area_pass.specs.Rows.{spansAt, areaRows, areaAt, readingAt, Small}
 use Rattle.area_list.specs.Described.{described}
+use Rattle.area_list.specs.Good.{AreaFits}
 use Rattle.area_pass.specs.Listing.{placesIn, AreasFit}
 use Rattle.area_pass.specs.Bridge.{placedVolume}
 use Rattle.mount_state.specs.declared.Mounted.{Mounted}
@@ -68,6 +69,7 @@ pub record Safe (image : Bytes) (m : Mounted) (tables : List ℕ) : Type 0 where
   pub blocks-few : m .blocks ≤ mostBlocks
   pub fit : AreasFit image (startsIn m tables) (spansIn m tables)
   pub readings : (i : ℕ) → i < m .files → Small tables i
+  pub scratch : AreaFits (length image) (m .scratch)
   pub inodes : InodeTable image (inodeIdsIn m tables) (inodeSpotsIn m tables)
   pub blocks : BlockTable image (blockIdsIn m tables) (blockSpotsIn m tables)
 

@@ -4,7 +4,7 @@ use mathlib.Core.Path.{_≡_, refl}
 use lib.ListN.{length, drop}
 use Rattle.volume.specs.Lists.{all}
 use Rattle.area_list.specs.Described.{described, described-step, described-end}
-use Rattle.area_list.specs.Steps.{all-asks, ask-passes, ask-fails, ask-ends}
+use Rattle.volume_laws.specs.Steps.{all-asks, ask-passes, ask-fails, ask-ends}
 use Rattle.area_list.specs.Good.{fits-at, header-at}
 use Rattle.area_kinds.specs.Kinds.{otherId, id-same, id-differs}
 use borrow.Author.Needs.{needs}

@@ -5,7 +5,7 @@ use lib.ListN.{length, drop, drop-of-length-le}
 use lib.Dec.{leb}
 use borrow.Author.Tests.{le-leb, lt-leb}
 use Rattle.volume.specs.Lists.{all}
-use Rattle.area_list.specs.Steps.{drop-step, all-asks, ask-passes, ask-fails, ask-ends}
+use Rattle.volume_laws.specs.Steps.{drop-step, all-asks, ask-passes, ask-fails, ask-ends}
 use borrow.Author.Needs.{needs}
 use Rattle.area_kinds.proofs.none_longer.Statement.{statement}
 use Rattle.area_kinds.proofs.none_longer.Tie as tie

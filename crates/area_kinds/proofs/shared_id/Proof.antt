@@ -7,7 +7,8 @@ use Rattle.volume.specs.Lists.{all}
 use Rattle.format_laws.specs.Bytes.{rest-part}
 use Rattle.format_laws.specs.Tests.{via}
 use Rattle.area_list.specs.Described.{areaOf, described, described-step, described-end}
-use Rattle.area_list.specs.Steps.{pairwise, pairs-ask, ask-passes, ask-fails, ask-ends}
+use Rattle.volume_laws.specs.Steps.{ask-passes, ask-fails, ask-ends}
+use Rattle.area_list.specs.Steps.{pairwise, pairs-ask}
 use Rattle.area_list.specs.Good.{fits-at, header-at, good-later}
 use Rattle.area_kinds.specs.Kinds.{ownId, shared-pairs}
 use borrow.Author.Needs.{needs}

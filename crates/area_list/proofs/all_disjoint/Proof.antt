@@ -8,7 +8,8 @@ use Rattle.area_list.specs.Numbers.{paired}
 use Rattle.format_laws.specs.Bytes.{rest-part}
 use Rattle.format_laws.specs.Tests.{via}
 use Rattle.area_list.specs.Listing.{pair-step, paired-end}
-use Rattle.area_list.specs.Steps.{disjoint-asks, ask-passes, ask-fails, ask-ends}
+use Rattle.volume_laws.specs.Steps.{ask-passes, ask-fails, ask-ends}
+use Rattle.area_list.specs.Steps.{disjoint-asks}
 use borrow.Author.Needs.{needs}
 use Rattle.area_list.proofs.all_disjoint.Statement.{statement}
 use Rattle.area_list.proofs.all_disjoint.Tie as tie

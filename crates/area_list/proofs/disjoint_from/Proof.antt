@@ -9,7 +9,7 @@ use Rattle.area_list.specs.Numbers.{paired}
 use Rattle.format_laws.specs.Tests.{via}
 use Rattle.area_list.specs.Described.{areaOf}
 use Rattle.area_list.specs.Listing.{pair-step, paired-end}
-use Rattle.area_list.specs.Steps.{all-asks, ask-passes, ask-fails, ask-ends}
+use Rattle.volume_laws.specs.Steps.{all-asks, ask-passes, ask-fails, ask-ends}
 use borrow.Author.Needs.{needs}
 use Rattle.area_list.proofs.disjoint_from.Statement.{statement}
 use Rattle.area_list.proofs.disjoint_from.Tie as tie

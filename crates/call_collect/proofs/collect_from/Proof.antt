@@ -49,8 +49,10 @@ list-copies-requires c κs =
 fits-requires : tie.Need-fits-requires
 fits-requires c κs =
     let k = c .before .before .before in
-    let s = start k in
-    subst (λ (ps : List ℕ). AllLie (s .args .image .now) ps (length ps)) (sym (k .list-copies .ensures .1)) (area-copies-lie (s .pre .0) (s .pre .1 .0) (s .args .source))
+    let s = start k in (
+      subst (λ (ps : List ℕ). AllLie (s .args .image .now) ps (length ps)) (sym (k .list-copies .ensures .1)) (area-copies-lie (s .pre .0) (s .pre .1 .0) (s .args .source)),
+      omega (arith, s .pre .0 .scratch .long),
+    )
 
 returns : tie.Need-returns
 returns c =

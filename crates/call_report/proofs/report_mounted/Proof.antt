@@ -2,7 +2,7 @@
 use Prim.Native.Nat.{_+_, _-_, _≤_}
 use mathlib.Core.Path.{_≡_, ap, _∙_}
 use native.Mathlib.Omega.{arith}
-use lib.ListN.{length, take, drop, length-take}
+use lib.ListN.{length, drop, length-take}
 use Rattle.calls.specs.Mount.{mostInodes}
 use Rattle.record_places.specs.Place.{byPlace}
 use Rattle.table_rows.specs.Parts.{lent}
@@ -10,7 +10,7 @@ use Rattle.area_pass.specs.Rows.{stretchesAt, skippedAt}
 use Rattle.inode_fate.specs.Fates.{liveRows}
 use Rattle.mount_state.specs.State.{inodeIdsAt, inodeSpotsAt, inodeIdsIn, inodeSpotsIn}
 use Rattle.mount_state.specs.Bridge.{inodes-lent}
-use Rattle.call_report.specs.Sums.{sumOf, AllSmall, stretches-small, skipped-small, stretches-are, skipped-are}
+use Rattle.call_report.specs.Sums.{sumOf, stretches-small, skipped-small, stretches-are, skipped-are}
 use Rattle.call_report.specs.Counts.{live-few, report-is}
 use borrow.Author.Needs.{needs}
 use Rattle.call_report.proofs.report_mounted.Statement.{statement}

@@ -8,7 +8,7 @@ use borrow.Author.Tests.{eq-eqb, ne-eqb}
 use Rattle.format.specs.Reading.{ERASED}
 use Rattle.volume.specs.Lists.{all}
 use Rattle.calls.specs.Collect.{isBlank}
-use Rattle.area_list.specs.Steps.{drop-step, all-asks, ask-passes, ask-fails, ask-ends}
+use Rattle.volume_laws.specs.Steps.{drop-step, all-asks, ask-passes, ask-fails, ask-ends}
 use Rattle.collect_stores.proofs.is_blank.Statement.{statement}
 use Rattle.collect_stores.proofs.is_blank.Tie as tie
 
