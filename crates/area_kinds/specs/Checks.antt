@@ -4,7 +4,7 @@ use mathlib.Core.Path.{_≡_, refl, sym, ap, _∙_}
 use mathlib.Core.Bool.{Bool, true, false, cond, not, or-true}
 use mathlib.Core.List.{List, [], _∷_, _++_}
 use native.Mathlib.Omega.{arith}
-use lib.ListN.{length, take}
+use lib.ListN.{length}
 use lib.Dec.{leb, eqb}
 use borrow.Author.Tests.{eq-eqb, ne-eqb, eqb-true}
 use Rattle.format.specs.Bytes.{Bytes}
@@ -17,6 +17,7 @@ use Rattle.calls.specs.Refusal.{Check, _refused-by_, firstRefusal}
 use Rattle.calls.specs.Mount.{acceptedRecords, volume, badDescription, sharedAreaId, wrongAreas, shortScratch, tooManyIds, noRoot}
 use Rattle.calls.specs.Mount.{mountChecks, mountNumber}
 use Rattle.calls.specs.declared.Descriptor.{Descriptor}
+use Rattle.calls_laws.specs.Checks.{passed-first}
 use Rattle.area_kinds.specs.declared.LastScratch.{LastScratch}
 use Rattle.area_kinds.specs.declared.Kinds.{Kinds}
 use Rattle.area_kinds.specs.declared.CheckedAreas.{CheckedAreas}
@@ -131,11 +132,6 @@ pub record KindsPass (image : Bytes) (fs ss : List Descriptor) : Type 0 where
   pub some : 1 ≤ length fs
   pub one : length ss ≡ 1
   pub long : shortScratch fs ss ≡ false
-
--- a check that refuses nothing, before others that do not
-pub passed-first : (b : Bool) (n m : ℕ) → cond b (suc n) m ≡ 0 → (b ≡ false) × (m ≡ 0)
-passed-first true n m e = absurd (omega arith)
-passed-first false n m e = (refl, e)
 
 pub kinds-passed : (image : Bytes) (fs ss : List Descriptor) → firstRefusal (kindChecks image fs ss) ≡ 0 → KindsPass image fs ss
 unfolding kindChecks firstRefusal wrongAreas

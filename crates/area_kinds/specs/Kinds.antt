@@ -22,8 +22,9 @@ use Rattle.calls.specs.declared.Descriptor.{Descriptor}
 use Rattle.area_list.specs.Described.{areaOf, described, described-more}
 use Rattle.area_list.specs.Listing.{pair-step, pair-holds, paired-end}
 use Rattle.area_list.specs.Good.{Good}
-use Rattle.area_list.specs.Steps.{pairwise, keep-takes, keep-leaves, keep-ends}
-use Rattle.area_read.specs.Kinds.{fileTest, scratchTest, kindOf, idOf, HasId, file-tests, scratch-tests, invalid-tests}
+use Rattle.volume_laws.specs.Steps.{keep-takes, keep-leaves, keep-ends}
+use Rattle.area_list.specs.Steps.{pairwise}
+use Rattle.area_read.specs.Kinds.{fileTest, scratchTest, kindOf, idOf, HasId, kind-tests}
 use Rattle.area_read.specs.declared.AreaKind.the-variants.{File, Scratch, Invalid}
 use Rattle.table_rows.specs.Parts.{part, part-long, part-set-behind}
 use Rattle.area_pass.specs.Rows.{spansAt}
@@ -164,7 +165,7 @@ module _ (image : Bytes) (pairs rows₀ rows : List ℕ) (files count : ℕ) (a 
     pub sorting-file : kindOf image area ≡ File
         → Sorting image pairs rows₀ (set (set rows files (getD pairs (i * 2) 0)) (spansAt + files) (getD pairs (i * 2 + 1) 0)) (files + 1) count a (i + 1)
     unfolding fileAreas scratchAreas
-    sorting-file e = let t = file-tests image area e in record {
+    sorting-file e = let t = kind-tests image area File e in record {
       within = omega arith;
       few = omega (arith, s .few);
       long = length-set (set rows files (getD pairs (i * 2) 0)) (spansAt + files) (getD pairs (i * 2 + 1) 0) ∙ length-set rows files (getD pairs (i * 2) 0) ∙ s .long;
@@ -176,7 +177,7 @@ module _ (image : Bytes) (pairs rows₀ rows : List ℕ) (files count : ℕ) (a 
 
     pub sorting-scratch : kindOf image area ≡ Scratch → Sorting image pairs rows₀ rows files (count + 1) area (i + 1)
     unfolding fileAreas scratchAreas gathered
-    sorting-scratch e = let t = scratch-tests image area e in record {
+    sorting-scratch e = let t = kind-tests image area Scratch e in record {
       within = omega arith;
       few = omega (arith, s .few);
       long = s .long;
@@ -186,7 +187,7 @@ module _ (image : Bytes) (pairs rows₀ rows : List ℕ) (files count : ℕ) (a 
 
     pub sorting-passes : kindOf image area ≡ Invalid → Sorting image pairs rows₀ rows files count a (i + 1)
     unfolding fileAreas scratchAreas
-    sorting-passes e = let t = invalid-tests image area e in record {
+    sorting-passes e = let t = kind-tests image area Invalid e in record {
       within = omega arith;
       few = omega (arith, s .few);
       long = s .long;

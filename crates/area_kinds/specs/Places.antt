@@ -16,6 +16,7 @@ use Rattle.calls.specs.Areas.{mostAreas, largestImage, goodArea, allDisjoint, a
 use Rattle.calls.specs.Refusal.{firstRefusal}
 use Rattle.calls.specs.Mount.{badDescription, shortScratch}
 use Rattle.calls.specs.declared.Descriptor.{Descriptor}
+use Rattle.calls_laws.specs.Checks.{passed-first}
 use Rattle.table_rows.specs.Parts.{part, part-long}
 use Rattle.area_pass.specs.Listing.{AreasFit}
 use Rattle.area_pass.specs.Rows.{spansAt}
@@ -24,7 +25,7 @@ use Rattle.area_list.specs.Described.{areaOf, described, described-at}
 use Rattle.area_list.specs.Good.{AreaFits, fits}
 use Rattle.area_list.specs.Description.{GoodDescription, description-good}
 use Rattle.area_list.specs.Places.{Clear, apart-members, keep-disjoint, totalLength, total-within}
-use Rattle.area_kinds.specs.Checks.{areaChecks, KindsPass, kinds-passed, Split, Checked, passed-first}
+use Rattle.area_kinds.specs.Checks.{areaChecks, KindsPass, kinds-passed, Split, Checked}
 
 -- ---- what checks 1 to 4 give where they pass
 

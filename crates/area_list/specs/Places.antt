@@ -2,13 +2,14 @@
 use Prim.Native.Nat.{ℕ, zero, suc, _+_, _≤_, _<_}
 use mathlib.Core.Path.{_≡_, refl, sym, ap, _∙_}
 use mathlib.Core.Logic.{_⊎_, inl, inr, _≢_, ⊎-elim}
-use mathlib.Core.Bool.{Bool, true, false, cond}
+use mathlib.Core.Bool.{Bool, true, false, cond, or-true}
 use mathlib.Core.List.{List, [], _∷_, _++_, List·Memᴰ, List·Memᴰ·head, List·Memᴰ·tail, List·Memᴰ·cases-cons, List·Memᴰ·not-nil}
 use mathlib.Core.List.{List·Memᴰ·append-cases}
 use native.Mathlib.Omega.{arith}
 use native.Mathlib.Decide.{ℕ-discrete}
 use lib.ListN.{length, getD, length-append}
 use lib.Dec.{T, leb, leb→le}
+use borrow.Author.Tests.{le-leb}
 use Rattle.volume.specs.Lists.{keep, all}
 use Rattle.volume_laws.specs.Tests.{true→T, T→true, and-T, T-and}
 use Rattle.volume_laws.specs.Lists.{keep-mem, all-mem, mem-all}
@@ -29,11 +30,16 @@ pub clear-sym : (d e : Descriptor) → Clear d e → Clear e d
 clear-sym d e (inl h) = inr h
 clear-sym d e (inr h) = inl h
 
-disjoint-clear : (d e : Descriptor) → T (disjoint d e) → Clear d e
+pub disjoint-clear : (d e : Descriptor) → T (disjoint d e) → Clear d e
 unfolding disjoint
 disjoint-clear d e t =
     ⊎-elim (λ h. inl (leb→le (areaEnd d) (e .offset) (true→T h))) (λ h. inr (leb→le (areaEnd e) (d .offset) (true→T h)))
     (or-cases (leb (areaEnd d) (e .offset)) (leb (areaEnd e) (d .offset)) (T→true t))
+
+pub clear-disjoint : (d e : Descriptor) → Clear d e → disjoint d e ≡ true
+unfolding disjoint
+clear-disjoint d e (inl h) = rw (le-leb (areaEnd d) (e .offset) h)
+clear-disjoint d e (inr h) = rw (le-leb (areaEnd e) (d .offset) h) (or-true (leb (areaEnd d) (e .offset)))
 
 -- the first and the later ones of areas that do not overlap
 pub split-first : (d : Descriptor) (l : List Descriptor) → T (allDisjoint (d ∷ l)) → ((e : Descriptor) → List·Memᴰ e l → Clear d e) × T (allDisjoint l)

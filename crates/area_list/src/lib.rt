@@ -64,7 +64,7 @@ fn all_good(size: usize, pairs: &[u32]) -> bool
 }
 
 // Whether two areas have no byte in common.
-fn disjoint(offset: u32, span: u32, other: u32, extent: u32) -> bool
+pub fn disjoint(offset: u32, span: u32, other: u32, extent: u32) -> bool
     ensures { λ r. ⌜ r ≡ disjoint (areaOf offset span) (areaOf other extent) ⌝ }
 {
     if area_end(offset, span) <= other as usize {

@@ -1,7 +1,7 @@
 -- What an area is by its header. Document 01, "Layouts": "Id 255 is scratch; any other is a file area. A descriptor without a valid header is passed over."
 use Prim.Native.Nat.{ℕ, _+_, _≤_}
 use mathlib.Core.Path.{_≡_, refl, sym, _∙_}
-use mathlib.Core.Bool.{Bool, true, false, cond, not, _&&_}
+use mathlib.Core.Bool.{Bool, true, false, cond}
 use native.Mathlib.Omega.{arith}
 use lib.ListN.{drop}
 use lib.Seq.{getD-take, getD-drop}
@@ -22,6 +22,17 @@ scratchTest image d = isScratch (d .length) (areaBytes image d)
 
 unfoldable pub kindOf : Bytes → Descriptor → AreaKind
 kindOf image d = cond (fileTest image d) File (cond (scratchTest image d) Scratch Invalid)
+
+-- whether a kind is that of file areas, and of scratch
+abbrev pub isFile : AreaKind → Bool
+isFile File = true
+isFile Scratch = false
+isFile Invalid = false
+
+abbrev pub isScratchKind : AreaKind → Bool
+isScratchKind File = false
+isScratchKind Scratch = true
+isScratchKind Invalid = false
 
 -- ---- ids
 
@@ -58,32 +69,11 @@ module _ (image : Bytes) (d : Descriptor) where
   kind-file e f = rw (e, f)
 
   -- and the tests by the kind
-  by-test : {X : Type 0} → ((b c : Bool) → valid ≡ b → scratched ≡ c → X) → X
-  by-test f = f valid scratched refl refl
-
-  pub file-tests : kindOf image d ≡ File → (fileTest image d ≡ true) × (scratchTest image d ≡ false)
-  unfolding kindOf isFileArea isScratch
-  file-tests q = by-test go
+  pub kind-tests : (k : AreaKind) → kindOf image d ≡ k → (fileTest image d ≡ isFile k) × (scratchTest image d ≡ isScratchKind k)
+  unfolding isFileArea isScratch
+  kind-tests k q = go valid scratched refl refl
     where
-      go : (b c : Bool) → valid ≡ b → scratched ≡ c → (fileTest image d ≡ true) × (scratchTest image d ≡ false)
-      go true true e f = let z : _≡_ {A = ℕ} 0 1 = cc (kind-scratch e f) in absurd (omega arith)
-      go true false e f = (rw (e, f), rw (e, f))
-      go false c e f = let z : _≡_ {A = ℕ} 0 1 = cc (kind-invalid e) in absurd (omega arith)
-
-  pub scratch-tests : kindOf image d ≡ Scratch → (fileTest image d ≡ false) × (scratchTest image d ≡ true)
-  unfolding kindOf isFileArea isScratch
-  scratch-tests q = by-test go
-    where
-      go : (b c : Bool) → valid ≡ b → scratched ≡ c → (fileTest image d ≡ false) × (scratchTest image d ≡ true)
-      go true true e f = (rw (e, f), rw (e, f))
-      go true false e f = let z : _≡_ {A = ℕ} 0 1 = cc (kind-file e f) in absurd (omega arith)
-      go false c e f = let z : _≡_ {A = ℕ} 0 1 = cc (kind-invalid e) in absurd (omega arith)
-
-  pub invalid-tests : kindOf image d ≡ Invalid → (fileTest image d ≡ false) × (scratchTest image d ≡ false)
-  unfolding kindOf isFileArea isScratch
-  invalid-tests q = by-test go
-    where
-      go : (b c : Bool) → valid ≡ b → scratched ≡ c → (fileTest image d ≡ false) × (scratchTest image d ≡ false)
-      go true true e f = let z : _≡_ {A = ℕ} 0 1 = cc (kind-scratch e f) in absurd (omega arith)
-      go true false e f = let z : _≡_ {A = ℕ} 0 1 = cc (kind-file e f) in absurd (omega arith)
-      go false c e f = (rw e, rw e)
+      go : (b c : Bool) → valid ≡ b → scratched ≡ c → (fileTest image d ≡ isFile k) × (scratchTest image d ≡ isScratchKind k)
+      go true true e f = rw (← q, ← kind-scratch e f, e, f) (refl, refl)
+      go true false e f = rw (← q, ← kind-file e f, e, f) (refl, refl)
+      go false c e f = rw (← q, ← kind-invalid e, e) (refl, refl)

@@ -32,8 +32,7 @@ use Rattle.area_pass.specs.Bridge.{placedVolume, volume-places}
 use Rattle.path_walk.specs.Resolved.{refusalOf}
 use Rattle.write_pieces.specs.Cut.{pieces, shortest-described}
 use Rattle.write_pieces.specs.Plan.{records-count}
-use Rattle.mount_state.specs.State.{starts, spans, blockIdsAt, Safe, Holds}
-use Rattle.mount_state.specs.State.{blockIds as blockIdsIn}
+use Rattle.mount_state.specs.State.{startsIn, spansIn, blockIdsIn, blockIdsAt, Safe, Holds}
 use Rattle.mount_state.specs.declared.Mounted.{Mounted}
 use Rattle.call_append.specs.Last.{lastUnlessBroken, none-broken, some-whole}
 use Rattle.call_append.specs.Written.{sizeFor, Written}
@@ -95,7 +94,7 @@ module _ {image : Bytes} {ds : List Descriptor} {m : Mounted} {t : List ℕ} (s 
 
   pieces-are : piecesOf (fileAreas image ds) text ≡ pieces (sizeFor m t) text
   unfolding piecesOf
-  pieces-are = rw (← h .files, ← shortest-described (starts m t) (spans m t) (s .fit .pairs))
+  pieces-are = rw (← h .files, ← shortest-described (startsIn m t) (spansIn m t) (s .fit .pairs))
 
   blocks-are : length (blockIds byBytes (volume image ds)) ≡ m .blocks
   blocks-are =

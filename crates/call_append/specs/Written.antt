@@ -11,11 +11,12 @@ use Rattle.format.specs.Record.{longestData}
 use Rattle.format.specs.BlockSize.{greatestBlock}
 use Rattle.format_laws.specs.BlockSize.{block-bounds}
 use Rattle.calls.specs.Areas.{shortestArea}
+use Rattle.calls.specs.Mount.{mostBlocks}
 use Rattle.calls.specs.Storing.{Space, placeAll, storeAll, noPlace, storedOr}
 use Rattle.calls.specs.Append.{blockRecords}
 use Rattle.table_rows.specs.Parts.{part-long}
 use Rattle.area_pass.specs.Rows.{spansAt}
-use Rattle.mount_state.specs.State.{spans, Safe}
+use Rattle.mount_state.specs.State.{spansIn, Safe}
 use Rattle.mount_state.specs.declared.Mounted.{Mounted}
 use Rattle.write_pieces.specs.Cut.{pieces, mostPieces, shortestOf, shortest-long}
 use Rattle.write_pieces.specs.Plan.{idsFor, placesFor, storesOf, storesAt, blocks-placed, ids-count, Planned}
@@ -25,29 +26,30 @@ use Rattle.call_append.specs.declared.Chain.{Chain}
 -- ---- the size of the pieces
 
 abbrev pub sizeFor : Mounted → List ℕ → ℕ
-sizeFor m t = greatestBlock (shortestOf (spans m t))
+sizeFor m t = greatestBlock (shortestOf (spansIn m t))
 
 module _ {image : Bytes} {m : Mounted} {t : List ℕ} (s : Safe image m t) where
-  spans-long : length (spans m t) ≡ m .files
+  spans-long : length (spansIn m t) ≡ m .files
   spans-long = part-long spansAt (m .files) t (omega (arith, s .files-few, s .long))
 
-  pub some-span : 0 < length (spans m t)
+  pub some-span : 0 < length (spansIn m t)
   some-span = omega (arith, spans-long, s .some-file)
 
-  pub shortest-bound : shortestArea ≤ shortestOf (spans m t)
-  shortest-bound = shortest-long shortestArea (spans m t) some-span (λ i h. s .fit .long i (omega (arith, s .fit .pairs)))
+  pub shortest-bound : shortestArea ≤ shortestOf (spansIn m t)
+  shortest-bound = shortest-long shortestArea (spansIn m t) some-span (λ i h. s .fit .long i (omega (arith, s .fit .pairs)))
 
   pub size-bounds : (1 ≤ sizeFor m t) × (sizeFor m t ≤ longestData)
-  size-bounds = block-bounds (shortestOf (spans m t)) shortest-bound
+  size-bounds = block-bounds (shortestOf (spansIn m t)) shortest-bound
 
 -- ---- what is planned and written
 
--- the text is cut into these pieces, as many as one append may make
+-- the text is cut into these pieces, no more than one append may make and than the table of blocks has places
 pub record Cut (c : Chain) (text : Bytes) : Type 0 where
   pub some-room : 1 ≤ c .size
   pub small : c .size ≤ longestData
   pub count : c .count ≡ length (pieces (c .size) text)
   pub few : c .count ≤ mostPieces
+  pub counted : c .count ≤ mostBlocks
 
 -- with an id and a place for each
 pub record Room (c : Chain) (text : Bytes) (ids places : List ℕ) : Type 0 where

@@ -1,4 +1,3 @@
 -- The collection of a mounted volume.
-pub mod Collection
 pub mod Source
 pub mod Mounted

@@ -1,8 +1,8 @@
--- Every file area of a list that passes checks 1 to 4 can be collected into its scratch area.
+-- The copies of every file area of a list that passes checks 1 to 4 fit into its scratch area.
 use Prim.Native.Nat.{ℕ, _+_, _≤_, _<_}
 use mathlib.Core.Path.{_≡_, ap, subst, _∙_}
 use mathlib.Core.Logic.{inl, inr}
-use mathlib.Core.Bool.{not, _&&_}
+use mathlib.Core.Bool.{true, not, _&&_}
 use mathlib.Core.List.{List, map, List·Memᴰ}
 use native.Mathlib.Omega.{arith}
 use lib.ListN.{length, drop, getD, length-take, length-drop}
@@ -24,18 +24,16 @@ use Rattle.calls.specs.declared.Descriptor.{Descriptor}
 use Rattle.collect_laws.specs.Mounted.{copied-survive}
 use Rattle.record_places.specs.Place.{blockAt, sizeAt, bytesAt, byPlace}
 use Rattle.table_rows.specs.Laws.{getD-mem}
-use Rattle.image_laws.specs.Apart.{Apart, apart-before, apart-after}
 use Rattle.image_laws.specs.Stores.{joinedBytes}
 use Rattle.area_list.specs.Places.{Clear}
-use Rattle.area_kinds.specs.Places.{AreasPass, member-fits, file-member, scratch-member, file-scratch-apart, files-disjoint, scratch-longest}
+use Rattle.area_kinds.specs.Places.{AreasPass, member-fits, file-member, file-scratch-apart, files-disjoint, scratch-longest}
 use Rattle.area_pass.specs.Listing.{recordPlaces, placesIn}
 use Rattle.area_pass.specs.Bridge.{record-places-each, record-bytes, record-lies, placedVolume}
 use Rattle.collect_copies.specs.Copied.{Tables, tableOf, AllRows, inside, dropped, countsIn, copied, copiedPlaces}
 use Rattle.collect_copies.specs.First.{first-mem}
 use Rattle.collect_copies.specs.Bridge.{parted, in-area, volume-copies}
 use Rattle.collect_stores.specs.Records.{moved, bytes-long}
-use Rattle.collect_stores.specs.Filled.{Fillable}
-use Rattle.collect_stores.specs.Moved.{Removable}
+use Rattle.collect_stores.specs.Fits.{span, fits, clear-fit}
 
 -- a record that an area is read as ends in it
 record-ends : (image : Bytes) (d : Descriptor) (p : ℕ) → List·Memᴰ p (recordPlaces (d .offset) (recordsOf image d)) → p + sizeAt image p ≤ areaEnd d
@@ -88,33 +86,24 @@ module _ (image : Bytes) (ds : List Descriptor) (pass : AreasPass image ds) (t :
 
   -- scratch has room for them, and none of them is in it
   module _ (rows : AllRows (byPlace image) (placedVolume image ds) tables) where
-    fill : Fillable image (t .offset) (t .length) cs
+    pub copies-fit : fits image t cs ≡ true
     unfolding moved
-    fill =
-        let f = member-fits image ds pass t (scratch-member image ds pass t scratch) in
+    copies-fit =
         let g = member-fits image ds pass s (file-member image ds pass s file) in
         let v = volume-copies image ds s tables apart-all long file rows in
         let e = ap (λ l. length (joinedBytes l)) v in
         let k = copied-survive image ds s .fit in
         let d = length-drop areaHeaderSize (areaBytes image s) in
         let l = length-take (s .length) (drop (s .offset) image) in
-        record {
-          inside = f .inside;
-          header = omega (arith, f .long);
-          lie = λ i h. let r = record-places-each (s .offset) (getD cs i 0) (recordsOf image s) (at-cs i h) in rw (r .2) (record-lies image s (r .0) (r .1));
-          room = omega (arith, g .long, scratch-longest image ds pass s t file scratch);
-          apart = λ i h. clear (getD cs i 0) (in-area image s (getD cs i 0) (at-cs i h) .0) (record-ends image s (getD cs i 0) (at-cs i h))
-              (file-scratch-apart image ds pass s t file scratch);
-        }
+        clear-fit image t areaHeaderSize cs
+        (λ i h. let r = record-places-each (s .offset) (getD cs i 0) (recordsOf image s) (at-cs i h) in rw (r .2) (record-lies image s (r .0) (r .1)))
+        (omega (arith, g .long, scratch-longest image ds pass s t file scratch))
+        (λ i h. clear (getD cs i 0) (in-area image s (getD cs i 0) (at-cs i h) .0) (record-ends image s (getD cs i 0) (at-cs i h))
+        (file-scratch-apart image ds pass s t file scratch))
       where
-        clear : (p : ℕ) → s .offset ≤ p → p + sizeAt image p ≤ areaEnd s → Clear s t → Apart p (sizeAt image p) (t .offset) (t .length)
-        clear p a b (inl c) = apart-before p (sizeAt image p) (t .offset) (t .length) (omega arith)
-        clear p a b (inr c) = apart-after p (sizeAt image p) (t .offset) (t .length) (omega arith)
-
-    pub removable : Removable image t s cs
-    removable =
-        let g = member-fits image ds pass s (file-member image ds pass s file) in
-        record { small = pass .description .small; inside = g .inside; header = omega (arith, g .long); fill = fill }
+        clear : (p : ℕ) → s .offset ≤ p → p + sizeAt image p ≤ areaEnd s → Clear s t → Clear (span image p) t
+        clear p a b (inl c) = inl (omega arith)
+        clear p a b (inr c) = inr (omega arith)
 
     -- what is moved are the copies
     pub moved-copies : map (bytesAt image) cs ≡ copiedRecords image ds s

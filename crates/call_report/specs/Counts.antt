@@ -21,7 +21,7 @@ use Rattle.calls.specs.Report.{stretchesIn, damagedIn, refusedReport, mountedRe
 use Rattle.calls.specs.declared.Descriptor.{Descriptor}
 use Rattle.calls.specs.declared.Report.{Report}
 use Rattle.area_pass.specs.Bridge.{placedVolume, volume-places}
-use Rattle.mount_state.specs.State.{inodeIds, inodeSpots, Safe, Holds, Mounts}
+use Rattle.mount_state.specs.State.{inodeIdsIn, inodeSpotsIn, Safe, Holds, Mounts}
 use Rattle.mount_state.specs.Bridge.{inodes-number}
 use Rattle.mount_state.specs.declared.Mounted.{Mounted}
 
@@ -36,14 +36,14 @@ unfolding reportOf
 report-refused {image} {ds} c h r e = e ∙ rw (c .number, ne-eqb (mountNumber image ds) 0 (λ z. h (c .number ∙ z)))
 
 module _ {image : Bytes} {ds : List Descriptor} {m : Mounted} {t : List ℕ} (s : Safe image m t) (h : Holds image ds m t) where
-  live-are : length (liveRows (byPlace image) (length (inodeIds m t)) (inodeIds m t) (inodeSpots m t)) ≡ length (liveIds byBytes (volume image ds))
+  live-are : length (liveRows (byPlace image) (length (inodeIdsIn m t)) (inodeIdsIn m t) (inodeSpotsIn m t)) ≡ length (liveIds byBytes (volume image ds))
   live-are =
       let e : liveIds byBytes (volume image ds) ≡ liveIds (byPlace image) (placedVolume image ds) =
       rw (volume-places image ds) (liveIds-map (byPlace image) byBytes (bytesAt image) (place-views image) (placedVolume image ds)) in
-      ap length (live-rows (byPlace image) (placedVolume image ds) (length (inodeIds m t)) (inodeIds m t) (inodeSpots m t) (h .inodes) (omega arith) ∙ sym e)
+      ap length (live-rows (byPlace image) (placedVolume image ds) (length (inodeIdsIn m t)) (inodeIdsIn m t) (inodeSpotsIn m t) (h .inodes) (omega arith) ∙ sym e)
 
   pub report-is : (live stretches skipped : ℕ)
-      → live ≡ length (liveRows (byPlace image) (length (inodeIds m t)) (inodeIds m t) (inodeSpots m t))
+      → live ≡ length (liveRows (byPlace image) (length (inodeIdsIn m t)) (inodeIdsIn m t) (inodeSpotsIn m t))
       → stretches ≡ stretchesIn image (fileAreas image ds) → skipped ≡ damagedIn image (fileAreas image ds)
       → record { number = 0; inodes = m .inodes; live = live; stretches = stretches; skipped = skipped } ≡ reportOf image ds
   unfolding reportOf mountedReport

@@ -3,21 +3,21 @@ use Prim.Native.Nat.{ℕ, suc, _+_, _*_, _≤_, _<_}
 use mathlib.Core.Path.{_≡_, refl, sym, ap, ap₂, _∙_}
 use mathlib.Core.List.{List, [], _∷_}
 use native.Mathlib.Omega.{arith}
-use native.Mathlib.Numerals.{add-one}
-use lib.ListN.{length, take, drop, getD, drop-of-length-le}
-use lib.Seq.{drop-cons, getD-take, getD-drop}
+use lib.ListN.{length, drop, getD, drop-of-length-le}
+use lib.Seq.{getD-take, getD-drop}
 use Rattle.format.specs.Bytes.{Bytes}
 use Rattle.format.specs.Record.{recordSize}
 use Rattle.format.specs.Reading.{areaDamage, totalSize}
 use Rattle.calls.specs.Areas.{mostAreas, largestImage, areaBytes, fileAreas}
 use Rattle.calls.specs.Report.{stretchesIn, damagedIn}
+use Rattle.volume_laws.specs.Steps.{drop-step}
 use Rattle.calls.specs.declared.Descriptor.{Descriptor}
 use Rattle.area_list.specs.Described.{areaOf, described}
 use Rattle.table_rows.specs.Parts.{part, part-long}
 use Rattle.area_pass.specs.Reading.{readingOf}
 use Rattle.area_pass.specs.Rows.{spansAt, stretchesAt, skippedAt}
 use Rattle.area_pass.specs.declared.Reading.{Reading}
-use Rattle.mount_state.specs.State.{starts, spans, Safe, Holds}
+use Rattle.mount_state.specs.State.{startsIn, spansIn, Safe, Holds}
 use Rattle.mount_state.specs.declared.Mounted.{Mounted}
 
 unfoldable pub sumOf : List ℕ → ℕ
@@ -41,7 +41,7 @@ module _ (l : List ℕ) (sum i : ℕ) (s : Summing l sum i) where
   pub summing-on : AllSmall l → i < length l → Summing l (sum + getD l i 0) (i + 1)
   unfolding sumOf
   summing-on a h =
-      let e : sumOf (drop i l) ≡ getD l i 0 + sumOf (drop (i + 1) l) = rw (add-one, drop-cons l i 0 h) in
+      let e : sumOf (drop i l) ≡ getD l i 0 + sumOf (drop (i + 1) l) = rw (drop-step l i h) in
       record { within = omega arith; small = omega (arith, s .small, a i h); whole = omega (arith, s .whole, e) }
 
   pub summing-ends : length l ≤ i → sum ≡ sumOf l
@@ -79,29 +79,27 @@ module _ {image : Bytes} {m : Mounted} {t : List ℕ} (s : Safe image m t) where
       omega (arith, s .readings i k .skipped, column-at skippedAt i k)
 
   module _ {ds : List Descriptor} (h : Holds image ds m t) where
-    area-at : (i : ℕ) → i < m .files → areaOf (getD (starts m t) i 0) (getD (spans m t) i 0) ≡ areaOf (getD t i 0) (getD t (spansAt + i) 0)
+    area-at : (i : ℕ) → i < m .files → areaOf (getD (startsIn m t) i 0) (getD (spansIn m t) i 0) ≡ areaOf (getD t i 0) (getD t (spansAt + i) 0)
     area-at i k = rw (getD-take (m .files) t i 0 k, column-at spansAt i k)
 
-    abbrev stretchesOf : Descriptor → ℕ
-    stretchesOf d = length (areaDamage recordSize (areaBytes image d))
-
-    abbrev skippedOf : Descriptor → ℕ
-    skippedOf d = totalSize (areaDamage recordSize (areaBytes image d))
+    -- what is summed over the file areas is the sum of the column that holds it for each
+    column-sum : (S : List Descriptor → ℕ) (g : Descriptor → ℕ) → S [] ≡ 0 → ((d : Descriptor) (l : List Descriptor) → S (d ∷ l) ≡ g d + S l)
+        → (a : ℕ) → a ≤ stretchesAt + mostAreas → ((i : ℕ) → i < m .files → getD t (a + i) 0 ≡ g (areaOf (getD t i 0) (getD t (spansAt + i) 0)))
+        → sumOf (part a (m .files) t) ≡ S (fileAreas image ds)
+    column-sum S g z c a b tells =
+        sums-are S g z c (startsIn m t) (spansIn m t) (part a (m .files) t)
+        (column-long spansAt (omega arith) ∙ sym (column-long 0 (omega arith))) (column-long a b ∙ sym (column-long 0 (omega arith)))
+        (λ i l. let k : i < m .files = omega (arith, column-long 0 (omega arith)) in column-at a i k ∙ tells i k ∙ ap g (sym (area-at i k)))
+        ∙ ap S (h .files)
 
     pub stretches-are : sumOf (part stretchesAt (m .files) t) ≡ stretchesIn image (fileAreas image ds)
     unfolding stretchesIn readingOf
     stretches-are =
-        sums-are (stretchesIn image) stretchesOf refl (λ d l. refl) (starts m t) (spans m t) (part stretchesAt (m .files) t)
-        (column-long spansAt (omega arith) ∙ sym (column-long 0 (omega arith))) (column-long stretchesAt (omega arith) ∙ sym (column-long 0 (omega arith)))
-        (λ i l. let k : i < m .files = omega (arith, column-long 0 (omega arith)) in
-        column-at stretchesAt i k ∙ ap (λ (r : Reading). r .stretches) (h .readings i k) ∙ ap stretchesOf (sym (area-at i k)))
-        ∙ ap (stretchesIn image) (h .files)
+        column-sum (stretchesIn image) (λ d. length (areaDamage recordSize (areaBytes image d))) refl (λ d l. refl) stretchesAt (omega arith)
+        (λ i k. ap (λ (r : Reading). r .stretches) (h .readings i k))
 
     pub skipped-are : sumOf (part skippedAt (m .files) t) ≡ damagedIn image (fileAreas image ds)
     unfolding damagedIn readingOf
     skipped-are =
-        sums-are (damagedIn image) skippedOf refl (λ d l. refl) (starts m t) (spans m t) (part skippedAt (m .files) t)
-        (column-long spansAt (omega arith) ∙ sym (column-long 0 (omega arith))) (column-long skippedAt (omega arith) ∙ sym (column-long 0 (omega arith)))
-        (λ i l. let k : i < m .files = omega (arith, column-long 0 (omega arith)) in
-        column-at skippedAt i k ∙ ap (λ (r : Reading). r .skipped) (h .readings i k) ∙ ap skippedOf (sym (area-at i k)))
-        ∙ ap (damagedIn image) (h .files)
+        column-sum (damagedIn image) (λ d. totalSize (areaDamage recordSize (areaBytes image d))) refl (λ d l. refl) skippedAt (omega arith)
+        (λ i k. ap (λ (r : Reading). r .skipped) (h .readings i k))

@@ -32,7 +32,7 @@ pub record Passes (image : Bytes) (ds : List Descriptor) : Type 0 where
   pub root : noRoot (volume image ds) ≡ false
 
 -- a check with a number other than 0 that refuses nothing
-passed-first : (b : Bool) (n m : ℕ) → cond b (suc n) m ≡ 0 → (b ≡ false) × (m ≡ 0)
+pub passed-first : (b : Bool) (n m : ℕ) → cond b (suc n) m ≡ 0 → (b ≡ false) × (m ≡ 0)
 passed-first true n m e = absurd (omega arith)
 passed-first false n m e = (refl, e)
 

@@ -1,52 +1,19 @@
--- The loops of the choice: one more place, or the end.
+-- The loop that lists the copies: one more place, or the end.
 use Prim.Native.Nat.{ℕ, zero, suc, _+_, _≤_, _<_}
 use mathlib.Core.Path.{_≡_, refl, sym, ap, subst, _∙_}
-use mathlib.Core.Bool.{Bool, true, false, cond}
+use mathlib.Core.Bool.{true, false, cond}
 use mathlib.Core.List.{List, [], _∷_, _++_, append-nil, List·Memᴰ, List·Memᴰ·head, List·Memᴰ·tail, List·Memᴰ·not-nil}
 use native.Mathlib.Omega.{arith}
 use native.Mathlib.Numerals.{add-one}
-use lib.ListN.{length, take, drop, getD, set, length-set, length-append, drop-of-length-le}
-use lib.Seq.{drop-cons, take-all, take-suc, take-suc-set, length-take-le}
+use lib.ListN.{length, take, getD, set, length-set, length-append}
+use lib.Seq.{take-all, take-suc, take-suc-set, length-take-le}
 use Rattle.format.specs.Bytes.{Bytes}
-use Rattle.volume.specs.Lists.{keep, all}
+use Rattle.volume.specs.Lists.{keep}
 use Rattle.volume_laws.specs.Lists.{keep-append, keep-mem}
-use Rattle.record_places.specs.Place.{byPlace, Lies, AllLie}
+use Rattle.record_places.specs.Place.{Lies, AllLie}
 use Rattle.table_rows.specs.Laws.{getD-mem}
-use Rattle.collect_copies.specs.Copied.{Tables, inside, holds, unheld, copied, firstAt, copiedPlaces, noneSame}
+use Rattle.collect_copies.specs.Copied.{Tables, copied, firstAt, copiedPlaces, noneSame}
 use Rattle.collect_copies.specs.First.{first-snoc, first-mem, few-copied}
-
--- ---- the records that hold one, from i on
-
-module _ (image : Bytes) (o n : ℕ) (ps : List ℕ) (id : ℕ) (block : Bool) (i : ℕ) where
-  abbrev here : Bool
-  here = holds image id block (inside o n (getD ps i 0)) (getD ps i 0)
-
-  pub unheld-fails : i < length ps → here ≡ true → unheld image o n (drop i ps) id block ≡ false
-  unfolding unheld all
-  unheld-fails h e = rw (drop-cons ps i 0 h, e)
-
-  pub unheld-on : i < length ps → here ≡ false → unheld image o n (drop i ps) id block ≡ unheld image o n (drop (i + 1) ps) id block
-  unfolding unheld all
-  unheld-on h e = rw (drop-cons ps i 0 h, e, add-one)
-
-  pub unheld-ends : length ps ≤ i → unheld image o n (drop i ps) id block ≡ true
-  unfolding unheld all
-  unheld-ends h = rw (drop-of-length-le ps h)
-
--- ---- the records of the same bytes, from i on
-
-module _ (image : Bytes) (l : List ℕ) (p i : ℕ) where
-  pub same-fails : i < length l → byPlace image .same (getD l i 0) p ≡ true → noneSame image (drop i l) p ≡ false
-  unfolding noneSame all
-  same-fails h e = rw (drop-cons l i 0 h, e)
-
-  pub same-on : i < length l → byPlace image .same (getD l i 0) p ≡ false → noneSame image (drop i l) p ≡ noneSame image (drop (i + 1) l) p
-  unfolding noneSame all
-  same-on h e = rw (drop-cons l i 0 h, e, add-one)
-
-  pub same-ends : length l ≤ i → noneSame image (drop i l) p ≡ true
-  unfolding noneSame all
-  same-ends h = rw (drop-of-length-le l h)
 
 -- ---- the copies listed
 
@@ -60,6 +27,14 @@ take-mem zero ps m = absurd (List·Memᴰ·not-nil m)
 take-mem (suc i) [] m = m
 take-mem (suc i) (q ∷ ps) (List·Memᴰ·head e) = List·Memᴰ·head e
 take-mem (suc i) (q ∷ ps) (List·Memᴰ·tail m) = List·Memᴰ·tail (take-mem i ps m)
+
+-- and so do the copies
+pub copies-lie : (image : Bytes) (o n : ℕ) (ps : List ℕ) (t : Tables) → AllLie image ps (length ps)
+    → AllLie image (copiedPlaces image o n ps t) (length (copiedPlaces image o n ps t))
+unfolding copiedPlaces
+copies-lie image o n ps t h i l =
+    let kept = keep (copied image o n ps t) ps in
+    lies-mem image ps h (keep-mem (copied image o n ps t) ps (first-mem image kept (getD-mem (firstAt image kept) i l)) .0)
 
 -- the first k of l are the copies among the first i places
 pub record Choosing (image : Bytes) (o n : ℕ) (ps : List ℕ) (t : Tables) (l₀ l : List ℕ) (k i : ℕ) : Type 0 where

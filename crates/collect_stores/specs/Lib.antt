@@ -4,3 +4,4 @@ pub mod Moving
 pub mod Reset
 pub mod Filled
 pub mod Moved
+pub mod Fits

@@ -10,11 +10,13 @@ ghost use Rattle.calls.specs.Image.{put};
 ghost use Rattle.calls.specs.Storing.{storeAll};
 ghost use Rattle.calls.specs.Collect.{isBlank, resetStores, readyStores, idStore, recordStores, nextCount};
 ghost use Rattle.area_list.specs.Described.{areaOf};
-ghost use Rattle.record_places.specs.Place.{bytesAt};
+ghost use Rattle.record_places.specs.Place.{bytesAt, AllLie};
 ghost use Rattle.collect_stores.specs.Records.{moved};
 ghost use Rattle.collect_stores.specs.Moving.{Movable};
 ghost use Rattle.collect_stores.specs.Filled.{Fillable};
+ghost use Rattle.collect_stores.specs.Fits.{fits};
 ghost use Rattle.collect_stores.specs.Moved.{movedInto, Removable};
+use area_list::disjoint;
 use area_read::HEADER_SIZE;
 use area_read::ID_AT;
 use area_read::SCRATCH_ID;
@@ -39,6 +41,32 @@ fn next_count(count: u8) -> u8
         return 0;
     }
     count + 1
+}
+
+// Whether the records at some places can be stored behind an area's header, one behind the other: the area has room for them, and none of
+// them has a byte in it.
+pub fn fits(image: &[u8], area: Descriptor, places: &[u16]) -> bool
+    requires { ⌜ AllLie (now image) (now places) (length (now places)) ⌝ }
+    requires { ⌜ areaHeaderSize ≤ area .length ⌝ }
+    ensures { λ r. ⌜ r ≡ fits (now (image .entry)) area (now (places .entry)) ⌝ }
+{
+    let span = area.length as usize;
+    let mut at = HEADER_SIZE;
+    let mut i = 0;
+    while i < places.len() {
+        let p = places[i] as u32;
+        let size = size_at(image, p);
+        let end = at + size;
+        if end > span {
+            return false;
+        }
+        if disjoint(p, size as u32, area.offset, area.length) {} else {
+            return false;
+        }
+        at = end;
+        i += 1;
+    }
+    true
 }
 
 // Copies the records at some places to `to`, one behind the other.

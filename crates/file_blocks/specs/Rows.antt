@@ -5,9 +5,8 @@ use mathlib.Core.Bool.{Bool, true, false, cond, not, _&&_}
 use mathlib.Core.Option.{none, some}
 use mathlib.Core.List.{List, [], _∷_, map, List·Memᴰ, List·Memᴰ·head, List·Memᴰ·tail, List·Memᴰ·not-nil}
 use native.Mathlib.Omega.{arith}
-use native.Mathlib.Numerals.{add-one}
 use lib.ListN.{length, getD, drop, length-map, length-drop, drop-of-length-le}
-use lib.Seq.{take-length, getD-drop, drop-cons, drop-drop}
+use lib.Seq.{take-length, getD-drop, drop-drop}
 use lib.Dec.{eqb}
 use Rattle.format.specs.Bytes.{Bytes}
 use Rattle.format.specs.Ids.{NONE}
@@ -16,6 +15,7 @@ use Rattle.volume.specs.View.{View}
 use Rattle.volume.specs.Counting.{Volume, blockOf, blockIds}
 use Rattle.volume.specs.Contents.{chainStart, owns, owned, unnamed, lastBlock}
 use Rattle.volume_laws.specs.Lists.{keep-cong, keep-keep, keep-map, keep-mem, keep-shorter, all-cong, all-map}
+use Rattle.volume_laws.specs.Steps.{drop-step}
 use Rattle.volume_laws.specs.Counting.{counting-mem}
 use Rattle.record_places.specs.Place.{byPlace}
 use Rattle.table_rows.specs.Laws.{row-counts}
@@ -23,9 +23,6 @@ use Rattle.table_rows.specs.Rows.{Usable, RowsOf}
 use Rattle.file_blocks.specs.Blocks.{BlocksOf, firstOf, mine, free, isEnd}
 
 -- ---- a list from a place on
-
-pub rest-cons : (l : List ℕ) (k : ℕ) → k < length l → drop k l ≡ getD l k 0 ∷ drop (k + 1) l
-rest-cons l k h = drop-cons l k 0 h ∙ rw add-one
 
 pub rest-none : (l : List ℕ) (k : ℕ) → length l ≤ k → drop k l ≡ []
 rest-none l k h = drop-of-length-le l {i = k} h
@@ -155,7 +152,7 @@ module _ (F : View ℕ) (f : ℕ) (spots : List ℕ) (k : ℕ) where
         (not (eqb (F .previous (getD spots k 0)) i) && free F f (drop (k + 1) spots) i)
         (free F f (drop (k + 1) spots) i)
     unfolding free keep all
-    free-cons h = rw (rest-cons spots k h) (go (eqb (F .owner (getD spots k 0)) f))
+    free-cons h = rw (drop-step spots k h) (go (eqb (F .owner (getD spots k 0)) f))
       where
         go : (b : Bool) → all (λ q. not (eqb (F .previous q) i)) (cond b (getD spots k 0 ∷ mine F f (drop (k + 1) spots)) (mine F f (drop (k + 1) spots)))
             ≡ cond b (not (eqb (F .previous (getD spots k 0)) i) && free F f (drop (k + 1) spots) i) (free F f (drop (k + 1) spots) i)
@@ -189,12 +186,12 @@ module _ (F : View ℕ) (f : ℕ) (spots : List ℕ) (k : ℕ) where
   pub count-mine : k < length spots → eqb (F .owner (getD spots k 0)) f ≡ true
       → length (mine F f (drop k spots)) ≡ suc (length (mine F f (drop (k + 1) spots)))
   unfolding keep
-  count-mine h e = rw (rest-cons spots k h, e)
+  count-mine h e = rw (drop-step spots k h, e)
 
   pub count-other : k < length spots → eqb (F .owner (getD spots k 0)) f ≡ false
       → length (mine F f (drop k spots)) ≡ length (mine F f (drop (k + 1) spots))
   unfolding keep
-  count-other h e = rw (rest-cons spots k h, e)
+  count-other h e = rw (drop-step spots k h, e)
 
   pub count-end : length spots ≤ k → length (mine F f (drop k spots)) ≡ 0
   unfolding keep
@@ -206,10 +203,10 @@ module _ (F : View ℕ) (f : ℕ) (spots : List ℕ) (k : ℕ) where
 -- the search for a row that passes a test
 module _ (t : ℕ → Bool) (spots : List ℕ) (k : ℕ) where
   pub search-here : k < length spots → t (getD spots k 0) ≡ true → firstOf t (drop k spots) ≡ 0
-  search-here h e = rw (rest-cons spots k h) (first-here t (getD spots k 0) (drop (k + 1) spots) e)
+  search-here h e = rw (drop-step spots k h) (first-here t (getD spots k 0) (drop (k + 1) spots) e)
 
   pub search-later : k < length spots → t (getD spots k 0) ≡ false → firstOf t (drop k spots) ≡ suc (firstOf t (drop (k + 1) spots))
-  search-later h e = rw (rest-cons spots k h) (first-later t (getD spots k 0) (drop (k + 1) spots) e)
+  search-later h e = rw (drop-step spots k h) (first-later t (getD spots k 0) (drop (k + 1) spots) e)
 
   pub search-end : length spots ≤ k → firstOf t (drop k spots) ≡ 0
   unfolding firstOf

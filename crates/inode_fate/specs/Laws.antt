@@ -4,11 +4,9 @@ use mathlib.Core.Path.{_≡_, sym, ap, _∙_}
 use mathlib.Core.Logic.{_≢_}
 use mathlib.Core.Bool.{Bool, true, false}
 use mathlib.Core.Option.{Option, none, some}
-use mathlib.Core.List.{List, _∷_}
+use mathlib.Core.List.{List}
 use native.Mathlib.Omega.{arith}
-use native.Mathlib.Numerals.{add-one}
-use lib.ListN.{length, take, drop, getD, drop-of-length-le}
-use lib.Seq.{drop-cons, length-take-le, getD-take}
+use lib.ListN.{length, take, drop, getD}
 use borrow.Author.Tests.{eq-eqb, ne-eqb}
 use Rattle.format.specs.Ids.{NONE, rootId}
 use Rattle.volume.specs.Lists.{keep}
@@ -16,6 +14,7 @@ use Rattle.volume.specs.View.{View}
 use Rattle.volume.specs.Counting.{Volume, inodeOf, inodeIds}
 use Rattle.volume.specs.Fate.{live, dead, orphan, isLive, ascend, climb, fateWithin, fateOf, liveIds}
 use Rattle.volume_laws.specs.Lists.{keep-cong}
+use Rattle.volume_laws.specs.Steps.{front-step, front-end}
 use Rattle.volume_laws.specs.Climb.{fate-stop, fate-on, climb-same}
 use Rattle.table_rows.specs.Table.{found, Rows}
 use Rattle.table_rows.specs.Laws.{rows-number}
@@ -63,25 +62,22 @@ pub count-starts : (f : ℕ → Bool) (n : ℕ) (l : List ℕ) → Counted f n l
 count-starts f n l = record { within = omega arith; few = omega arith; with-rest = omega arith }
 
 module _ (f : ℕ → Bool) (n : ℕ) (l : List ℕ) (long : n ≤ length l) (live i : ℕ) (so-far : Counted f n l live i) where
-  next-id : i < n → drop i (take n l) ≡ getD l i 0 ∷ drop (i + 1) (take n l)
-  next-id h = rw (add-one, drop-cons (take n l) i 0 (rw (length-take-le n l long) h), getD-take n l i 0 h)
-
   pub count-one : i < n → f (getD l i 0) ≡ true → Counted f n l (live + 1) (i + 1)
   unfolding keep
   count-one h e =
-      let s : length (keep f (drop i (take n l))) ≡ suc (length (keep f (drop (i + 1) (take n l)))) = rw (next-id h, e) in
+      let s : length (keep f (drop i (take n l))) ≡ suc (length (keep f (drop (i + 1) (take n l)))) = rw (front-step l n i long h, e) in
       record { within = omega arith; few = omega (arith, so-far .few); with-rest = omega (arith, so-far .with-rest) }
 
   pub count-none : i < n → f (getD l i 0) ≡ false → Counted f n l live (i + 1)
   unfolding keep
   count-none h e =
-      let s : length (keep f (drop i (take n l))) ≡ length (keep f (drop (i + 1) (take n l))) = rw (next-id h, e) in
+      let s : length (keep f (drop i (take n l))) ≡ length (keep f (drop (i + 1) (take n l))) = rw (front-step l n i long h, e) in
       record { within = omega arith; few = omega (arith, so-far .few); with-rest = omega (arith, so-far .with-rest) }
 
   pub count-ends : n ≤ i → live ≡ length (keep f (take n l))
   unfolding keep
   count-ends h =
-      let s : length (keep f (drop i (take n l))) ≡ 0 = rw (drop-of-length-le (take n l) {i = i} (rw (length-take-le n l long) h)) in
+      let s : length (keep f (drop i (take n l))) ≡ 0 = rw (front-end l n i long h) in
       omega (arith, so-far .with-rest)
 
 -- ---- the volume whose inodes the first n rows are

@@ -1,7 +1,8 @@
 -- From the areas that checks 1 to 4 pass, and the records in them, to the mounted volume.
 use Prim.Native.Nat.{ℕ, _+_, _≤_, _<_}
 use mathlib.Core.Path.{_≡_, refl, sym, ap, ap₂, subst, _∙_}
-use mathlib.Core.List.{List}
+use mathlib.Core.Logic.{_≢_}
+use mathlib.Core.List.{List, List·Memᴰ·head}
 use native.Mathlib.Omega.{arith}
 use lib.ListN.{length, take, drop, getD, length-take}
 use lib.Seq.{getD-take}
@@ -20,7 +21,8 @@ use Rattle.calls.specs.declared.Descriptor.{Descriptor}
 use Rattle.calls_laws.specs.Records.{records-sound}
 use Rattle.area_list.specs.Described.{described, described-length}
 use Rattle.area_kinds.specs.Checks.{recordChecks, mount-refused, mount-goes-on, Checked, Split}
-use Rattle.area_kinds.specs.Places.{AreasPass, checked-pass, files-apart, files-lie}
+use Rattle.area_list.specs.Good.{AreaFits}
+use Rattle.area_kinds.specs.Places.{AreasPass, checked-pass, member-fits, scratch-member, files-apart, files-lie}
 use Rattle.area_kinds.specs.declared.CheckedAreas.{CheckedAreas}
 use Rattle.area_pass.specs.Listing.{placesIn, AreasFit}
 use Rattle.area_pass.specs.Reading.{readingOf}
@@ -37,10 +39,11 @@ unfolding recordChecks checksIn volume acceptedRecords
 record-checks image ds = refl
 
 -- a refused mount
-pub refuses : (image : Bytes) (ds : List Descriptor) (n : ℕ) (t ps : List ℕ) (m : Mounted) → m ≡ refusedMount n → (n ≡ 0 → ⊥) → n ≡ mountNumber image ds
+pub refuses : (image : Bytes) (ds : List Descriptor) (n : ℕ) (t ps : List ℕ) (m : Mounted) → m ≡ refusedMount n → n ≢ 0 → n ≡ mountNumber image ds
     → Mounts image ds m t ps
 refuses image ds n t ps m e h q = rw e (record {
   number = q;
+  refused = λ z. refl;
   safe = λ z. absurd (h z);
   holds = λ z. absurd (h z);
   safe-places = λ z. absurd (h z);
@@ -53,7 +56,7 @@ same-reading t r i a b c = rw (a, b, c)
 
 -- the answer a of checks 1 to 4, which left the file areas in the tables t
 module _ (image : Bytes) (ds : List Descriptor) (a : CheckedAreas) (t : List ℕ) (long : length t ≡ tablesSize) (c : Checked image ds a t) where
-  pub areas-refused : (t′ ps : List ℕ) (m : Mounted) → m ≡ refusedMount (a .number) → (a .number ≡ 0 → ⊥) → Mounts image ds m t′ ps
+  pub areas-refused : (t′ ps : List ℕ) (m : Mounted) → m ≡ refusedMount (a .number) → a .number ≢ 0 → Mounts image ds m t′ ps
   areas-refused t′ ps m e h = refuses image ds (a .number) t′ ps m e h (sym (mount-refused image ds (a .number) (sym (c .refusal)) h))
 
   module _ (z : a .number ≡ 0) where
@@ -65,6 +68,9 @@ module _ (image : Bytes) (ds : List Descriptor) (a : CheckedAreas) (t : List ℕ
 
     fits : AreasFit image (part 0 (a .files) t) (part spansAt (a .files) t)
     fits = files-lie image ds passed a t split (omega (arith, long))
+
+    scratch-fits : AreaFits (length image) (a .scratch)
+    scratch-fits = member-fits image ds passed (a .scratch) (scratch-member image ds passed (a .scratch) (rw (split .scratch) (List·Memᴰ·head refl)))
 
     -- check 3 asks for a file area
     some-file : 0 < a .files
@@ -98,7 +104,7 @@ module _ (image : Bytes) (ds : List Descriptor) (a : CheckedAreas) (t : List ℕ
         checked : f .number ≡ mountNumber image ds
         checked = g .number (fileAreas image ds) listed ∙ ap firstRefusal (sym (record-checks image ds)) ∙ sym (mount-goes-on image ds (sym (c .refusal) ∙ z))
 
-        pub records-refused : (t′ : List ℕ) (m : Mounted) → m ≡ refusedMount (f .number) → (f .number ≡ 0 → ⊥) → Mounts image ds m t′ ps
+        pub records-refused : (t′ : List ℕ) (m : Mounted) → m ≡ refusedMount (f .number) → f .number ≢ 0 → Mounts image ds m t′ ps
         records-refused t′ m e h = refuses image ds (f .number) t′ ps m e h checked
 
         module _ (rows-long : length rows ≡ length (part inodeIdsAt allRows u)) (y : f .number ≡ 0) where
@@ -182,6 +188,7 @@ module _ (image : Bytes) (ds : List Descriptor) (a : CheckedAreas) (t : List ℕ
               (putBack inodeIdsAt allRows u rows) ps
           mount-passes ps-long = record {
             number = sym y ∙ checked;
+            refused = λ w. absurd (w refl);
             safe = λ w. record {
               long = full-long;
               some-file = some-file;
@@ -190,6 +197,7 @@ module _ (image : Bytes) (ds : List Descriptor) (a : CheckedAreas) (t : List ℕ
               blocks-few = rowed .blocks-few;
               fit = both (AreasFit image) starts-still spans-still fits;
               readings = smalls;
+              scratch = scratch-fits;
               inodes = both (InodeTable image) inode-ids inode-spots (rowed .inodes);
               blocks = both (BlockTable image) block-ids block-spots (rowed .blocks);
             };

@@ -7,8 +7,7 @@ use lib.ListN.{length, take, drop, length-take}
 use lib.Seq.{getD-take}
 use Rattle.format.specs.Bytes.{Bytes}
 use Rattle.volume.specs.View.{byBytes}
-use Rattle.volume.specs.Counting.{inodeOf, volumeOf}
-use Rattle.volume.specs.Counting.{inodeIds as inodesSeen}
+use Rattle.volume.specs.Counting.{inodeOf, inodeIds, volumeOf}
 use Rattle.volume.specs.Tree.{children, lookupNames}
 use Rattle.volume_laws.specs.Map.{over, overVolume, lookupNames-map, children-map, inodeOf-map, inodeIds-map}
 use Rattle.record_places.specs.Place.{byPlace, bytesAt, AllLie}
@@ -24,7 +23,7 @@ use Rattle.area_pass.specs.Rows.{spansAt}
 use Rattle.table_rows.specs.Parts.{part-long, lent, lent-front, both}
 use Rattle.table_rows.specs.Laws.{rows-number}
 use Rattle.table_rows.specs.Rows.{InodeTable, BlockTable, RowsOf}
-use Rattle.mount_state.specs.State.{inodeIds, inodeSpots, inodeIdsAt, inodeSpotsAt, blockIdsAt, blockSpotsAt, Safe, Holds, SafePlaces, HoldsPlaces}
+use Rattle.mount_state.specs.State.{inodeIdsIn, inodeSpotsIn, inodeIdsAt, inodeSpotsAt, blockIdsAt, blockSpotsAt, Safe, Holds, SafePlaces, HoldsPlaces}
 use Rattle.mount_state.specs.declared.Mounted.{Mounted}
 
 -- the volume of the calls, by the places of its records
@@ -38,7 +37,7 @@ module _ (image : Bytes) (ds : List Descriptor) where
   pub inode-is : (i : ℕ) → inodeOf byBytes (volume image ds) i ≡ over (bytesAt image) (inodeOf (byPlace image) (placedVolume image ds) i)
   inode-is i = rw (volume-places image ds) (inodeOf-map (byPlace image) byBytes (bytesAt image) (place-views image) (placedVolume image ds) i)
 
-  pub ids-are : inodesSeen (byPlace image) (placedVolume image ds) ≡ inodesSeen byBytes (volume image ds)
+  pub ids-are : inodeIds (byPlace image) (placedVolume image ds) ≡ inodeIds byBytes (volume image ds)
   ids-are = sym (rw (volume-places image ds) (inodeIds-map (byPlace image) byBytes (bytesAt image) (place-views image) (placedVolume image ds)))
 
 -- ---- the parts, as the checker states what `&tables[a..a + n]` lends
@@ -74,13 +73,13 @@ module _ {image : Bytes} {ds : List Descriptor} {m : Mounted} {t : List ℕ} (h 
 -- ---- how many inodes and blocks there are
 
 module _ {image : Bytes} {ds : List Descriptor} {m : Mounted} {t : List ℕ} (s : Safe image m t) (h : Holds image ds m t) where
-  pub inode-rows-long : length (inodeIds m t) ≡ m .inodes
+  pub inode-rows-long : length (inodeIdsIn m t) ≡ m .inodes
   inode-rows-long = part-long inodeIdsAt (m .inodes) t (omega (arith, s .inodes-few, s .long))
 
-  pub inodes-number : m .inodes ≡ length (inodesSeen byBytes (volume image ds))
+  pub inodes-number : m .inodes ≡ length (inodeIds byBytes (volume image ds))
   inodes-number =
       sym inode-rows-long
-      ∙ rows-number (byPlace image) (placedVolume image ds .inodes) (length (inodeIds m t)) (inodeIds m t) (inodeSpots m t) (h .inodes) (omega arith)
+      ∙ rows-number (byPlace image) (placedVolume image ds .inodes) (length (inodeIdsIn m t)) (inodeIdsIn m t) (inodeSpotsIn m t) (h .inodes) (omega arith)
       ∙ ap length (ids-are image ds)
 
 -- ---- the places of all records, as `&places[0..records]` lends them

@@ -1,6 +1,7 @@
 -- What a mounted volume is: where its parts stand, what the code relies on for any tables, and what the tables hold.
 use Prim.Native.Nat.{ℕ, _+_, _≤_, _<_}
 use mathlib.Core.Path.{_≡_}
+use mathlib.Core.Logic.{_≢_}
 use mathlib.Core.List.{List, [], _∷_}
 use lib.ListN.{length, take}
 use Rattle.format.specs.Bytes.{Bytes}
@@ -13,6 +14,7 @@ use Rattle.calls.specs.declared.Descriptor.{Descriptor}
 use Rattle.area_pass.specs.Reading.{readingOf}
 use Rattle.area_pass.specs.Rows.{spansAt, areaRows, areaAt, readingAt, Small}
 use Rattle.area_list.specs.Described.{described}
+use Rattle.area_list.specs.Good.{AreaFits}
 use Rattle.area_pass.specs.Listing.{placesIn, AreasFit}
 use Rattle.area_pass.specs.Bridge.{placedVolume}
 use Rattle.mount_state.specs.declared.Mounted.{Mounted}
@@ -33,25 +35,25 @@ blockSpotsAt = blockIdsAt + mostBlocks
 abbrev pub tablesSize : ℕ
 tablesSize = blockSpotsAt + mostBlocks
 
--- the parts
+-- the parts: the columns of what stands in the tables
 module _ (m : Mounted) (t : List ℕ) where
-  abbrev pub starts : List ℕ
-  starts = part 0 (m .files) t
+  abbrev pub startsIn : List ℕ
+  startsIn = part 0 (m .files) t
 
-  abbrev pub spans : List ℕ
-  spans = part spansAt (m .files) t
+  abbrev pub spansIn : List ℕ
+  spansIn = part spansAt (m .files) t
 
-  abbrev pub inodeIds : List ℕ
-  inodeIds = part inodeIdsAt (m .inodes) t
+  abbrev pub inodeIdsIn : List ℕ
+  inodeIdsIn = part inodeIdsAt (m .inodes) t
 
-  abbrev pub inodeSpots : List ℕ
-  inodeSpots = part inodeSpotsAt (m .inodes) t
+  abbrev pub inodeSpotsIn : List ℕ
+  inodeSpotsIn = part inodeSpotsAt (m .inodes) t
 
-  abbrev pub blockIds : List ℕ
-  blockIds = part blockIdsAt (m .blocks) t
+  abbrev pub blockIdsIn : List ℕ
+  blockIdsIn = part blockIdsAt (m .blocks) t
 
-  abbrev pub blockSpots : List ℕ
-  blockSpots = part blockSpotsAt (m .blocks) t
+  abbrev pub blockSpotsIn : List ℕ
+  blockSpotsIn = part blockSpotsAt (m .blocks) t
 
 -- what a call lends to a mount
 pub record Lent (tables places : List ℕ) : Type 0 where
@@ -65,19 +67,20 @@ pub record Safe (image : Bytes) (m : Mounted) (tables : List ℕ) : Type 0 where
   pub files-few : m .files ≤ mostAreas
   pub inodes-few : m .inodes ≤ mostInodes
   pub blocks-few : m .blocks ≤ mostBlocks
-  pub fit : AreasFit image (starts m tables) (spans m tables)
+  pub fit : AreasFit image (startsIn m tables) (spansIn m tables)
   pub readings : (i : ℕ) → i < m .files → Small tables i
-  pub inodes : InodeTable image (inodeIds m tables) (inodeSpots m tables)
-  pub blocks : BlockTable image (blockIds m tables) (blockSpots m tables)
+  pub scratch : AreaFits (length image) (m .scratch)
+  pub inodes : InodeTable image (inodeIdsIn m tables) (inodeSpotsIn m tables)
+  pub blocks : BlockTable image (blockIdsIn m tables) (blockSpotsIn m tables)
 
 -- Meaning: these tables hold this image and area list, which mount.
 pub record Holds (image : Bytes) (ds : List Descriptor) (m : Mounted) (tables : List ℕ) : Type 0 where
   pub number : mountNumber image ds ≡ 0
-  pub files : described (starts m tables) (spans m tables) ≡ fileAreas image ds
+  pub files : described (startsIn m tables) (spansIn m tables) ≡ fileAreas image ds
   pub readings : (i : ℕ) → i < m .files → readingAt tables i ≡ readingOf (areaAt image tables i)
   pub scratch : scratchAreas image ds ≡ m .scratch ∷ []
-  pub inodes : RowsOf (byPlace image) (placedVolume image ds .inodes) (inodeIds m tables) (inodeSpots m tables)
-  pub blocks : RowsOf (byPlace image) (placedVolume image ds .blocks) (blockIds m tables) (blockSpots m tables)
+  pub inodes : RowsOf (byPlace image) (placedVolume image ds .inodes) (inodeIdsIn m tables) (inodeSpotsIn m tables)
+  pub blocks : RowsOf (byPlace image) (placedVolume image ds .blocks) (blockIdsIn m tables) (blockSpotsIn m tables)
 
 -- the same two of the places of all records, for the calls that walk them
 pub record SafePlaces (image : Bytes) (m : Mounted) (places : List ℕ) : Type 0 where
@@ -88,14 +91,15 @@ pub record SafePlaces (image : Bytes) (m : Mounted) (places : List ℕ) : Type 0
 abbrev pub HoldsPlaces : Bytes → List Descriptor → Mounted → List ℕ → Type 0
 HoldsPlaces image ds m places = take (m .records) places ≡ placesIn image (fileAreas image ds)
 
--- what a mount answers and leaves
+-- a refused mount's other numbers are 0
+abbrev pub refusedMount : ℕ → Mounted
+refusedMount n = record { number = n; files = 0; records = 0; inodes = 0; blocks = 0; scratch = record { offset = 0; length = 0 } }
+
+-- what a mount answers and leaves; what the lent slices hold after a refused one has no meaning
 pub record Mounts (image : Bytes) (ds : List Descriptor) (m : Mounted) (tables places : List ℕ) : Type 0 where
   pub number : m .number ≡ mountNumber image ds
+  pub refused : m .number ≢ 0 → m ≡ refusedMount (m .number)
   pub safe : m .number ≡ 0 → Safe image m tables
   pub holds : m .number ≡ 0 → Holds image ds m tables
   pub safe-places : m .number ≡ 0 → SafePlaces image m places
   pub holds-places : m .number ≡ 0 → HoldsPlaces image ds m places
-
--- a refused mount's other numbers are 0
-abbrev pub refusedMount : ℕ → Mounted
-refusedMount n = record { number = n; files = 0; records = 0; inodes = 0; blocks = 0; scratch = record { offset = 0; length = 0 } }

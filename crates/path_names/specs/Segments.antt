@@ -16,23 +16,6 @@ use Rattle.volume.specs.Lists.{all}
 use Rattle.volume.specs.Path.{SLASH, longestName, splitByte, segments, goodSegment, goodSegments, isAbsolute}
 use Rattle.path_names.specs.Names.{noNul, toSlash, segmentEnd, segmentAt, Ended}
 
--- ---- the loop over bytes without NUL
-
-module _ (s : Bytes) (i : ℕ) where
-  nul-step : i < length s → noNul (drop i s) ≡ (not (eqb (byteAt s i) 0) && noNul (drop (i + 1) s))
-  unfolding all
-  nul-step h = rw (add-one, drop-cons s i 0)
-
-  pub nul-here : i < length s → byteAt s i ≡ 0 → noNul (drop i s) ≡ false
-  nul-here h e = simp (nul-step h, e)
-
-  pub nul-next : i < length s → (byteAt s i ≡ 0 → ⊥) → noNul (drop i s) ≡ noNul (drop (i + 1) s)
-  nul-next h e = simp (nul-step h, ne-eqb _ _ e)
-
-  pub nul-end : length s ≤ i → noNul (drop i s) ≡ true
-  unfolding all
-  nul-end h = rw (drop-of-length-le s h)
-
 -- ---- the loop to a segment's end
 
 module _ (s : Bytes) (i : ℕ) where

@@ -1,7 +1,7 @@
 // Inode and block records: their header types, and the acceptable record at the front of some bytes.
 ghost use mathlib.Core.Path.{_≡_};
 ghost use Prim.Native.Nat.{_+_, _≤_};
-ghost use mathlib.Core.Bool.{cond};
+ghost use mathlib.Core.Bool.{cond, _&&_};
 ghost use lib.ListN.{length, take, drop};
 ghost use lib.Dec.{eqb};
 ghost use Rattle.format.specs.Bytes.{le16, le32};
@@ -225,6 +225,21 @@ fn block_rules(b: &[u8]) -> bool
     BlockHeader::load(b).rule()
 }
 
+// The size of the record whose bytes are `b`, with a header of `size` bytes and the check field at `offset`; 0 if its rules, which `lawful` tells, or
+// its check are broken.
+fn right_size(b: &[u8], lawful: bool, offset: usize, size: usize) -> usize
+    requires { ⌜ (offset + 2 ≤ length (now b)) × (size ≤ length (now b)) ⌝ }
+    ensures { λ r. ⌜ r ≡ cond (lawful && eqb (le16 (now (b .entry)) offset) (check (take offset (now (b .entry))) (drop size (now (b .entry))))) (length (now (b .entry))) 0 ⌝ }
+{
+    if lawful {} else {
+        return 0;
+    }
+    if check_right(b, offset, size) {
+        return b.len();
+    }
+    0
+}
+
 // The size of the inode at the front of `t`, which has the magic of one; 0 if it is not acceptable.
 fn inode_size(t: &[u8]) -> usize
     requires { ⌜ (20 ≤ length (now t)) × (le32 (now t) 0 ≡ inode .magic) ⌝ }
@@ -234,13 +249,13 @@ fn inode_size(t: &[u8]) -> usize
     if t.len() < end {
         return 0;
     }
-    if inode_rules(&t[..end]) {} else {
-        return 0;
-    }
-    if check_right(&t[..end], InodeHeader::CHECK_OFFSET, InodeHeader::SIZE) {
-        return end;
-    }
-    0
+    let lawful = inode_rules(&t[..end]);
+    right_size(
+        &t[..end],
+        lawful,
+        InodeHeader::CHECK_OFFSET,
+        InodeHeader::SIZE,
+    )
 }
 
 // The same for a block.
@@ -252,13 +267,13 @@ fn block_size(t: &[u8]) -> usize
     if t.len() < end {
         return 0;
     }
-    if block_rules(&t[..end]) {} else {
-        return 0;
-    }
-    if check_right(&t[..end], BlockHeader::CHECK_OFFSET, BlockHeader::SIZE) {
-        return end;
-    }
-    0
+    let lawful = block_rules(&t[..end]);
+    right_size(
+        &t[..end],
+        lawful,
+        BlockHeader::CHECK_OFFSET,
+        BlockHeader::SIZE,
+    )
 }
 
 // The size of the acceptable record at the front of `t`, 0 where there is none.

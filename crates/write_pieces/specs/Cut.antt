@@ -15,7 +15,6 @@ use Rattle.format.specs.Bytes.{Bytes}
 use Rattle.format.specs.BlockSize.{greatestBlock}
 use Rattle.format_laws.specs.BlockSize.{block-bounds, block-grows}
 use Rattle.calls.specs.Areas.{shortestArea}
-use Rattle.calls.specs.Mount.{mostBlocks}
 use Rattle.calls.specs.Append.{mostAppended, cutInto, shortestLength}
 use Rattle.area_list.specs.Described.{described}
 
@@ -114,19 +113,22 @@ fewer (suc n) m s t h p l = div-mono (suc n + (s - 1)) s (m + (t - 1)) t (omega 
         let d : (m - 1) * t ≤ (m - 1) * s = mul-le-mul-left (m - 1) l in
         rw (a, b, add-mul n s t, add-mul (m - 1) t s, mul-comm s t) (omega (arith, c, d))
 
--- the most pieces of one append: those of the most bytes where the shortest file area is as short as one may be
+-- no greatest block size is less
+abbrev pub leastBlock : ℕ
+leastBlock = 40
+
+pub least-block : (shortest : ℕ) → shortestArea ≤ shortest → leastBlock ≤ greatestBlock shortest
+unfolding greatestBlock
+least-block shortest h = omega (arith, block-grows shortestArea shortest h)
+
+-- the most pieces of one append
 abbrev pub mostPieces : ℕ
-mostPieces = (mostAppended + (greatestBlock shortestArea - 1)) / greatestBlock shortestArea
+mostPieces = (mostAppended + (leastBlock - 1)) / leastBlock
 
 pub few-pieces : (shortest : ℕ) (text : Bytes) → shortestArea ≤ shortest → length text ≤ mostAppended → length (pieces (greatestBlock shortest) text) ≤ mostPieces
 few-pieces shortest text h l =
     rw (pieces-count (greatestBlock shortest) (block-bounds shortest h .0) text)
-    (fewer (length text) mostAppended (greatestBlock shortest) (greatestBlock shortestArea) l (block-bounds shortestArea (omega arith) .0) (block-grows shortestArea shortest h))
-
--- the table of blocks has places for them
-pub pieces-fit : mostPieces ≤ mostBlocks
-unfolding greatestBlock
-pieces-fit = omega arith
+    (fewer (length text) mostAppended (greatestBlock shortest) leastBlock l (omega arith) (least-block shortest h))
 
 -- past the data there is no piece
 pub pieces-end : (n : ℕ) (text : Bytes) (start : ℕ) → length text ≤ start → pieces n (drop start text) ≡ []

@@ -8,7 +8,7 @@ ghost use Rattle.format.specs.Record.{block, longestData};
 ghost use Rattle.format.specs.BlockSize.{greatestBlock};
 ghost use Rattle.format.specs.Encoding.{blockBytes};
 ghost use Rattle.calls.specs.Areas.{shortestArea, fileAreas};
-ghost use Rattle.calls.specs.Mount.{mostRecords};
+ghost use Rattle.calls.specs.Mount.{mostBlocks, mostRecords};
 ghost use Rattle.calls.specs.Append.{mostAppended};
 ghost use Rattle.calls.specs.Image.{put};
 ghost use Rattle.calls.specs.Storing.{spaces, storeAll};
@@ -17,12 +17,11 @@ ghost use Rattle.record_places.specs.Place.{AllLie};
 ghost use Rattle.mount_state.specs.State.{Safe, Holds};
 ghost use Rattle.write_ids.specs.Window.{namedAt};
 ghost use Rattle.write_room.specs.Spaces.{spacesOf};
-ghost use Rattle.write_pieces.specs.Cut.{pieces, mostPieces, shortestOf};
+ghost use Rattle.write_pieces.specs.Cut.{pieces, shortestOf};
 ghost use Rattle.write_pieces.specs.Plan.{idsFor, placesFor, storesOf, PlannedAt};
 ghost use Rattle.write_pieces.specs.Laws.{plannedOf, Ready};
 use calls::MOST_APPENDED;
 use calls::MOST_AREAS;
-use calls::SHORTEST_AREA;
 use mount_state::Mounted;
 use record_read::BlockHeader;
 use record_read::FIRST_BLOCK_ID;
@@ -64,7 +63,7 @@ fn smaller(a: usize, b: usize) -> usize
     b
 }
 
-// The greatest block size of writers, by the shortest file area's length; `LEAST_BLOCK` is its value beside the shortest area that there may be.
+// The greatest block size of writers, by the shortest file area's length.
 pub fn greatest_block(shortest: u32) -> usize
     requires { ⌜ shortestArea ≤ shortest ⌝ }
     ensures { λ r. ⌜ r ≡ greatestBlock shortest ⌝ }
@@ -75,8 +74,8 @@ pub fn greatest_block(shortest: u32) -> usize
     )
 }
 
-// The greatest block size beside the shortest area that there may be.
-const LEAST_BLOCK: usize = SHORTEST_AREA / 2 - BlockHeader::SIZE;
+// No greatest block size is less, however short the areas; that the rule gives no less is a law (`least-block`).
+const LEAST_BLOCK: usize = 40;
 
 // The most pieces of one append.
 pub const MOST_PIECES: usize = (MOST_APPENDED + (LEAST_BLOCK - 1)) / LEAST_BLOCK;
@@ -139,7 +138,7 @@ pub fn plan_places(
 // The smallest block ids that no record names, in order, none of them twice.
 pub fn plan_ids(image: &[u8], records: &[u16], ids: &mut [u32])
     requires { ⌜ AllLie (now image) (now records) (length (now records)) ⌝ }
-    requires { ⌜ (length (now records) ≤ mostRecords) × (length (now ids) ≤ mostPieces) ⌝ }
+    requires { ⌜ (length (now records) ≤ mostRecords) × (length (now ids) ≤ mostBlocks) ⌝ }
     ensures { λ _. ⌜ now (ids .exit) ≡ idsFor (namedAt (now (image .entry)) (now (records .entry))) (length (now (ids .entry))) ⌝ }
 {
     let mut words = [0u64; ID_WORDS];

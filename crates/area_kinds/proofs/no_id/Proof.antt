@@ -1,10 +1,10 @@
 -- `area_kinds::no_id` meets its contract.
 use Prim.Native.Nat.{_-_}
-use mathlib.Core.Path.{_≡_, refl, sym, _∙_}
+use mathlib.Core.Path.{_≡_, refl}
 use lib.ListN.{length, drop}
 use Rattle.volume.specs.Lists.{all}
 use Rattle.area_list.specs.Described.{described, described-step, described-end}
-use Rattle.area_list.specs.Steps.{all-passes, all-fails, all-ends}
+use Rattle.volume_laws.specs.Steps.{all-asks, ask-passes, ask-fails, ask-ends}
 use Rattle.area_list.specs.Good.{fits-at, header-at}
 use Rattle.area_kinds.specs.Kinds.{otherId, id-same, id-differs}
 use borrow.Author.Needs.{needs}
@@ -34,8 +34,8 @@ returns c =
     let t = k .before .before in
     let l = t .before in
     let s = l .before .before .before .before in
-    sym (all-fails (described-step _ _ _ (s .pre .pairs) (t .loop-test .taken)) _ (id-same _ _ _ (k .area-id .ensures) _ _ (header-at _ _ _ (s .pre) _ (t .loop-test .taken)) (c .if1 .taken)))
-    ∙ l .loop .inv
+    ask-fails (all-asks _) (l .loop .inv) (described-step _ _ _ (s .pre .pairs) (t .loop-test .taken))
+    (id-same _ _ _ (k .area-id .ensures) _ _ (header-at _ _ _ (s .pre) _ (t .loop-test .taken)) (c .if1 .taken))
 
 loop-again : tie.Need-loop-again Inv-loop μ-loop
 loop-again c =
@@ -43,14 +43,14 @@ loop-again c =
     let t = k .before .before in
     let l = t .before in
     let s = l .before .before .before .before in
-    sym (all-passes (described-step _ _ _ (s .pre .pairs) (t .loop-test .taken)) _ (id-differs _ _ _ (k .area-id .ensures) _ _ (header-at _ _ _ (s .pre) _ (t .loop-test .taken)) (c .if1 .left)))
-    ∙ l .loop .inv
+    ask-passes (all-asks _) (l .loop .inv) (described-step _ _ _ (s .pre .pairs) (t .loop-test .taken))
+    (id-differs _ _ _ (k .area-id .ensures) _ _ (header-at _ _ _ (s .pre) _ (t .loop-test .taken)) (c .if1 .left))
 
 returns-2 : tie.Need-returns-2 Inv-loop μ-loop
 returns-2 c =
     let l = c .before in
     let s = l .before .before .before .before in
-    sym (all-ends (described-end (s .args .starts .now) (s .args .spans .now) _ (c .loop-test .left)) _) ∙ l .loop .inv
+    ask-ends (all-asks _) (l .loop .inv) (described-end (s .args .starts .now) (s .args .spans .now) _ (c .loop-test .left))
 
 pub no-id-spec : {M : Type 1} → statement M
 no-id-spec =

@@ -1,11 +1,11 @@
 -- `area_kinds::none_longer` meets its contract.
 use Prim.Native.Nat.{_-_}
-use mathlib.Core.Path.{_≡_, refl, sym, _∙_}
+use mathlib.Core.Path.{_≡_, refl}
 use lib.ListN.{length, drop, drop-of-length-le}
 use lib.Dec.{leb}
 use borrow.Author.Tests.{le-leb, lt-leb}
 use Rattle.volume.specs.Lists.{all}
-use Rattle.area_list.specs.Steps.{drop-step, all-passes, all-fails, all-ends}
+use Rattle.volume_laws.specs.Steps.{drop-step, all-asks, ask-passes, ask-fails, ask-ends}
 use borrow.Author.Needs.{needs}
 use Rattle.area_kinds.proofs.none_longer.Statement.{statement}
 use Rattle.area_kinds.proofs.none_longer.Tie as tie
@@ -23,18 +23,18 @@ returns : tie.Need-returns Inv-loop μ-loop
 returns c =
     let t = c .before .before in
     let l = t .before in
-    sym (all-fails (drop-step _ _ (t .loop-test .taken)) _ (lt-leb _ _ (c .if1 .taken))) ∙ l .loop .inv
+    ask-fails (all-asks _) (l .loop .inv) (drop-step _ _ (t .loop-test .taken)) (lt-leb _ _ (c .if1 .taken))
 
 loop-again : tie.Need-loop-again Inv-loop μ-loop
 loop-again c =
     let t = c .before .before in
     let l = t .before in
-    sym (all-passes (drop-step _ _ (t .loop-test .taken)) _ (le-leb _ _ (c .if1 .left))) ∙ l .loop .inv
+    ask-passes (all-asks _) (l .loop .inv) (drop-step _ _ (t .loop-test .taken)) (le-leb _ _ (c .if1 .left))
 
 returns-2 : tie.Need-returns-2 Inv-loop μ-loop
 returns-2 c =
     let l = c .before in
-    sym (all-ends (drop-of-length-le (l .before .args .spans .now) (c .loop-test .left)) _) ∙ l .loop .inv
+    ask-ends (all-asks _) (l .loop .inv) (drop-of-length-le (l .before .args .spans .now) (c .loop-test .left))
 
 pub none-longer-spec : {M : Type 1} → statement M
 none-longer-spec =

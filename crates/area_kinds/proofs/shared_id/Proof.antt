@@ -1,14 +1,14 @@
 -- `area_kinds::shared_id` meets its contract.
 use Prim.Native.Nat.{_+_, _-_}
-use mathlib.Core.Path.{_≡_, sym, ap, _∙_}
+use mathlib.Core.Path.{_≡_, refl, sym, ap, _∙_}
 use mathlib.Core.Bool.{not}
 use lib.ListN.{length, drop, getD}
 use Rattle.volume.specs.Lists.{all}
-use Rattle.calls.specs.Mount.{sharedAreaId}
 use Rattle.format_laws.specs.Bytes.{rest-part}
 use Rattle.format_laws.specs.Tests.{via}
 use Rattle.area_list.specs.Described.{areaOf, described, described-step, described-end}
-use Rattle.area_list.specs.Steps.{pairwise, pairs-pass, pairs-fail, pairs-end}
+use Rattle.volume_laws.specs.Steps.{ask-passes, ask-fails, ask-ends}
+use Rattle.area_list.specs.Steps.{pairwise, pairs-ask}
 use Rattle.area_list.specs.Good.{fits-at, header-at, good-later}
 use Rattle.area_kinds.specs.Kinds.{ownId, shared-pairs}
 use borrow.Author.Needs.{needs}
@@ -17,7 +17,7 @@ use Rattle.area_kinds.proofs.shared_id.Statement.{statement}
 use Rattle.area_kinds.proofs.shared_id.Tie as tie
 
 abbrev Inv-loop : tie.InvT-loop
-Inv-loop image starts spans i₀ i = not (pairwise (ownId image) (described (drop i starts) (drop i spans))) ≡ sharedAreaId image (described starts spans)
+Inv-loop image starts spans i₀ i = pairwise (ownId image) (described (drop i starts) (drop i spans)) ≡ pairwise (ownId image) (described starts spans)
 
 abbrev μ-loop : tie.MeasureT-loop
 μ-loop image starts spans i₀ i = length starts - i
@@ -36,7 +36,7 @@ tested c =
     rw (a .area-id .ensures .is _ (header-at _ _ _ (s .pre) _ (t .loop-test .taken))) at e
 
 loop-holds : tie.Need-loop-holds Inv-loop μ-loop
-loop-holds c = sym (shared-pairs _ _)
+loop-holds c = refl
 
 area-id-requires : tie.Need-area-id-requires Inv-loop μ-loop
 area-id-requires c κs =
@@ -57,7 +57,8 @@ returns c =
     let a = g .before .before .before in
     let l = a .before .before .before in
     let s = l .before .before .before .before in
-    sym (ap not (pairs-fail (described-step _ _ _ (s .pre .pairs) (a .before .before .loop-test .taken)) _ (via (tested g) (c .if1 .left)))) ∙ l .loop .inv
+    ap not (ask-fails (pairs-ask _) (l .loop .inv) (described-step _ _ _ (s .pre .pairs) (a .before .before .loop-test .taken)) (via (tested g) (c .if1 .left)))
+    ∙ sym (shared-pairs _ _)
 
 loop-again : tie.Need-loop-again Inv-loop μ-loop
 loop-again c =
@@ -65,13 +66,13 @@ loop-again c =
     let a = g .before .before .before in
     let l = a .before .before .before in
     let s = l .before .before .before .before in
-    sym (ap not (pairs-pass (described-step _ _ _ (s .pre .pairs) (a .before .before .loop-test .taken)) _ (via (tested g) (c .if1 .taken)))) ∙ l .loop .inv
+    ask-passes (pairs-ask _) (l .loop .inv) (described-step _ _ _ (s .pre .pairs) (a .before .before .loop-test .taken)) (via (tested g) (c .if1 .taken))
 
 returns-2 : tie.Need-returns-2 Inv-loop μ-loop
 returns-2 c =
     let l = c .before in
     let s = l .before .before .before .before in
-    sym (ap not (pairs-end (described-end (s .args .starts .now) (s .args .spans .now) _ (c .loop-test .left)) _)) ∙ l .loop .inv
+    ap not (ask-ends (pairs-ask _) (l .loop .inv) (described-end (s .args .starts .now) (s .args .spans .now) _ (c .loop-test .left))) ∙ sym (shared-pairs _ _)
 
 pub shared-id-spec : {M : Type 1} → statement M
 shared-id-spec =

@@ -1,14 +1,14 @@
 -- `area_list::all_good` meets its contract.
 use Prim.Native.Nat.{_*_, _-_}
 use native.Mathlib.Omega.{arith}
-use mathlib.Core.Path.{_≡_, refl, sym, _∙_}
+use mathlib.Core.Path.{_≡_, refl}
 use lib.ListN.{length, drop}
 use Rattle.volume.specs.Lists.{all}
 use Rattle.calls.specs.Areas.{goodArea}
 use Rattle.area_list.specs.Numbers.{paired}
 use Rattle.format_laws.specs.Tests.{via}
 use Rattle.area_list.specs.Listing.{pair-step, paired-end}
-use Rattle.area_list.specs.Steps.{all-passes, all-fails, all-ends}
+use Rattle.volume_laws.specs.Steps.{all-asks, ask-passes, ask-fails, ask-ends}
 use borrow.Author.Needs.{needs}
 use Rattle.area_list.proofs.all_good.Statement.{statement}
 use Rattle.area_list.proofs.all_good.Tie as tie
@@ -27,20 +27,20 @@ returns c =
     let g = c .before in
     let l = g .before .before .before .before in
     let s = l .before .before in
-    sym (all-fails (pair-step (s .args .pairs .now) (l .loop .i) (omega arith)) _ (via (g .good-area .ensures) (c .if1 .left))) ∙ l .loop .inv
+    ask-fails (all-asks _) (l .loop .inv) (pair-step (s .args .pairs .now) (l .loop .i) (omega arith)) (via (g .good-area .ensures) (c .if1 .left))
 
 loop-again : tie.Need-loop-again Inv-loop μ-loop
 loop-again c =
     let g = c .before in
     let l = g .before .before .before .before in
     let s = l .before .before in
-    sym (all-passes (pair-step (s .args .pairs .now) (l .loop .i) (omega arith)) _ (via (g .good-area .ensures) (c .if1 .taken))) ∙ l .loop .inv
+    ask-passes (all-asks _) (l .loop .inv) (pair-step (s .args .pairs .now) (l .loop .i) (omega arith)) (via (g .good-area .ensures) (c .if1 .taken))
 
 returns-2 : tie.Need-returns-2 Inv-loop μ-loop
 returns-2 c =
     let l = c .before in
     let s = l .before .before in
-    sym (all-ends (paired-end (s .args .pairs .now) (l .loop .i * 2) (omega arith)) _) ∙ l .loop .inv
+    ask-ends (all-asks _) (l .loop .inv) (paired-end (s .args .pairs .now) (l .loop .i * 2) (omega arith))
 
 pub all-good-spec : {M : Type 1} → statement M
 all-good-spec =

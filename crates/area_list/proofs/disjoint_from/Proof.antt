@@ -1,7 +1,7 @@
 -- `area_list::disjoint_from` meets its contract.
 use Prim.Native.Nat.{_*_, _-_}
 use native.Mathlib.Omega.{arith}
-use mathlib.Core.Path.{_≡_, refl, sym, _∙_}
+use mathlib.Core.Path.{_≡_, refl}
 use lib.ListN.{length, drop}
 use Rattle.volume.specs.Lists.{all}
 use Rattle.calls.specs.Areas.{disjoint}
@@ -9,7 +9,7 @@ use Rattle.area_list.specs.Numbers.{paired}
 use Rattle.format_laws.specs.Tests.{via}
 use Rattle.area_list.specs.Described.{areaOf}
 use Rattle.area_list.specs.Listing.{pair-step, paired-end}
-use Rattle.area_list.specs.Steps.{all-passes, all-fails, all-ends}
+use Rattle.volume_laws.specs.Steps.{all-asks, ask-passes, ask-fails, ask-ends}
 use borrow.Author.Needs.{needs}
 use Rattle.area_list.proofs.disjoint_from.Statement.{statement}
 use Rattle.area_list.proofs.disjoint_from.Tie as tie
@@ -28,20 +28,20 @@ returns c =
     let g = c .before in
     let l = g .before .before .before .before in
     let s = l .before .before in
-    sym (all-fails (pair-step (s .args .pairs .now) (l .loop .i) (omega arith)) _ (via (g .disjoint .ensures) (c .if1 .left))) ∙ l .loop .inv
+    ask-fails (all-asks _) (l .loop .inv) (pair-step (s .args .pairs .now) (l .loop .i) (omega arith)) (via (g .disjoint .ensures) (c .if1 .left))
 
 loop-again : tie.Need-loop-again Inv-loop μ-loop
 loop-again c =
     let g = c .before in
     let l = g .before .before .before .before in
     let s = l .before .before in
-    sym (all-passes (pair-step (s .args .pairs .now) (l .loop .i) (omega arith)) _ (via (g .disjoint .ensures) (c .if1 .taken))) ∙ l .loop .inv
+    ask-passes (all-asks _) (l .loop .inv) (pair-step (s .args .pairs .now) (l .loop .i) (omega arith)) (via (g .disjoint .ensures) (c .if1 .taken))
 
 returns-2 : tie.Need-returns-2 Inv-loop μ-loop
 returns-2 c =
     let l = c .before in
     let s = l .before .before in
-    sym (all-ends (paired-end (s .args .pairs .now) (l .loop .i * 2) (omega arith)) _) ∙ l .loop .inv
+    ask-ends (all-asks _) (l .loop .inv) (paired-end (s .args .pairs .now) (l .loop .i * 2) (omega arith))
 
 pub disjoint-from-spec : {M : Type 1} → statement M
 disjoint-from-spec =

@@ -7,10 +7,10 @@ use lib.ListN.{length}
 use borrow.Author.Needs.{needs}
 use Rattle.calls.specs.declared.Descriptor.{Descriptor}
 use Rattle.area_pass.specs.Bridge.{placedVolume}
-use Rattle.mount_state.specs.State.{spans, Holds}
+use Rattle.mount_state.specs.State.{spansIn, Holds}
 use Rattle.mount_state.specs.Bridge.{blocks-lent, blocks-few, block-rows-lent, places-lent, names-lent}
 use Rattle.file_blocks.specs.Blocks.{lastOf}
-use Rattle.write_pieces.specs.Cut.{pieces, mostPieces, shortestOf, pieces-count, few-pieces, pieces-fit}
+use Rattle.write_pieces.specs.Cut.{pieces, mostPieces, shortestOf, pieces-count, few-pieces}
 use Rattle.call_append.specs.Last.{lastUnlessBroken}
 use Rattle.call_append.specs.Written.{sizeFor, shortest-bound}
 use Rattle.call_append.specs.Outcome.{out-broken, out-full, out-written}
@@ -46,7 +46,7 @@ count-is c =
 count-few : (c : tie.After-piece-count) → c .piece-count .result ≤ mostPieces
 count-few c =
     let s = start (c .before) in
-    rw (count-is c) (few-pieces (shortestOf (spans (s .args .m) (s .args .tables .now))) (s .args .text .now) (shortest-bound (s .pre .0)) (s .pre .1 .1))
+    rw (count-is c) (few-pieces (shortestOf (spansIn (s .args .m) (s .args .tables .now))) (s .args .text .now) (shortest-bound (s .pre .0)) (s .pre .1 .1))
 
 last-unless-broken-requires : tie.Need-last-unless-broken-requires
 last-unless-broken-requires c κs =
@@ -60,7 +60,7 @@ returns c =
     λ ds h p d. out-broken (s .pre .0) h (s .args .file) (s .args .text .now) d (sym (ap lastOf (c .enum-told .given .1)) ∙ last-is l ds h)
 
 add-if1 : tie.Need-add-if1
-add-if1 c = let s = start (c .before .before) in omega (arith, count-few (c .before), pieces-fit, s .pre .0 .blocks-few)
+add-if1 c = let s = start (c .before .before) in omega (arith, count-few (c .before), s .pre .0 .blocks-few)
 
 returns-2 : tie.Need-returns-2
 returns-2 c =
@@ -82,7 +82,7 @@ write-count-requires c κs =
     let s = start (p .before) in
     let z = p .before .piece-size .ensures in
     let r = places-lent (s .pre .1 .0) in
-    (s .pre .0, (r .0, (r .1, record { some-room = z .1 .0; small = z .1 .1; count = rw (z .0) (count-is p); few = count-few p })))
+    (s .pre .0, (r .0, (r .1, record { some-room = z .1 .0; small = z .1 .1; count = rw (z .0) (count-is p); few = count-few p; counted = omega (arith, e .if1 .left) })))
 
 returns-3 : tie.Need-returns-3
 returns-3 c =

@@ -4,7 +4,7 @@ use borrow.Author.Needs.{needs}
 use Rattle.format.specs.BlockSize.{greatestBlock}
 use Rattle.table_rows.specs.Parts.{lent}
 use Rattle.area_pass.specs.Rows.{spansAt}
-use Rattle.mount_state.specs.State.{spans}
+use Rattle.mount_state.specs.State.{spansIn}
 use Rattle.write_pieces.specs.Cut.{shortestOf}
 use Rattle.call_append.specs.Written.{sizeFor, shortest-bound, size-bounds}
 use Rattle.call_append.proofs.piece_size.Statement.{statement}
@@ -14,7 +14,7 @@ use Rattle.call_append.proofs.piece_size.Tie as tie
 abbrev start : tie.After-shortest → tie.Start
 start s = s .before .before .before .before .before
 
-shortest-is : (s : tie.After-shortest) → s .shortest .result ≡ shortestOf (spans (start s .args .m) (start s .args .tables .now))
+shortest-is : (s : tie.After-shortest) → s .shortest .result ≡ shortestOf (spansIn (start s .args .m) (start s .args .tables .now))
 shortest-is s = s .shortest .ensures ∙ ap shortestOf (lent spansAt (start s .args .m .files) (start s .args .tables .now))
 
 size-is : (g : tie.After-greatest-block) → let s = start (g .before) in g .greatest-block .result ≡ sizeFor (s .args .m) (s .args .tables .now)

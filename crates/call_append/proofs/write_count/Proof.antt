@@ -4,7 +4,6 @@ use mathlib.Core.Path.{_≡_, sym}
 use lib.ListN.{length, take, replicate, length-replicate}
 use lib.Seq.{length-take-le}
 use borrow.Author.Needs.{needs}
-use Rattle.format.specs.BlockSize.{greatestBlock}
 use Rattle.write_pieces.specs.Cut.{mostPieces}
 use Rattle.call_append.proofs.write_count.Statement.{statement}
 use Rattle.call_append.proofs.write_count.Tie as tie
@@ -18,23 +17,18 @@ front : (k n : ℕ) → n ≤ k → length {A = ℕ} (take n (replicate k 0)) �
 front k n h = length-take-le n (replicate k 0) (rw (length-replicate {A = ℕ} k 0) h)
 
 array-borrow-prefix-ids : tie.Need-array-borrow-prefix-ids
-unfolding greatestBlock
 array-borrow-prefix-ids c = start c .pre .1 .1 .1 .few
 
 slice-aggregate-write-pieces : tie.Need-slice-aggregate-write-pieces
-unfolding greatestBlock
 slice-aggregate-write-pieces c = let s = start (c .before) in sym (front mostPieces (s .args .chain .count) (s .pre .1 .1 .1 .few))
 
 array-borrow-prefix-places : tie.Need-array-borrow-prefix-places
-unfolding greatestBlock
 array-borrow-prefix-places c = start (c .before) .pre .1 .1 .1 .few
 
 slice-aggregate-write-pieces-2 : tie.Need-slice-aggregate-write-pieces-2
-unfolding greatestBlock
 slice-aggregate-write-pieces-2 c = let s = start (c .before .before) in sym (front mostPieces (s .args .chain .count) (s .pre .1 .1 .1 .few))
 
 write-pieces-requires : tie.Need-write-pieces-requires
-unfolding greatestBlock
 write-pieces-requires c κs =
     let s = start (c .before .before) in
     let l = front mostPieces (s .args .chain .count) (s .pre .1 .1 .1 .few) in

@@ -60,7 +60,7 @@ plan-ids-requires : tie.Need-plan-ids-requires
 plan-ids-requires c κs =
     let s = lent (placed (c .before .before)) in
     let r = s .pre .1 .1 .1 in
-    (s .pre .1 .0, (s .pre .1 .1 .0, rw (r .ids-count) (r .cut .few)))
+    (s .pre .1 .0, (s .pre .1 .1 .0, rw (r .ids-count) (r .cut .counted)))
 
 store-pieces-requires : tie.Need-store-pieces-requires
 store-pieces-requires c κs =

@@ -22,7 +22,7 @@ collect-mounted-requires : tie.Need-collect-mounted-requires
 collect-mounted-requires c κs =
     let e = c .before .before .before in
     let m = at-mount (e .before) .mount .ensures in
-    (m .safe (e .if1 .left), (m .safe-places (e .if1 .left), record { ds = areaList (start (at-mount (e .before)) .args .t2 .numbers); holds = m .holds (e .if1 .left); holds-places = m .holds-places (e .if1 .left) }))
+    (m .safe (e .if1 .left), m .safe-places (e .if1 .left))
 
 returns-2 : tie.Need-returns-2
 returns-2 c =

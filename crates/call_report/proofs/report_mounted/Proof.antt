@@ -2,15 +2,15 @@
 use Prim.Native.Nat.{_+_, _-_, _≤_}
 use mathlib.Core.Path.{_≡_, ap, _∙_}
 use native.Mathlib.Omega.{arith}
-use lib.ListN.{length, take, drop, length-take}
+use lib.ListN.{length, drop, length-take}
 use Rattle.calls.specs.Mount.{mostInodes}
 use Rattle.record_places.specs.Place.{byPlace}
 use Rattle.table_rows.specs.Parts.{lent}
 use Rattle.area_pass.specs.Rows.{stretchesAt, skippedAt}
 use Rattle.inode_fate.specs.Fates.{liveRows}
-use Rattle.mount_state.specs.State.{inodeIdsAt, inodeSpotsAt, inodeIds, inodeSpots}
+use Rattle.mount_state.specs.State.{inodeIdsAt, inodeSpotsAt, inodeIdsIn, inodeSpotsIn}
 use Rattle.mount_state.specs.Bridge.{inodes-lent}
-use Rattle.call_report.specs.Sums.{sumOf, AllSmall, stretches-small, skipped-small, stretches-are, skipped-are}
+use Rattle.call_report.specs.Sums.{sumOf, stretches-small, skipped-small, stretches-are, skipped-are}
 use Rattle.call_report.specs.Counts.{live-few, report-is}
 use borrow.Author.Needs.{needs}
 use Rattle.call_report.proofs.report_mounted.Statement.{statement}
@@ -24,7 +24,7 @@ abbrev counted : tie.After-total → tie.After-live-count
 counted t = t .before .before .before .before
 
 live-is : (l : tie.After-live-count) → let s = start l in let m = s .args .m in let t = s .args .tables .now in
-    l .live-count .result ≡ length (liveRows (byPlace (s .args .image .now)) (length (inodeIds m t)) (inodeIds m t) (inodeSpots m t))
+    l .live-count .result ≡ length (liveRows (byPlace (s .args .image .now)) (length (inodeIdsIn m t)) (inodeIdsIn m t) (inodeSpotsIn m t))
 live-is l =
     let s = start l in
     let n = s .args .m .inodes in
@@ -37,7 +37,7 @@ live-small l =
     omega (
       arith,
       live-is l,
-      live-few (s .args .image .now) (length (inodeIds (s .args .m) (s .args .tables .now))) (inodeIds (s .args .m) (s .args .tables .now)) (inodeSpots (s .args .m) (s .args .tables .now)),
+      live-few (s .args .image .now) (length (inodeIdsIn (s .args .m) (s .args .tables .now))) (inodeIdsIn (s .args .m) (s .args .tables .now)) (inodeSpotsIn (s .args .m) (s .args .tables .now)),
       length-take n (drop inodeIdsAt (s .args .tables .now)),
       s .pre .inodes-few,
     )

@@ -1,16 +1,19 @@
 -- `collect_copies::is_new` meets its contract: no record is of the same bytes if none of those left is.
 use Prim.Native.Nat.{_-_}
-use mathlib.Core.Path.{_≡_, refl, sym, _∙_}
+use mathlib.Core.Path.{_≡_, refl, sym, ap, _∙_}
+use mathlib.Core.Bool.{not}
 use native.Mathlib.Omega.{arith}
-use lib.ListN.{length, drop}
+use lib.ListN.{length, drop, drop-of-length-le}
 use borrow.Author.Needs.{needs}
+use Rattle.volume.specs.Lists.{all}
+use Rattle.volume_laws.specs.Steps.{drop-step, all-asks, ask-passes, ask-fails, ask-ends}
+use Rattle.record_places.specs.Place.{byPlace}
 use Rattle.collect_copies.specs.Copied.{noneSame}
-use Rattle.collect_copies.specs.Loops.{same-fails, same-on, same-ends}
 use Rattle.collect_copies.proofs.is_new.Statement.{statement}
 use Rattle.collect_copies.proofs.is_new.Tie as tie
 
 abbrev Inv-loop : tie.InvT-loop
-Inv-loop image listed p i₀ i = noneSame image (drop i listed) p ≡ noneSame image listed p
+Inv-loop image listed p i₀ i = all (λ q. not (byPlace image .same q p)) (drop i listed) ≡ noneSame image listed p
 
 abbrev μ-loop : tie.MeasureT-loop
 μ-loop image listed p i₀ i = length listed - i
@@ -20,6 +23,7 @@ abbrev start : tie.At-loop Inv-loop μ-loop → tie.Start Inv-loop μ-loop
 start l = l .before .before .before
 
 loop-holds : tie.Need-loop-holds Inv-loop μ-loop
+unfolding noneSame
 loop-holds c = refl
 
 same-bytes-requires : tie.Need-same-bytes-requires Inv-loop μ-loop
@@ -33,17 +37,17 @@ returns c =
     let k = c .before in
     let t = k .before .before in
     let l = t .before in
-    sym (same-fails _ _ _ _ (t .loop-test .taken) (sym (k .same-bytes .ensures) ∙ c .if1 .taken)) ∙ l .loop .inv
+    ask-fails (all-asks _) (l .loop .inv) (drop-step _ _ (t .loop-test .taken)) (ap not (sym (k .same-bytes .ensures) ∙ c .if1 .taken))
 
 loop-again : tie.Need-loop-again Inv-loop μ-loop
 loop-again c =
     let k = c .before in
     let t = k .before .before in
     let l = t .before in
-    sym (same-on _ _ _ _ (t .loop-test .taken) (sym (k .same-bytes .ensures) ∙ c .if1 .left)) ∙ l .loop .inv
+    ask-passes (all-asks _) (l .loop .inv) (drop-step _ _ (t .loop-test .taken)) (ap not (sym (k .same-bytes .ensures) ∙ c .if1 .left))
 
 returns-2 : tie.Need-returns-2 Inv-loop μ-loop
-returns-2 c = let l = c .before in sym (same-ends _ _ _ _ (c .loop-test .left)) ∙ l .loop .inv
+returns-2 c = let l = c .before in ask-ends (all-asks _) (l .loop .inv) (drop-of-length-le _ (c .loop-test .left))
 
 pub is-new-spec : {M : Type 1} → statement M
 is-new-spec =

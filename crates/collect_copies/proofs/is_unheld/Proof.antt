@@ -1,17 +1,18 @@
 -- `collect_copies::is_unheld` meets its contract: no record holds it if none of those left does.
 use Prim.Native.Nat.{_-_}
 use mathlib.Core.Path.{_≡_, refl, sym, ap, _∙_}
-use mathlib.Core.Bool.{Bool}
+use mathlib.Core.Bool.{Bool, not}
 use native.Mathlib.Omega.{arith}
-use lib.ListN.{length, drop, getD}
+use lib.ListN.{length, drop, getD, drop-of-length-le}
 use borrow.Author.Needs.{needs}
+use Rattle.volume.specs.Lists.{all}
+use Rattle.volume_laws.specs.Steps.{drop-step, all-asks, ask-passes, ask-fails, ask-ends}
 use Rattle.collect_copies.specs.Copied.{inside, holds, unheld}
-use Rattle.collect_copies.specs.Loops.{unheld-fails, unheld-on, unheld-ends}
 use Rattle.collect_copies.proofs.is_unheld.Statement.{statement}
 use Rattle.collect_copies.proofs.is_unheld.Tie as tie
 
 abbrev Inv-loop : tie.InvT-loop
-Inv-loop image offset span places id block i₀ i = unheld image offset span (drop i places) id block ≡ unheld image offset span places id block
+Inv-loop image offset span places id block i₀ i = all (λ q. not (holds image id block (inside offset span q) q)) (drop i places) ≡ unheld image offset span places id block
 
 abbrev μ-loop : tie.MeasureT-loop
 μ-loop image offset span places id block i₀ i = length places - i
@@ -33,6 +34,7 @@ tested k =
     k .holds .ensures ∙ ap (λ (b : Bool). holds (a .image .now) (a .id) (a .block) b p) (k .before .is-inside .ensures)
 
 loop-holds : tie.Need-loop-holds Inv-loop μ-loop
+unfolding unheld
 loop-holds c = refl
 
 holds-requires : tie.Need-holds-requires Inv-loop μ-loop
@@ -42,16 +44,16 @@ returns : tie.Need-returns Inv-loop μ-loop
 returns c =
     let t = turn (c .before) in
     let l = t .before in
-    sym (unheld-fails _ _ _ _ _ _ _ (t .loop-test .taken) (sym (tested (c .before)) ∙ c .if1 .taken)) ∙ l .loop .inv
+    ask-fails (all-asks _) (l .loop .inv) (drop-step _ _ (t .loop-test .taken)) (ap not (sym (tested (c .before)) ∙ c .if1 .taken))
 
 loop-again : tie.Need-loop-again Inv-loop μ-loop
 loop-again c =
     let t = turn (c .before) in
     let l = t .before in
-    sym (unheld-on _ _ _ _ _ _ _ (t .loop-test .taken) (sym (tested (c .before)) ∙ c .if1 .left)) ∙ l .loop .inv
+    ask-passes (all-asks _) (l .loop .inv) (drop-step _ _ (t .loop-test .taken)) (ap not (sym (tested (c .before)) ∙ c .if1 .left))
 
 returns-2 : tie.Need-returns-2 Inv-loop μ-loop
-returns-2 c = let l = c .before in sym (unheld-ends _ _ _ _ _ _ _ (c .loop-test .left)) ∙ l .loop .inv
+returns-2 c = let l = c .before in ask-ends (all-asks _) (l .loop .inv) (drop-of-length-le _ (c .loop-test .left))
 
 pub is-unheld-spec : {M : Type 1} → statement M
 is-unheld-spec =

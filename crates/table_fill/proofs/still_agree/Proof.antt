@@ -6,16 +6,16 @@ use borrow.Author.Needs.{needs}
 use lib.ListN.{take, drop, getD}
 use Rattle.volume.specs.Lists.{all}
 use Rattle.volume.specs.Counting.{agree}
+use Rattle.volume_laws.specs.Steps.{front-step, front-end, all-asks, ask-passes, ask-ends}
 use Rattle.record_places.specs.Place.{byPlace}
 use Rattle.table_fill.specs.Agreement.{places-equivalent, others-agree, disagree-more, agree-more, twin-decides}
 use Rattle.table_fill.specs.Laws.{getD-in}
-use Rattle.table_fill.proofs.Steps.{all-end, all-on}
 use Rattle.table_fill.proofs.still_agree.Statement.{statement}
 use Rattle.table_fill.proofs.still_agree.Tie as tie
 
 abbrev Inv-loop : tie.InvT-loop
 Inv-loop image places n p agreed i₀ i =
-    (i ≤ n) × (all (agree (byPlace image) p) (take n places) ≡ all (agree (byPlace image) p) (drop i (take n places)))
+    (i ≤ n) × (all (agree (byPlace image) p) (drop i (take n places)) ≡ all (agree (byPlace image) p) (take n places))
 
 abbrev μ-loop : tie.MeasureT-loop
 μ-loop image places n p agreed i₀ i = n - i
@@ -63,8 +63,7 @@ loop-again c =
     let s = l .before .before .before .before in
     let F = byPlace (s .args .image .now) in (
       omega arith,
-      l .loop .inv .1
-          ∙ all-on (agree F (s .args .p)) (l .loop .i) (s .args .n) (s .args .places .now) (s .pre .0) (n .loop-test .taken)
+      ask-passes (all-asks _) (l .loop .inv .1) (front-step (s .args .places .now) (s .args .n) (l .loop .i) (s .pre .0) (n .loop-test .taken))
           (others-agree F (s .args .p) (getD (s .args .places .now) (l .loop .i) 0) (sym (c .before .are-twins .ensures) ∙ c .if2 .left)),
     )
 
@@ -74,8 +73,7 @@ returns-3 c =
     let s = l .before .before .before .before in
     let image = s .args .image .now in
     sym (agree-more (byPlace image) (places-equivalent image) (take (s .args .n) (s .args .places .now)) (s .args .p) (sym (s .pre .1 .1 .1) ∙ l .before .if1 .taken)
-    ∙ l .loop .inv .1
-    ∙ all-end (agree (byPlace image) (s .args .p)) (l .loop .i) (s .args .n) (s .args .places .now) (s .pre .0) (c .loop-test .left))
+    ∙ sym (ask-ends (all-asks _) (l .loop .inv .1) (front-end (s .args .places .now) (s .args .n) (l .loop .i) (s .pre .0) (c .loop-test .left))))
 
 pub still-agree-spec : {M : Type 1} → statement M
 still-agree-spec =

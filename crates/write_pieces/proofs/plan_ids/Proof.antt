@@ -7,7 +7,6 @@ use lib.ListN.{length}
 use Rattle.table_words.specs.Occupancy.{capacity}
 use Rattle.write_ids.specs.Window.{namedAt, idWords}
 use Rattle.write_ids.specs.Laws.{few-names}
-use Rattle.write_pieces.specs.Cut.{pieces-fit}
 use Rattle.write_pieces.specs.Laws.{Taking, taking-begins, taking-room, taking-on, taking-ends}
 use Rattle.write_pieces.proofs.plan_ids.Statement.{statement}
 use Rattle.write_pieces.proofs.plan_ids.Tie as tie
@@ -34,7 +33,7 @@ room : (m : tie.After-mark-named Inv-loop μ-loop)
 room m =
     let s = lent m in
     let e : length (m .mark-named .last .1 .1 .0) ≡ idWords = m .mark-named .kept .1 .1 .0 in
-    omega (arith, few-names (s .args .image .now) (s .args .records .now), s .pre .1, pieces-fit)
+    omega (arith, few-names (s .args .image .now) (s .args .records .now), s .pre .1)
 
 take-id-requires : tie.Need-take-id-requires Inv-loop μ-loop
 take-id-requires c κs =
