@@ -1,7 +1,9 @@
 // Format: every described area erased and headed, and the root in the first file area. The areas are numbers, offset and length in turn.
 ghost use mathlib.Core.Path.{_≡_};
+ghost use mathlib.Core.Bool.{cond};
 ghost use Prim.Native.Nat.{_≤_};
 ghost use lib.ListN.{length};
+ghost use Rattle.format.specs.AreaHeader.{scratchId};
 ghost use Rattle.area_list.specs.Numbers.{paired, areaList};
 ghost use Rattle.calls.specs.Format.{longestLength, labelled, blanked, rooted, formatted, formatNumber, imageFormatted};
 ghost use Rattle.call_format.specs.Areas.{Lent, scratchHere, firstFile};
@@ -43,6 +45,16 @@ fn is_scratch(placed: bool, span: u32, most: u32) -> bool
     span == most
 }
 
+// The id of the next area: that of scratch, or the next of the file areas.
+fn next_id(scratch: bool, next: u8) -> u8
+    ensures { λ r. ⌜ r ≡ cond scratch scratchId next ⌝ }
+{
+    if scratch {
+        return SCRATCH_ID;
+    }
+    next
+}
+
 // Writes all areas: the first of the longest is scratch, the others have ids in order.
 fn write_areas(image: &mut [u8], pairs: &[u32], most: u32)
     requires { ⌜ Lent (now image) (now pairs) ⌝ }
@@ -54,12 +66,12 @@ fn write_areas(image: &mut [u8], pairs: &[u32], most: u32)
     while i < pairs.len() / 2 {
         let offset = pairs[i * 2];
         let span = pairs[i * 2 + 1];
-        if is_scratch(placed, span, most) {
-            write_area(&mut *image, offset, span, 0, SCRATCH_ID);
+        let scratch = is_scratch(placed, span, most);
+        write_area(&mut *image, offset, span, 0, next_id(scratch, next));
+        if scratch {
             placed = true;
             i += 1;
         } else {
-            write_area(&mut *image, offset, span, 0, next);
             next += 1;
             i += 1;
         }

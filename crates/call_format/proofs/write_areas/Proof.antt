@@ -31,38 +31,40 @@ module _ (c : tie.In-loop Inv-loop μ-loop) where
       × (areaHeaderSize ≤ getD (start (c .before) .args .pairs .now) (c .before .loop .i * 2 + 1) 0) × (length (c .before .loop .image) ≤ largestImage)
   room = writing-room _ _ _ _ _ _ _ (c .before .loop .inv) (start (c .before) .pre) here
 
+-- the turn, from where the area was written
+abbrev written : tie.After-write-area Inv-loop μ-loop → tie.After-is-scratch Inv-loop μ-loop
+written w = w .before .before .before
+
+abbrev turn : tie.After-is-scratch Inv-loop μ-loop → tie.In-loop Inv-loop μ-loop
+turn s = s .before .before .before
+
 write-area-requires : tie.Need-write-area-requires Inv-loop μ-loop
-write-area-requires c κs = room (c .before .before .before .before .before)
+write-area-requires c κs = room (turn (c .before .before))
 
 loop-again : tie.Need-loop-again Inv-loop μ-loop
 loop-again c =
-    let w = c .before .before in
-    let t = w .before .before in
-    let s = t .before in
-    let n = s .before .before .before in
+    let w = c .before .before .before in
+    let s = written w in
+    let n = turn s in
     let l = n .before in
-    rw (w .write-area .ensures)
-    (writing-scratch _ _ _ _ _ _ _ (l .loop .inv) (start l .pre) (here n) (sym (s .is-scratch .ensures) ∙ t .if1 .taken))
-
-write-area-requires-2 : tie.Need-write-area-requires-2 Inv-loop μ-loop
-write-area-requires-2 c κs = room (c .before .before .before .before .before)
+    rw (w .write-area .ensures, w .before .next-id .ensures, c .if1 .taken)
+    (writing-scratch _ _ _ _ _ _ _ (l .loop .inv) (start l .pre) (here n) (sym (s .is-scratch .ensures) ∙ c .if1 .taken))
 
 add-next : tie.Need-add-next Inv-loop μ-loop
 add-next c =
-    let n = c .before .before .before .before .before .before .before .before in
+    let n = turn (written (c .before .before .before)) in
     let f = n .before .loop .inv .few in
     let g = start (n .before) .pre .few in
     omega (arith, n .loop-test .taken)
 
 loop-again-2 : tie.Need-loop-again-2 Inv-loop μ-loop
 loop-again-2 c =
-    let w = c .before .before in
-    let t = w .before .before in
-    let s = t .before in
-    let n = s .before .before .before in
+    let w = c .before .before .before in
+    let s = written w in
+    let n = turn s in
     let l = n .before in
-    rw (w .write-area2 .ensures)
-    (writing-file _ _ _ _ _ _ _ (l .loop .inv) (start l .pre) (here n) (sym (s .is-scratch .ensures) ∙ t .if1 .left))
+    rw (w .write-area .ensures, w .before .next-id .ensures, c .if1 .left)
+    (writing-file _ _ _ _ _ _ _ (l .loop .inv) (start l .pre) (here n) (sym (s .is-scratch .ensures) ∙ c .if1 .left))
 
 returns : tie.Need-returns Inv-loop μ-loop
 returns c = writing-ends _ _ _ _ _ _ _ (c .before .loop .inv) (start (c .before) .pre) (omega (arith, c .loop-test .left))
@@ -82,11 +84,11 @@ write-areas-spec =
     (λ c. omega arith)
     (λ c. omega arith)
     (λ c κs. search needs)
+    (λ c κs. search needs)
     write-area-requires
     (λ c. omega arith)
     (λ c. omega arith)
     loop-again
-    write-area-requires-2
     add-next
     (λ c. omega arith)
     (λ c. omega arith)
