@@ -11,7 +11,7 @@ use crate::console::{count, print, shown};
 use crate::failure::Failure;
 use crate::image_file;
 use crate::json;
-use crate::records::{candidates, Candidate};
+use crate::records::{candidates, is_each_once, Candidate};
 use crate::tree::{tree, Entry, Tree, What};
 use crate::work::Collections;
 use nffs::{Area, Refusal, Report};
@@ -94,7 +94,8 @@ fn mounted(image: &[u8], areas: &[Area]) -> Result<Mounted, Refusal> {
 
 /// Which inodes that are not live were deleted, and which are orphans. No call tells them apart,
 /// but a collection drops the deleted in the end and keeps orphans for ever: so a copy is collected
-/// until nothing more goes. An area shorter than scratch is never collected: then it is not known.
+/// until nothing more goes. Two things can keep the deleted too, and then it is not known: an area
+/// shorter than scratch, which is never collected, and equal records in two areas.
 fn gone(image: &[u8], areas: &[Area], report: &Report) -> Gone {
     if report.inodes == report.live {
         return Gone { deleted: Some(0), orphans: Some(0), named: Vec::new() };
@@ -108,7 +109,7 @@ fn gone(image: &[u8], areas: &[Area], report: &Report) -> Gone {
     let mut collections = Collections::of(&copy, areas);
     while let Ok(true) = collections.step(&mut copy, areas) {}
     match nffs::report(&copy, areas) {
-        Ok(after) if collections.is_exhausted() => Gone {
+        Ok(after) if collections.is_exhausted() && is_each_once(&copy, areas) => Gone {
             deleted: report.inodes.checked_sub(after.inodes),
             orphans: Some(after.inodes - after.live),
             named: orphans(&copy, areas, after.inodes - after.live),

@@ -9,6 +9,7 @@ use nffs::Area;
 use std::collections::BTreeSet;
 
 const INODE_MAGIC: [u8; 4] = 0x925f_8bc0_u32.to_le_bytes();
+const BLOCK_MAGIC: [u8; 4] = 0x53ba_23b9_u32.to_le_bytes();
 const HEADER_SIZE: usize = 20;
 
 /// A name that something like a record gives an id.
@@ -21,15 +22,28 @@ pub struct Candidate {
 
 /// All candidates of some areas, each once, in order of parent and name.
 pub fn candidates(image: &[u8], areas: &[Area]) -> BTreeSet<Candidate> {
+    places(image, areas).filter_map(candidate).collect()
+}
+
+/// Whether no id begins two records; false too where it only looks like it.
+pub fn is_each_once(image: &[u8], areas: &[Area]) -> bool {
+    let mut ids = BTreeSet::new();
+    let id = |bytes: &[u8]| match bytes {
+        [a, b, c, d, id @ ..] if [INODE_MAGIC, BLOCK_MAGIC].contains(&[*a, *b, *c, *d]) => {
+            id.first_chunk().map(|id| u32::from_le_bytes(*id))
+        }
+        _ => None,
+    };
+    places(image, areas).filter_map(id).all(|id| ids.insert(id))
+}
+
+/// What is left of its area from each place on.
+fn places<'a>(image: &'a [u8], areas: &'a [Area]) -> impl Iterator<Item = &'a [u8]> {
     let bytes_of = |area: &Area| {
         let end = area.offset as usize + area.length as usize;
         image.get(area.offset as usize..end).unwrap_or_default()
     };
-    areas.iter().map(bytes_of).flat_map(candidates_of).collect()
-}
-
-fn candidates_of(area: &[u8]) -> impl Iterator<Item = Candidate> + '_ {
-    (0..area.len()).filter_map(|place| candidate(&area[place..]))
+    areas.iter().map(bytes_of).flat_map(|area| (0..area.len()).map(|place| &area[place..]))
 }
 
 fn candidate(bytes: &[u8]) -> Option<Candidate> {

@@ -66,14 +66,22 @@ fn used(image: &[u8], areas: &[Area]) -> usize {
     areas.iter().map(used_of).sum()
 }
 
+/// What collecting was good for where calls were refused.
+enum Collecting {
+    NotTried,
+    /// It was refused itself.
+    Refused,
+    /// So often, and it gave too little.
+    InVain(u32),
+}
+
 /// An image that is being changed.
 pub struct Work<'a> {
     pub image: Vec<u8>,
     pub areas: &'a [Area],
     collect: bool,
     progress: Progress,
-    /// Collections tried in vain for the calls that were refused.
-    in_vain: Option<u32>,
+    last: Collecting,
 }
 
 impl<'a> Work<'a> {
@@ -83,7 +91,7 @@ impl<'a> Work<'a> {
             areas,
             collect: arguments.given("--collect"),
             progress: Progress::new(arguments.given("--quiet")),
-            in_vain: None,
+            last: Collecting::NotTried,
         }
     }
 
@@ -97,13 +105,13 @@ impl<'a> Work<'a> {
         &mut self,
         calls: impl Fn(&mut [u8], &[Area]) -> Result<(), Refusal>,
     ) -> Result<(), Refusal> {
+        self.last = Collecting::NotTried;
         let mut base = self.image.clone();
         let mut collections = Collections::of(&base, self.areas);
         loop {
             let mut next = base.clone();
             let Err(refusal) = calls(&mut next, self.areas) else {
                 self.image = next;
-                self.in_vain = None;
                 return Ok(());
             };
             let mendable = matches!(refusal, Refusal::NO_ROOM | Refusal::TOO_MANY_IDS);
@@ -111,8 +119,9 @@ impl<'a> Work<'a> {
                 return Err(refusal);
             }
             self.progress.show(&format!("no room: {} collections", collections.made));
-            self.in_vain = Some(collections.made);
+            self.last = Collecting::Refused;
             if !collections.step(&mut base, self.areas)? {
+                self.last = Collecting::InVain(collections.made);
                 return Err(refusal);
             }
         }
@@ -120,12 +129,12 @@ impl<'a> Work<'a> {
 
     /// The failure of what was refused last; a refusal of the collection is told as such.
     pub fn refused(&self, what: String, refusal: Refusal) -> Failure {
-        match self.in_vain {
-            None => Failure::Refused(what, refusal),
-            Some(_) if refusal == Refusal::NO_SOURCE => {
-                Failure::Refused(format!("{what}: no room, and collecting is"), refusal)
+        match self.last {
+            Collecting::NotTried => Failure::Refused(what, refusal),
+            Collecting::Refused => {
+                Failure::Refused(format!("{what}: no room, and a collection is"), refusal)
             }
-            Some(made) => Failure::NoFit(what, refusal, made),
+            Collecting::InVain(made) => Failure::NoFit(what, refusal, made),
         }
     }
 
