@@ -2,7 +2,7 @@
 
 use crate::areas;
 use crate::arguments::{usage, Arguments};
-use crate::console::print;
+use crate::console::{print, say};
 use crate::failure::Failure;
 use crate::image_file::{self, failed, Held, MOST};
 use crate::tree::contents;
@@ -29,7 +29,12 @@ fn change(
     let areas = areas::take(arguments, held.image())?;
     let mut work = Work::new(arguments, held.image(), &areas);
     calls(&mut work).map_err(|refusal| work.refused(arguments.what(), refusal))?;
-    held.replace(&work.image)
+    let (image, collections) = work.done();
+    held.replace(&image)?;
+    if !collections.is_empty() && !arguments.given("--quiet") {
+        say(&format!("done{collections}"));
+    }
+    Ok(())
 }
 
 pub fn areas_seen(arguments: &Arguments) -> Result<(), Failure> {

@@ -53,14 +53,13 @@ pub fn import(arguments: &Arguments) -> Result<(), Failure> {
             }
         }
     }
-    let image = std::mem::take(&mut work.image);
-    drop(work);
+    let (image, collections) = work.done();
     let changed = held.image() != image;
     held.replace(&image)?;
     match refused {
         None => {
             if !arguments.given("--quiet") {
-                say(&summary(&done));
+                say(&format!("{}{collections}", summary(&done)));
             }
             Ok(())
         }
@@ -259,9 +258,10 @@ fn is_free(target: &Target, replace: bool) -> Result<(), Failure> {
     let Ok(there) = fs::symlink_metadata(&target.host) else { return Ok(()) };
     let fits = match target.entry.what {
         What::Directory => there.is_dir(),
-        _ => replace && there.is_file(),
+        _ => replace && there.is_file() && !there.permissions().readonly(),
     };
     let hint = match target.entry.what {
+        What::File(_) if there.is_file() && replace => " (it is read-only)",
         What::File(_) if there.is_file() => " (--replace replaces it)",
         _ => "",
     };

@@ -1,19 +1,13 @@
 //! JSON, as far as a check needs it.
 
-use std::fmt::Write;
-
-/// A text in quotes.
+/// A text in quotes; all but printable ASCII by number.
 pub fn text(text: &str) -> String {
     let mut quoted = String::from("\"");
     for c in text.chars() {
         match c {
             '"' | '\\' => quoted.extend(['\\', c]),
             '\u{20}'..='\u{7e}' => quoted.push(c),
-            _ => {
-                for unit in c.encode_utf16(&mut [0; 2]) {
-                    let _ = write!(quoted, "\\u{unit:04x}");
-                }
-            }
+            _ => quoted.extend(c.encode_utf16(&mut [0; 2]).iter().map(|u| format!("\\u{u:04x}"))),
         }
     }
     quoted.push('"');

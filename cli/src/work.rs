@@ -2,7 +2,7 @@
 
 use crate::areas::header;
 use crate::arguments::Arguments;
-use crate::console::Progress;
+use crate::console::{count, Progress};
 use crate::failure::Failure;
 use nffs::{Area, Kind, Refusal};
 
@@ -82,6 +82,7 @@ pub struct Work<'a> {
     collect: bool,
     progress: Progress,
     last: Collecting,
+    collected: u32,
 }
 
 impl<'a> Work<'a> {
@@ -92,6 +93,7 @@ impl<'a> Work<'a> {
             collect: arguments.given("--collect"),
             progress: Progress::new(arguments.given("--quiet")),
             last: Collecting::NotTried,
+            collected: 0,
         }
     }
 
@@ -112,6 +114,7 @@ impl<'a> Work<'a> {
             let mut next = base.clone();
             let Err(refusal) = calls(&mut next, self.areas) else {
                 self.image = next;
+                self.collected += collections.made;
                 return Ok(());
             };
             let mendable = matches!(refusal, Refusal::NO_ROOM | Refusal::TOO_MANY_IDS);
@@ -125,6 +128,15 @@ impl<'a> Work<'a> {
                 return Err(refusal);
             }
         }
+    }
+
+    /// The new image, and in words how often it was collected for it, if it was.
+    pub fn done(self) -> (Vec<u8>, String) {
+        let made = match self.collected {
+            0 => String::new(),
+            n => format!(", after {}", count(n as usize, "collection", "collections")),
+        };
+        (self.image, made)
     }
 
     /// The failure of what was refused last; a refusal of the collection is told as such.

@@ -141,7 +141,11 @@ fn orphans_are_told_from_the_deleted() {
     assert!(page_of.contains("\nOrphans: "), "{page_of}");
     let orphans = "v['deleted'], v['orphans'], sorted(o['name'] for o in v['orphaned'])";
     assert_eq!(json(&folder, orphans, 3), "3 5 ['below', 'dir', 'eight', 'lost', 'seven']");
+}
 
+#[test]
+fn what_collections_keep_is_counted_together() {
+    let folder = Folder::new("together_counted");
     // equal records in two areas keep each other, so that it is not known
     let deleted = [inode(1, 0, 0, b"a"), inode(1, 1, NONE, b"")].concat();
     let one = image(std::slice::from_ref(&deleted));
@@ -150,7 +154,7 @@ fn orphans_are_told_from_the_deleted() {
     folder.write("image", [one, other].concat());
     assert!(page(&folder, &[], 0).contains("inodes: 2, of which 1 live, 1 deleted or orphans\n"));
 
-    // nor where an area is never collected
+    // nor is it where an area is never collected
     folder.good(&["format", "other", "--areas", "0:4096,4096:2048,6144:4096"], b"");
     folder.good(&["put", "other", "/dose"], b"20 mSv");
     folder.good(&["rm", "other", "/dose"], b"");

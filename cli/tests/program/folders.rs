@@ -2,8 +2,8 @@
 
 use crate::folder::{files_of, Folder};
 use crate::records::{image, inode};
-use std::fs;
-use std::os::unix::fs::symlink;
+use std::fs::{self, set_permissions, Permissions};
+use std::os::unix::fs::{symlink, PermissionsExt};
 use std::path::PathBuf;
 use std::process::Command;
 
@@ -68,7 +68,13 @@ fn files_are_replaced_only_when_asked() {
     folder.good(&["export", "image", "out", "--replace"], b"");
     assert_eq!(below(&folder, "out"), below(&folder, "tables"));
 
-    // not through a link, and no folder for a file
+    // not one that is read-only, not through a link, and no folder for a file
+    set_permissions(folder.path("out/rate"), Permissions::from_mode(0o444)).unwrap();
+    let words = folder.bad(&["export", "image", "out", "--replace"], b"", 2);
+    assert!(
+        words.contains("out/rate is in the way of /rate: nothing was written (it is read-only)")
+    );
+    set_permissions(folder.path("out/rate"), Permissions::from_mode(0o644)).unwrap();
     fs::remove_file(folder.path("out/dose")).unwrap();
     symlink("../tables/rate", folder.path("out/dose")).unwrap();
     let words = folder.bad(&["export", "image", "out", "--replace"], b"", 2);
@@ -111,7 +117,8 @@ fn an_import_that_stops_half_way_tells_what_is_there() {
     // with room it goes on where it ended
     folder.good(&["rm", "image", "/more"], b"");
     fs::remove_file(folder.path("tables/more")).unwrap();
-    folder.good(&["import", "image", "tables", "--collect"], b"");
+    let words = said(&folder, &["import", "image", "tables", "--collect"], 0);
+    assert!(words.contains("3 stored, 0 replaced, 4 there already, after "), "{words}");
     folder.good(&["export", "image", "out"], b"");
     assert_eq!(below(&folder, "out"), below(&folder, "tables"));
 }
@@ -131,6 +138,9 @@ fn what_a_volume_cannot_hold_is_seen_before() {
     assert!(words.contains("cannot read image: "), "{words}");
     let words = folder.refused(&["import", "image", "tables/old/empty", "relative"], b"");
     assert!(words.contains("refused with 8, "), "{words}");
+    folder.write("blank", [0; 8192]);
+    let words = ["import", "blank", "tables/old/empty", "--areas", "4096x2"];
+    assert!(folder.refused(&words, b"").contains("refused with 3, "));
 }
 
 #[test]
