@@ -9,7 +9,8 @@ use crate::failure::Failure;
 use crate::image_file::MOST;
 use nffs::Area;
 use std::ffi::OsStr;
-use std::fs;
+use std::fs::File;
+use std::io::Read;
 use std::os::unix::ffi::OsStrExt;
 use std::path::Path;
 
@@ -160,7 +161,10 @@ pub fn listed(arguments: &Arguments) -> Result<Option<Vec<Area>>, Failure> {
 
 /// A list in a file: its lines joined, without spaces and what follows a '#'.
 fn from_file(path: &Path) -> Result<Vec<Area>, Failure> {
-    let text = fs::read(path)
+    let mut text = Vec::new();
+    // no list is longer than an image
+    File::open(path)
+        .and_then(|file| file.take(MOST as u64).read_to_end(&mut text))
         .map_err(|e| Failure::File(format!("--areas: cannot read {}", path.display()), e))?;
     let text = String::from_utf8_lossy(&text);
     let entries: Vec<&str> = text
@@ -175,10 +179,12 @@ fn from_file(path: &Path) -> Result<Vec<Area>, Failure> {
 /// for their number: a list without bound could not be held.
 fn parse(text: &str) -> Result<Vec<Area>, Failure> {
     let row_of = text.rsplit_once('x').filter(|_| !text.contains(':') && number_of(text).is_err());
-    let areas = match row_of {
+    let mut areas = match row_of {
         Some((length, count)) => row(number_of(length)?, number_of(count)?)?,
         None => text.split(',').map(area).collect::<Result<Vec<_>, _>>()?,
     };
+    // there a list ends for the calls; so it does for what is shown
+    areas.truncate(areas.iter().position(|a| a.length == 0).unwrap_or(areas.len()));
     if areas.len() > AREAS_MOST {
         return Err(too_many());
     }

@@ -39,6 +39,7 @@ pub fn import(arguments: &Arguments) -> Result<(), Failure> {
     let sources = gather(Path::new(arguments.word(0).unwrap_or_default()), arguments.path(1))?;
     let held = Held::of(&arguments.image, arguments.number("--at")?)?;
     let areas = areas::take(arguments, held.image())?;
+    nffs::report(held.image(), &areas).map_err(|refusal| arguments.refused(refusal))?;
     let mut work = Work::new(arguments, held.image(), &areas);
     let mut done: Vec<(&Source, Stored)> = Vec::new();
     let mut refused = None;
@@ -132,7 +133,10 @@ fn make_directories(work: &mut Work, path: &[u8]) -> Result<Stored, Refusal> {
 
 /// All that lies in a folder, each directory before what lies in it, in order of names.
 fn gather(folder: &Path, path: &[u8]) -> Result<Vec<Source>, Failure> {
-    let mut found = vec![Source { path: path.to_vec(), data: None }];
+    let mut found = Vec::new();
+    if path != b"/" {
+        found.push(Source { path: path.to_vec(), data: None });
+    }
     let mut open = listing(folder, path)?;
     let mut size = 0;
     while let Some((host, path)) = open.pop() {
@@ -186,19 +190,16 @@ pub fn export(arguments: &Arguments) -> Result<(), Failure> {
         Failure::Refused(format!("export {} {}", arguments.image.display(), shown(path)), refusal)
     };
     let found = tree(&image, &areas, path).map_err(refused)?;
-    let (targets, left_out) = targets(&found, path, folder);
+    let (targets, mut left_out) = targets(&found, path, folder);
+    // below an ambiguous path, or deeper than a path can say
+    let live = nffs::report(&image, &areas).map_err(refused)?.live as usize;
+    if path == b"/" && live > found.entries.len() {
+        left_out += &format!("\n    {} without a path of their own", live - found.entries.len());
+    }
     for target in &targets {
         is_free(target, arguments.given("--replace"))?;
     }
-    if fs::metadata(folder).is_err() {
-        fs::create_dir(folder).map_err(failed("make", folder))?;
-    }
-    let progress = Progress::new(arguments.given("--quiet"));
-    for (k, target) in targets.iter().enumerate() {
-        progress.show(&format!("{k} of {}: {}", targets.len(), shown(&target.entry.path)));
-        write(target).map_err(|failure| interrupted(failure, &targets[..k]))?;
-    }
-    drop(progress);
+    write_all(&targets, folder, arguments.given("--quiet"))?;
     let files = targets.iter().filter(|t| matches!(t.entry.what, What::File(_))).count();
     let said = format!("{} written to {}", count(files, "file", "files"), folder.display());
     if !left_out.is_empty() {
@@ -206,6 +207,25 @@ pub fn export(arguments: &Arguments) -> Result<(), Failure> {
     }
     if !arguments.given("--quiet") {
         say(&said);
+    }
+    Ok(())
+}
+
+fn write_all(targets: &[Target], folder: &Path, quiet: bool) -> Result<(), Failure> {
+    let is_new = fs::metadata(folder).is_err();
+    if is_new {
+        fs::create_dir(folder).map_err(failed("make", folder))?;
+    }
+    let progress = Progress::new(quiet);
+    for (k, target) in targets.iter().enumerate() {
+        progress.show(&format!("{k} of {}: {}", targets.len(), shown(&target.entry.path)));
+        write(target).map_err(|failure| {
+            if is_new {
+                // only an empty one goes: nothing was written then
+                let _ = fs::remove_dir(folder);
+            }
+            interrupted(failure, &targets[..k])
+        })?;
     }
     Ok(())
 }

@@ -10,6 +10,7 @@ mod files;
 mod folders;
 mod image_file;
 mod json;
+mod page;
 mod records;
 mod tree;
 mod work;

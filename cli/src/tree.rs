@@ -104,10 +104,10 @@ pub fn below(directory: &[u8], name: &[u8]) -> Vec<u8> {
     [parent, b"/", name].concat()
 }
 
-/// A path and those above it, the root first.
+/// A path and those above it, from above; without the root, which is always there.
 pub fn prefixes(path: &[u8]) -> impl Iterator<Item = &[u8]> {
     let ends = (1..path.len()).filter(|k| path[*k] == b'/').chain([path.len()]);
-    [&b"/"[..]].into_iter().chain(ends.map(|end| &path[..end]))
+    ends.map(|end| &path[..end])
 }
 
 /// Whether a directory is there; a file in its place is refused.

@@ -42,6 +42,8 @@ fn a_header_that_is_left_out_is_warned_of() {
     assert_eq!(warned("4096x3"), 1);
     assert_eq!(warned("4096x2"), 2);
     assert_eq!(warned("0:4096,8192:4096,4096:4096,12288:4096"), 0);
+    // the list ends at the length 0
+    assert_eq!(warned("0:4096,4096:4096,8192:4096,0:0,12288:4096"), 1);
     // a descriptor without its header is passed over
     assert_eq!(warned("0:4096,4096:4096,8192:8192"), 2);
 

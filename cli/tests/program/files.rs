@@ -9,12 +9,14 @@ use std::process::{Child, Command, Stdio};
 use std::thread::sleep;
 use std::time::{Duration, Instant};
 
-/// What a test lets become of `fsync`: of a file or a folder it fails, or it never ends.
-const FSYNC: &str = r#"
+/// What a test lets become of calls of the system: `fsync` of a file or a folder fails, or it or
+/// `fchmod` never ends.
+const CALLS: &str = r#"
 #include <errno.h>
 #include <stdlib.h>
 #include <string.h>
 #include <sys/stat.h>
+#include <sys/syscall.h>
 #include <unistd.h>
 
 int fsync(int file) {
@@ -26,14 +28,20 @@ int fsync(int file) {
     errno = EIO;
     return -1;
 }
+
+int fchmod(int file, mode_t mode) {
+    const char *waits = getenv("TEST_WAITS");
+    while (waits && strcmp(waits, "mode") == 0) pause();
+    return (int)syscall(SYS_fchmod, file, mode);
+}
 "#;
 
-/// A library that puts it before the system's own.
-fn with_fsync(folder: &Folder) -> PathBuf {
+/// A library that puts them before the system's own.
+fn with_calls(folder: &Folder) -> PathBuf {
     let outside = std::env::temp_dir();
     let name = folder.0.file_name().unwrap().to_str().unwrap();
     let (source, library) = (outside.join(format!("{name}.c")), outside.join(format!("{name}.so")));
-    fs::write(&source, FSYNC).unwrap();
+    fs::write(&source, CALLS).unwrap();
     let built =
         Command::new("cc").args(["-shared", "-fPIC", "-o"]).args([&library, &source]).status();
     assert!(built.unwrap().success());
@@ -47,10 +55,6 @@ fn mode(path: &Path) -> u32 {
 
 fn set_mode(path: &Path, mode: u32) {
     fs::set_permissions(path, Permissions::from_mode(mode)).unwrap();
-}
-
-fn is_root(folder: &Folder) -> bool {
-    fs::metadata(&folder.0).unwrap().uid() == 0
 }
 
 #[test]
@@ -86,11 +90,11 @@ fn a_read_only_image_is_not_replaced() {
 #[test]
 fn the_owner_is_kept_or_its_loss_is_told() {
     let folder = Folder::formatted("owner");
-    if !is_root(&folder) {
+    let image = folder.path("image");
+    // only the superuser gives files away
+    if chown(&image, Some(1234), Some(1235)).is_err() {
         return;
     }
-    let image = folder.path("image");
-    chown(&image, Some(1234), Some(1235)).unwrap();
     set_mode(&image, 0o664);
     folder.good(&["put", "image", "/dose"], b"20 mSv");
     let metadata = fs::metadata(&image).unwrap();
@@ -153,7 +157,7 @@ fn only_a_regular_file_is_an_image() {
 #[test]
 fn a_folder_that_is_not_brought_to_the_disk_is_told_as_it_is() {
     let folder = Folder::formatted("sync");
-    let library = with_fsync(&folder);
+    let library = with_calls(&folder);
     let old = folder.bytes("image");
     let run = |of: &str, words: &[&str]| {
         let mut command = folder.command(words);
@@ -176,20 +180,21 @@ fn a_folder_that_is_not_brought_to_the_disk_is_told_as_it_is() {
     fs::remove_file(library).unwrap();
 }
 
-/// A run that has written the new image and waits for the disk for ever.
-fn waiting(folder: &Folder, library: &Path, words: &[&str]) -> Child {
+/// A run under no mask that waits for ever: before it sets a mode, or once a file is written.
+fn waiting(folder: &Folder, library: &Path, waits: &str, words: &[&str]) -> Child {
     let child = Command::new("bash")
         .args(["-c", "umask 0; exec \"$0\" \"$@\"", PROGRAM])
         .args(words)
         .current_dir(&folder.0)
         .env("LD_PRELOAD", library)
-        .env("TEST_WAITS", "file")
+        .env("TEST_WAITS", waits)
         .stdin(Stdio::null())
         .stderr(Stdio::null())
         .spawn()
         .unwrap();
     let begun = Instant::now();
-    while beside(folder).is_none_or(|path| fs::metadata(path).unwrap().len() < 8192) {
+    let size = if waits == "file" { 8192 } else { 0 };
+    while beside(folder).is_none_or(|path| fs::metadata(path).unwrap().len() < size) {
         assert!(begun.elapsed() < Duration::from_secs(30), "nothing is written");
         sleep(Duration::from_millis(10));
     }
@@ -206,12 +211,10 @@ fn beside(folder: &Folder) -> Option<PathBuf> {
 #[test]
 fn a_lock_ends_with_the_run_that_is_stopped() {
     let folder = Folder::formatted("stopped");
-    let library = with_fsync(&folder);
+    let library = with_calls(&folder);
     set_mode(&folder.path("image"), 0o600);
     let old = folder.bytes("image");
-    let mut first = waiting(&folder, &library, &["mkdir", "image", "/first"]);
-    // what is being written is open to nobody else, whatever the mask
-    assert_eq!(mode(&beside(&folder).unwrap()), 0o600);
+    let mut first = waiting(&folder, &library, "file", &["mkdir", "image", "/first"]);
 
     // meanwhile it can be read, and a second change waits some seconds and is then turned away
     folder.good(&["report", "image"], b"");
@@ -225,6 +228,22 @@ fn a_lock_ends_with_the_run_that_is_stopped() {
     folder.good(&["mkdir", "image", "/second"], b"");
     assert_eq!(folder.files().len(), 2);
     assert!(folder.refused(&["lookup", "image", "/first"], b"").contains("9, "));
+    fs::remove_file(library).unwrap();
+}
+
+#[test]
+fn a_new_image_is_never_open_to_more_than_the_old() {
+    let folder = Folder::formatted("modes");
+    let library = with_calls(&folder);
+    set_mode(&folder.path("image"), 0o640);
+    for (waits, size, expected) in [("mode", 0, 0o600), ("file", 8192, 0o640)] {
+        let mut run = waiting(&folder, &library, waits, &["mkdir", "image", "/first"]);
+        let path = beside(&folder).unwrap();
+        assert_eq!((fs::metadata(&path).unwrap().len(), mode(&path)), (size, expected));
+        run.kill().unwrap();
+        run.wait().unwrap();
+        fs::remove_file(path).unwrap();
+    }
     fs::remove_file(library).unwrap();
 }
 
