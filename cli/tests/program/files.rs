@@ -3,7 +3,6 @@
 use crate::folder::{finish, Folder, PROGRAM};
 use std::fs::{self, File, OpenOptions, Permissions};
 use std::os::unix::fs::{chown, symlink, MetadataExt, PermissionsExt};
-use std::os::unix::process::ExitStatusExt;
 use std::path::{Path, PathBuf};
 use std::process::{Child, Command, Stdio};
 use std::thread::sleep;
@@ -36,17 +35,15 @@ int fchmod(int file, mode_t mode) {
 }
 "#;
 
-/// A library that puts them before the system's own.
-fn with_calls(folder: &Folder) -> PathBuf {
-    let outside = std::env::temp_dir();
-    let name = folder.0.file_name().unwrap().to_str().unwrap();
-    let (source, library) = (outside.join(format!("{name}.c")), outside.join(format!("{name}.so")));
+/// A library that puts them before the system's own, in a folder of its own.
+fn with_calls(name: &str) -> (Folder, PathBuf) {
+    let folder = Folder::new(name);
+    let (source, library) = (folder.path("calls.c"), folder.path("calls.so"));
     fs::write(&source, CALLS).unwrap();
-    let built =
-        Command::new("cc").args(["-shared", "-fPIC", "-o"]).args([&library, &source]).status();
+    let mut compiler = Command::new("cc");
+    let built = compiler.args(["-shared", "-fPIC", "-o"]).args([&library, &source]).status();
     assert!(built.unwrap().success());
-    fs::remove_file(&source).unwrap();
-    library
+    (folder, library)
 }
 
 fn mode(path: &Path) -> u32 {
@@ -157,7 +154,7 @@ fn only_a_regular_file_is_an_image() {
 #[test]
 fn a_folder_that_is_not_brought_to_the_disk_is_told_as_it_is() {
     let folder = Folder::formatted("sync");
-    let library = with_calls(&folder);
+    let (_calls, library) = with_calls("sync_calls");
     let old = folder.bytes("image");
     let run = |of: &str, words: &[&str]| {
         let mut command = folder.command(words);
@@ -177,28 +174,41 @@ fn a_folder_that_is_not_brought_to_the_disk_is_told_as_it_is() {
     assert!(status == Some(4) && said.contains("other was made, but its folder"), "{said}");
     folder.good(&["report", "other"], b"");
     assert_eq!(folder.files().len(), 2);
-    fs::remove_file(library).unwrap();
 }
 
-/// A run under no mask that waits for ever: before it sets a mode, or once a file is written.
-fn waiting(folder: &Folder, library: &Path, waits: &str, words: &[&str]) -> Child {
-    let child = Command::new("bash")
-        .args(["-c", "umask 0; exec \"$0\" \"$@\"", PROGRAM])
-        .args(words)
-        .current_dir(&folder.0)
-        .env("LD_PRELOAD", library)
-        .env("TEST_WAITS", waits)
-        .stdin(Stdio::null())
-        .stderr(Stdio::null())
-        .spawn()
-        .unwrap();
-    let begun = Instant::now();
-    let size = if waits == "file" { 8192 } else { 0 };
-    while beside(folder).is_none_or(|path| fs::metadata(path).unwrap().len() < size) {
-        assert!(begun.elapsed() < Duration::from_secs(30), "nothing is written");
-        sleep(Duration::from_millis(10));
+/// A run under no mask that waits for ever: before it sets a mode, or once a file is written. It is
+/// stopped by force with the test, however that ends.
+struct Waiting(Child);
+
+impl Waiting {
+    fn new(folder: &Folder, library: &Path, waits: &str, words: &[&str]) -> Waiting {
+        let child = Command::new("bash")
+            .args(["-c", "umask 0; exec \"$0\" \"$@\"", PROGRAM])
+            .args(words)
+            .current_dir(&folder.0)
+            .env("LD_PRELOAD", library)
+            .env("TEST_WAITS", waits)
+            .stdin(Stdio::null())
+            .stdout(Stdio::null())
+            .stderr(Stdio::null())
+            .spawn()
+            .unwrap();
+        let waiting = Waiting(child);
+        let begun = Instant::now();
+        let size = if waits == "file" { 8192 } else { 0 };
+        while beside(folder).is_none_or(|path| fs::metadata(path).unwrap().len() < size) {
+            assert!(begun.elapsed() < Duration::from_secs(30), "nothing is written");
+            sleep(Duration::from_millis(10));
+        }
+        waiting
     }
-    child
+}
+
+impl Drop for Waiting {
+    fn drop(&mut self) {
+        let _ = self.0.kill();
+        let _ = self.0.wait();
+    }
 }
 
 /// The file that a run writes before it replaces the image.
@@ -211,40 +221,36 @@ fn beside(folder: &Folder) -> Option<PathBuf> {
 #[test]
 fn a_lock_ends_with_the_run_that_is_stopped() {
     let folder = Folder::formatted("stopped");
-    let library = with_calls(&folder);
+    let (_calls, library) = with_calls("stopped_calls");
     set_mode(&folder.path("image"), 0o600);
     let old = folder.bytes("image");
-    let mut first = waiting(&folder, &library, "file", &["mkdir", "image", "/first"]);
+    let first = Waiting::new(&folder, &library, "file", &["mkdir", "image", "/first"]);
 
     // meanwhile it can be read, and a second change waits some seconds and is then turned away
     folder.good(&["report", "image"], b"");
     let said = folder.bad(&["mkdir", "image", "/second"], b"", 2);
     assert!(said.contains("image is being changed by another run"), "{said}");
 
-    first.kill().unwrap();
-    assert_eq!(first.wait().unwrap().signal(), Some(9));
+    drop(first);
     assert_eq!(folder.bytes("image"), old);
     // what it left is in nobody's way
     folder.good(&["mkdir", "image", "/second"], b"");
     assert_eq!(folder.files().len(), 2);
     assert!(folder.refused(&["lookup", "image", "/first"], b"").contains("9, "));
-    fs::remove_file(library).unwrap();
 }
 
 #[test]
 fn a_new_image_is_never_open_to_more_than_the_old() {
     let folder = Folder::formatted("modes");
-    let library = with_calls(&folder);
+    let (_calls, library) = with_calls("modes_calls");
     set_mode(&folder.path("image"), 0o640);
     for (waits, size, expected) in [("mode", 0, 0o600), ("file", 8192, 0o640)] {
-        let mut run = waiting(&folder, &library, waits, &["mkdir", "image", "/first"]);
+        let run = Waiting::new(&folder, &library, waits, &["mkdir", "image", "/first"]);
         let path = beside(&folder).unwrap();
         assert_eq!((fs::metadata(&path).unwrap().len(), mode(&path)), (size, expected));
-        run.kill().unwrap();
-        run.wait().unwrap();
+        drop(run);
         fs::remove_file(path).unwrap();
     }
-    fs::remove_file(library).unwrap();
 }
 
 #[test]
