@@ -32,6 +32,8 @@ impl Progress {
 
     pub fn show(&self, text: &str) {
         if self.shown {
+            // a line that went over the edge could not be taken back
+            let text: String = text.chars().take(70).collect();
             let _ = io::stderr().write_all(format!("\rnffs: {text}\x1b[K").as_bytes());
         }
     }

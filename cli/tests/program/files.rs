@@ -8,8 +8,8 @@ use std::process::{Child, Command, Stdio};
 use std::thread::sleep;
 use std::time::{Duration, Instant};
 
-/// What a test lets become of calls of the system: `fsync` of a file or a folder fails, or it or
-/// `fchmod` never ends.
+/// What a test lets become of calls of the system: `fsync` of a file or a folder fails, or `linkat`,
+/// or `fsync` or `fchmod` never ends.
 const CALLS: &str = r#"
 #include <errno.h>
 #include <stdlib.h>
@@ -32,6 +32,13 @@ int fchmod(int file, mode_t mode) {
     const char *waits = getenv("TEST_WAITS");
     while (waits && strcmp(waits, "mode") == 0) pause();
     return (int)syscall(SYS_fchmod, file, mode);
+}
+
+int linkat(int from, const char *old, int to, const char *new, int flags) {
+    const char *fails = getenv("TEST_FAILS");
+    if (!fails || strcmp(fails, "link") != 0) return (int)syscall(SYS_linkat, from, old, to, new, flags);
+    errno = EPERM;
+    return -1;
 }
 "#;
 
@@ -174,6 +181,17 @@ fn a_folder_that_is_not_brought_to_the_disk_is_told_as_it_is() {
     assert!(status == Some(4) && said.contains("other was made, but its folder"), "{said}");
     folder.good(&["report", "other"], b"");
     assert_eq!(folder.files().len(), 2);
+}
+
+#[test]
+fn a_new_image_where_there_are_no_links() {
+    let folder = Folder::new("links");
+    let (_calls, library) = with_calls("links_calls");
+    let mut command = folder.command(&["format", "image", "--areas", "4096x2"]);
+    let output = finish(command.env("LD_PRELOAD", library).env("TEST_FAILS", "link"), b"");
+    assert!(output.status.success(), "{}", String::from_utf8_lossy(&output.stderr));
+    folder.good(&["report", "image"], b"");
+    assert_eq!(folder.files().len(), 1);
 }
 
 /// A run under no mask that waits for ever: before it sets a mode, or once a file is written. It is
