@@ -15,7 +15,7 @@ use std::time::{Duration, Instant};
 pub const MOST: usize = 65_536;
 
 /// How long a run waits for another that changes the same image.
-const PATIENCE: Duration = Duration::from_secs(5);
+const PATIENCE: Duration = Duration::from_secs(10);
 
 /// The bytes of an image file. Of one that is too long it is one byte more than an image may have,
 /// so that the calls refuse it; with `at` it is what lies there, as far as an image may go.

@@ -8,10 +8,11 @@ use std::process::{Child, Command, Stdio};
 use std::thread::sleep;
 use std::time::{Duration, Instant};
 
-/// What a test lets become of calls of the system: `fsync` of a file or a folder fails, or `linkat`,
-/// or `fsync` or `fchmod` never ends.
+/// What a test lets become of calls of the system: `fsync` of a file or a folder fails, or `linkat`;
+/// `fsync` or `fchmod` never ends; `flock` makes a file and waits for another.
 const CALLS: &str = r#"
 #include <errno.h>
+#include <fcntl.h>
 #include <stdlib.h>
 #include <string.h>
 #include <sys/stat.h>
@@ -32,6 +33,14 @@ int fchmod(int file, mode_t mode) {
     const char *waits = getenv("TEST_WAITS");
     while (waits && strcmp(waits, "mode") == 0) pause();
     return (int)syscall(SYS_fchmod, file, mode);
+}
+
+int flock(int file, int how) {
+    if (getenv("TEST_WAITS") && strcmp(getenv("TEST_WAITS"), "lock") == 0) {
+        close(open("begun", O_CREAT | O_WRONLY, 0600));
+        while (access("go", F_OK) != 0) usleep(10000);
+    }
+    return (int)syscall(SYS_flock, file, how);
 }
 
 int linkat(int from, const char *old, int to, const char *new, int flags) {
@@ -194,8 +203,8 @@ fn a_new_image_where_there_are_no_links() {
     assert_eq!(folder.files().len(), 1);
 }
 
-/// A run under no mask that waits for ever: before it sets a mode, or once a file is written. It is
-/// stopped by force with the test, however that ends.
+/// A run under no mask that waits, of itself for ever; it is stopped by force with the test, however
+/// that ends.
 struct Waiting(Child);
 
 impl Waiting {
@@ -211,14 +220,17 @@ impl Waiting {
             .stderr(Stdio::null())
             .spawn()
             .unwrap();
-        let waiting = Waiting(child);
+        Waiting(child)
+    }
+
+    /// Comes back when something has come about.
+    fn until(self, is: impl Fn() -> bool) -> Waiting {
         let begun = Instant::now();
-        let size = if waits == "file" { 8192 } else { 0 };
-        while beside(folder).is_none_or(|path| fs::metadata(path).unwrap().len() < size) {
-            assert!(begun.elapsed() < Duration::from_secs(30), "nothing is written");
+        while !is() {
+            assert!(begun.elapsed() < Duration::from_secs(30), "it does not come about");
             sleep(Duration::from_millis(10));
         }
-        waiting
+        self
     }
 }
 
@@ -227,6 +239,11 @@ impl Drop for Waiting {
         let _ = self.0.kill();
         let _ = self.0.wait();
     }
+}
+
+/// Whether a run has made the file that it replaces the image by, with so many bytes at least.
+fn has_written(folder: &Folder, size: u64) -> bool {
+    beside(folder).is_some_and(|path| fs::metadata(path).unwrap().len() >= size)
 }
 
 /// The file that a run writes before it replaces the image.
@@ -242,7 +259,9 @@ fn a_lock_ends_with_the_run_that_is_stopped() {
     let (_calls, library) = with_calls("stopped_calls");
     set_mode(&folder.path("image"), 0o600);
     let old = folder.bytes("image");
-    let first = Waiting::new(&folder, &library, "file", &["mkdir", "image", "/first"]);
+    let words = ["mkdir", "image", "/first"];
+    let first =
+        Waiting::new(&folder, &library, "file", &words).until(|| has_written(&folder, 8192));
 
     // meanwhile it can be read, and a second change waits some seconds and is then turned away
     folder.good(&["report", "image"], b"");
@@ -263,7 +282,9 @@ fn a_new_image_is_never_open_to_more_than_the_old() {
     let (_calls, library) = with_calls("modes_calls");
     set_mode(&folder.path("image"), 0o640);
     for (waits, size, expected) in [("mode", 0, 0o600), ("file", 8192, 0o640)] {
-        let run = Waiting::new(&folder, &library, waits, &["mkdir", "image", "/first"]);
+        let words = ["mkdir", "image", "/first"];
+        let run =
+            Waiting::new(&folder, &library, waits, &words).until(|| has_written(&folder, size));
         let path = beside(&folder).unwrap();
         assert_eq!((fs::metadata(&path).unwrap().len(), mode(&path)), (size, expected));
         drop(run);
@@ -284,6 +305,21 @@ fn a_change_waits_for_another() {
         second.join().unwrap();
     });
     folder.good(&["lookup", "image", "/second"], b"");
+}
+
+#[test]
+fn an_image_replaced_just_before_it_is_locked_is_taken_anew() {
+    let folder = Folder::formatted("replaced");
+    let (_calls, library) = with_calls("replaced_calls");
+    let words = ["mkdir", "image", "/first"];
+    let begun = || folder.path("begun").exists();
+    let mut first = Waiting::new(&folder, &library, "lock", &words).until(begun);
+    folder.good(&["mkdir", "image", "/second"], b"");
+    folder.write("go", b"");
+    assert!(first.0.wait().unwrap().success());
+    for path in ["/first", "/second"] {
+        folder.good(&["lookup", "image", path], b"");
+    }
 }
 
 #[test]

@@ -63,6 +63,11 @@ fn files_are_replaced_only_when_asked() {
     assert!(folder.refused(&["import", "image", "tables"], b"").contains("/dose: refused with 12"));
     assert!(said(&folder, &["import", "image", "tables", "--replace"], 0).contains("1 replaced"));
     assert_eq!(folder.text(&["cat", "image", "/dose"]), "10 mSv");
+    // what does not fit leaves the old one
+    folder.write("tables/dose", [1; 9000]);
+    let words = folder.refused(&["import", "image", "tables", "--replace", "--collect"], b"");
+    assert!(words.contains("/dose: refused with 15, "), "{words}");
+    folder.write("tables/dose", b"10 mSv");
     folder.good(&["export", "image", "out"], b"");
     folder.write("out/dose", b"mine");
     folder.good(&["export", "image", "out", "--replace"], b"");
