@@ -155,10 +155,9 @@ fn what_collections_keep_is_counted_together() {
     assert!(page(&folder, &[], 0).contains("inodes: 2, of which 1 live, 1 deleted or orphans\n"));
 
     // nor is it where an area is never collected
-    folder.good(&["format", "other", "--areas", "0:4096,4096:2048,6144:4096"], b"");
-    folder.good(&["put", "other", "/dose"], b"20 mSv");
-    folder.good(&["rm", "other", "/dose"], b"");
-    std::fs::rename(folder.path("other"), folder.path("image")).unwrap();
+    let mut short = [header(1, 2048), inode(1, 1, NONE, b"")].concat();
+    short.resize(2048, 0xff);
+    folder.write("image", [image(&[]), short].concat());
     assert!(page(&folder, &[], 0).contains("inodes: 2, of which 1 live, 1 deleted or orphans\n"));
     assert_eq!(json(&folder, "v['deleted'], v['orphans']", 0), "None None");
 }
@@ -179,7 +178,10 @@ fn names_may_hold_anything() {
             inode(FILE + 4, 0, 1, b"below"),
             // an older version under another name, which no longer counts
             inode(FILE + 5, 0, 0, b"before"),
-            inode(FILE + 5, 1, 0, b"now"),
+            inode(FILE + 5, 2, 0, b"now"),
+            // and one under a name that another has now
+            inode(FILE + 5, 1, 0, b"heir"),
+            inode(FILE + 6, 0, 0, b"heir"),
         ]),
     );
     let page_of = page(&folder, &[], 3);
@@ -196,8 +198,7 @@ fn names_may_hold_anything() {
     }
     assert!(!page_of.contains("before"), "{page_of}");
     let entries = "ascii([e['path'] for e in v['entries']]), v['unreached']";
-    let paths =
-        r#"['/', '/\x1b[2J', '/gr\xf6\xdfe "x" \U0001f600', '/line\nbreak', '/now', None] 3"#;
+    let paths = r#"['/', '/\x1b[2J', '/gr\xf6\xdfe "x" \U0001f600', '/heir', '/line\nbreak', '/now', None] 3"#;
     assert_eq!(json(&folder, entries, 3), paths);
     assert_eq!(json(&folder, "v['ambiguous'][0]['path']", 3), "/twice");
 }
