@@ -1,164 +1,233 @@
 //! The command line.
 
+use crate::console::shown;
 use crate::failure::Failure;
-use nffs::{Area, Refusal};
+use nffs::Refusal;
 use std::ffi::{OsStr, OsString};
 use std::os::unix::ffi::OsStrExt;
 use std::path::PathBuf;
 
 pub const USAGE: &str = "\
-usage: nffs COMMAND IMAGE [PATH] --areas AREAS
+usage: nffs COMMAND IMAGE [WORDS] [OPTIONS]
 
-  format IMAGE            make an empty volume: a new file as long as the areas need,
-                          or with --force of the areas of a file that is there
-  report IMAGE            mount, and count inodes, live ones, damage and its bytes
-  lookup IMAGE PATH       kind and id (hexadecimal) of what PATH leads to
-  cat IMAGE PATH          write the contents of a file to standard output
-  put IMAGE PATH [FILE]   store FILE, or standard input, as a new file;
-                          with --replace a file of that path is unlinked first
-  mkdir IMAGE PATH        create a directory
-  rm IMAGE PATH           unlink a file, or a directory with what lies below it
-  collect IMAGE           collect one area
+  check IMAGE [--json]        a page on the volume: whether it mounts, areas, files, damage
+  areas IMAGE                 the areas whose headers are seen, as --areas takes them
+  report IMAGE                mount, and count inodes, live ones, damage and its bytes
+  lookup IMAGE PATH           kind and id (hexadecimal) of what PATH leads to
+  cat IMAGE PATH              write a file to standard output; from --from on, --length bytes
+  export IMAGE FOLDER [PATH]  copy what lies below PATH, or all, into FOLDER
 
-AREAS are OFFSET:LENGTH,.. or LENGTHxCOUNT (COUNT areas, one behind the other), in decimal.
-PATH is a path of the volume and begins with a slash.
+  format IMAGE --areas AREAS  make an empty volume: a new file as long as the areas need,
+                              or with --force of the areas of a file that is there
+  put IMAGE PATH [FILE]       store FILE, or standard input, as a new file
+  append IMAGE PATH [FILE]    append FILE, or standard input, to a file that is there
+  import IMAGE FOLDER [PATH]  store what lies in FOLDER below PATH, or the root
+  mkdir IMAGE PATH            create a directory
+  rm IMAGE PATH               unlink a file, or a directory with what lies below it
+  collect IMAGE               collect one area
 
-An image is replaced whole or not at all. Status: 0 done, 1 refused by the volume, 2 not tried.
+  --areas AREAS    OFFSET:LENGTH,.. or LENGTHxCOUNT (COUNT areas, one behind the other), or
+                   @FILE, which holds such a list; without it, areas are found by their headers
+  --at OFFSET      the volume begins there in a longer file; areas are counted from there
+  --collect        of put, append, import, mkdir, rm: collect until it fits
+  --replace        of put, import, export: replace a file that is there
+  -q, --quiet      no notes and no progress; warnings and failures are still told
+  -h, --help, -V, --version; -- ends the options
+
+Numbers are decimal, or hexadecimal with 0x. PATH is a path of the volume and begins with a slash.
+
+An image is replaced whole or not at all. Status: 0 done; 1 refused by the volume; 2 not done, for
+the words or a file; 3 check: it mounts, and something in it is wrong; 4 done in part, as is said.
+Unless it is 0 or 4, nothing was changed.
 ";
 
-/// The most areas of a good list.
-const AREAS_MOST: usize = 8;
+/// A command: how many words may follow the image, which options it takes, and what it does.
+pub struct Command {
+    pub name: &'static str,
+    pub words: (usize, usize),
+    pub options: &'static [&'static str],
+    pub run: fn(&Arguments) -> Result<(), Failure>,
+}
 
-/// The commands, with the number of words that may follow the image, at least and at most.
-const COMMANDS: [(&str, usize, usize); 9] = [
-    ("help", 0, 0),
-    ("format", 0, 0),
-    ("report", 0, 0),
-    ("lookup", 1, 1),
-    ("cat", 1, 1),
-    ("put", 1, 2),
-    ("mkdir", 1, 1),
-    ("rm", 1, 1),
-    ("collect", 0, 0),
+/// The options, whether a value follows, and whether every command takes them.
+const OPTIONS: [(&str, bool, bool); 10] = [
+    ("--areas", true, true),
+    ("--at", true, true),
+    ("--quiet", false, true),
+    ("--from", true, false),
+    ("--length", true, false),
+    ("--collect", false, false),
+    ("--replace", false, false),
+    ("--force", false, false),
+    ("--json", false, false),
+    ("--help", false, true),
 ];
 
 #[derive(Default)]
 pub struct Arguments {
     pub command: &'static str,
     pub image: PathBuf,
-    pub path: Vec<u8>,
-    pub file: Option<OsString>,
-    pub areas: Vec<Area>,
-    pub force: bool,
-    pub replace: bool,
+    words: Vec<OsString>,
+    options: Vec<(&'static str, OsString)>,
+}
+
+/// What the words ask for.
+pub enum Asked {
+    Help,
+    Version,
+    Run(fn(&Arguments) -> Result<(), Failure>, Arguments),
 }
 
 impl Arguments {
-    pub fn parse(words: &[OsString]) -> Result<Arguments, Failure> {
+    pub fn parse(commands: &'static [Command], words: &[OsString]) -> Result<Asked, Failure> {
         let mut arguments = Arguments::default();
-        let mut plain: Vec<&OsStr> = Vec::new();
-        let mut areas = None;
-        let mut rest = words.iter();
-        while let Some(word) = rest.next() {
-            match word.to_str() {
-                Some("--areas") => {
-                    areas = Some(rest.next().ok_or_else(|| usage("--areas: no areas"))?)
-                }
-                Some("--force") => arguments.force = true,
-                Some("--replace") => arguments.replace = true,
-                Some("--help") => plain.insert(0, OsStr::new("help")),
-                Some(option) if option.starts_with("--") => {
-                    return Err(usage(format!("no option {option}")));
-                }
-                _ => plain.push(word),
-            }
+        if arguments.sort(words)? {
+            return Ok(Asked::Version);
         }
-        let Some((command, plain)) = plain.split_first() else {
+        let asked_help = arguments.words.first().is_some_and(|word| word == "help");
+        if asked_help || arguments.given("--help") {
+            return Ok(Asked::Help);
+        }
+        if arguments.words.is_empty() {
             return Err(usage("no command"));
-        };
-        let Some(&(command, least, most)) = COMMANDS.iter().find(|c| *command == c.0) else {
-            return Err(usage(format!("no command {}", command.display())));
-        };
-        arguments.command = command;
-        if command == "help" {
-            return Ok(arguments);
         }
-        for (given, option, of) in
-            [(arguments.force, "--force", "format"), (arguments.replace, "--replace", "put")]
-        {
-            if given && command != of {
-                return Err(usage(format!("{command}: {option} belongs to {of}")));
-            }
-        }
-        let Some((image, plain)) = plain.split_first() else {
-            return Err(usage(format!("{command}: no image")));
+        let name = arguments.words.remove(0);
+        let Some(command) = commands.iter().find(|command| name == command.name) else {
+            return Err(usage(format!("no command {}", name.display())));
         };
-        if plain.len() < least || plain.len() > most {
-            let what = if plain.len() < least { "no path" } else { "too many words" };
-            return Err(usage(format!("{command}: {what}")));
-        }
-        arguments.image = PathBuf::from(image);
-        arguments.path = plain.first().map(|path| path.as_bytes().to_vec()).unwrap_or_default();
-        arguments.file = plain.get(1).map(|file| file.into());
-        let areas = areas.ok_or_else(|| usage(format!("{command}: no --areas")))?;
-        arguments.areas = parse_areas(&areas.to_string_lossy())?;
-        Ok(arguments)
+        arguments.take(command)?;
+        Ok(Asked::Run(command.run, arguments))
     }
 
-    /// What was refused: the command, with its image and path.
-    pub fn refused(&self, refusal: Refusal) -> Failure {
-        let mut what = format!("{} {}", self.command, self.image.display());
-        if !self.path.is_empty() {
-            what = format!("{what} {}", OsStr::from_bytes(&self.path).display());
+    /// Parts options from other words; true where the version is asked for.
+    fn sort(&mut self, words: &[OsString]) -> Result<bool, Failure> {
+        let mut rest = words.iter();
+        while let Some(word) = rest.next() {
+            let bytes = word.as_bytes();
+            match bytes {
+                b"--" => {
+                    self.words.extend(rest.by_ref().cloned());
+                }
+                b"--version" | b"-V" => return Ok(true),
+                [b'-', _, ..] => self.option(bytes, &mut rest)?,
+                _ => self.words.push(word.clone()),
+            }
         }
-        Failure::Refused(what, refusal)
+        Ok(false)
+    }
+
+    /// Takes one option, whose value stands behind a '=' or is the next word.
+    fn option<'a>(
+        &mut self,
+        word: &[u8],
+        rest: &mut impl Iterator<Item = &'a OsString>,
+    ) -> Result<(), Failure> {
+        let mut parts = word.splitn(2, |b| *b == b'=');
+        let said: &[u8] = match parts.next().unwrap_or_default() {
+            b"-h" => b"--help",
+            b"-q" => b"--quiet",
+            other => other,
+        };
+        let joined = parts.next().map(|value| OsStr::from_bytes(value).to_owned());
+        let Some(&(name, valued, _)) = OPTIONS.iter().find(|option| option.0.as_bytes() == said)
+        else {
+            return Err(usage(format!("no option {}", shown(said))));
+        };
+        if self.given(name) {
+            return Err(usage(format!("{name} is given twice")));
+        }
+        let value = match (valued, joined) {
+            (true, Some(value)) => value,
+            (true, None) => {
+                rest.next().cloned().ok_or_else(|| usage(format!("{name}: no value")))?
+            }
+            (false, None) => OsString::new(),
+            (false, Some(_)) => return Err(usage(format!("{name} takes no value"))),
+        };
+        self.options.push((name, value));
+        Ok(())
+    }
+
+    /// Takes image and words as the command needs them.
+    fn take(&mut self, command: &Command) -> Result<(), Failure> {
+        let name = command.name;
+        self.command = name;
+        for (option, _) in &self.options {
+            let common = OPTIONS.iter().any(|o| o.0 == *option && o.2);
+            if !common && !command.options.contains(option) {
+                return Err(usage(format!("{name} takes no {option}")));
+            }
+        }
+        if self.words.is_empty() {
+            return Err(usage(format!("{name}: no image")));
+        }
+        self.image = PathBuf::from(self.words.remove(0));
+        let (least, most) = command.words;
+        if self.words.len() > most {
+            return Err(usage(format!("{name}: too many words")));
+        }
+        if self.words.len() < least {
+            let folder = command.name == "import" || command.name == "export";
+            let what = if folder { "no folder" } else { "no path" };
+            return Err(usage(format!("{name}: {what}")));
+        }
+        Ok(())
+    }
+
+    pub fn given(&self, option: &str) -> bool {
+        self.options.iter().any(|(name, _)| *name == option)
+    }
+
+    /// The value of an option.
+    pub fn value(&self, option: &str) -> Option<&OsStr> {
+        self.options.iter().find(|(name, _)| *name == option).map(|(_, value)| value.as_os_str())
+    }
+
+    /// The value of an option that is a number.
+    pub fn number(&self, option: &str) -> Result<Option<u64>, Failure> {
+        let Some(value) = self.value(option) else { return Ok(None) };
+        number(value.as_bytes())
+            .map(Some)
+            .ok_or_else(|| usage(format!("{option}: '{}' is no number", shown(value.as_bytes()))))
+    }
+
+    /// A word behind the image.
+    pub fn word(&self, place: usize) -> Option<&OsStr> {
+        self.words.get(place).map(OsString::as_os_str)
+    }
+
+    /// A word that is a path of the volume; the root where it is left out.
+    pub fn path(&self, place: usize) -> &[u8] {
+        self.word(place).map_or(b"/", OsStr::as_bytes)
+    }
+
+    /// The command as a message names it: with its image and the word that follows.
+    pub fn what(&self) -> String {
+        let mut what = format!("{} {}", self.command, self.image.display());
+        if let Some(word) = self.word(0) {
+            what = format!("{what} {}", shown(word.as_bytes()));
+        }
+        what
+    }
+
+    pub fn refused(&self, refusal: Refusal) -> Failure {
+        Failure::Refused(self.what(), refusal)
     }
 }
 
-fn usage(what: impl Into<String>) -> Failure {
+pub fn usage(what: impl Into<String>) -> Failure {
     Failure::Usage(what.into())
 }
 
-/// Areas by OFFSET:LENGTH,.. or LENGTHxCOUNT. Whether they are good is for the calls to say, but
-/// for their number: a list without bound could not be held.
-fn parse_areas(text: &str) -> Result<Vec<Area>, Failure> {
-    let areas = match text.split_once('x') {
-        Some((length, count)) => row(number(length)?, number(count)?)?,
-        None => text.split(',').map(area).collect::<Result<Vec<_>, _>>()?,
+/// A number in decimal, or in hexadecimal behind 0x; digits only.
+pub fn number(text: &[u8]) -> Option<u64> {
+    let (digits, base) = match text {
+        [b'0', b'x' | b'X', digits @ ..] => (digits, 16),
+        digits => (digits, 10),
     };
-    if areas.len() > AREAS_MOST {
-        return Err(too_many());
+    let digits = std::str::from_utf8(digits).ok()?;
+    if !digits.chars().all(|c| c.is_digit(base)) {
+        return None;
     }
-    Ok(areas)
-}
-
-fn row(length: u32, count: u32) -> Result<Vec<Area>, Failure> {
-    if count as usize > AREAS_MOST {
-        return Err(too_many());
-    }
-    (0..count)
-        .map(|i| match i.checked_mul(length) {
-            Some(offset) => Ok(Area { offset, length }),
-            None => Err(usage(format!("--areas: area {i} of {length} bytes starts past 32 bits"))),
-        })
-        .collect()
-}
-
-fn area(text: &str) -> Result<Area, Failure> {
-    let Some((offset, length)) = text.split_once(':') else {
-        return Err(usage(format!("--areas: '{text}' is neither OFFSET:LENGTH nor LENGTHxCOUNT")));
-    };
-    Ok(Area { offset: number(offset)?, length: number(length)? })
-}
-
-fn number(text: &str) -> Result<u32, Failure> {
-    let digits = !text.is_empty() && text.bytes().all(|b| b.is_ascii_digit());
-    match text.parse() {
-        Ok(number) if digits => Ok(number),
-        _ => Err(usage(format!("--areas: '{text}' is no number of 32 bits"))),
-    }
-}
-
-fn too_many() -> Failure {
-    usage(format!("--areas: more than {AREAS_MOST} areas"))
+    u64::from_str_radix(digits, base).ok()
 }

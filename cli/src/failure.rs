@@ -1,24 +1,52 @@
 //! Why a run failed: what could not be done, and where.
 
+use crate::advice;
+use crate::console::count;
 use nffs::Refusal;
 use std::fmt;
 use std::io;
+
+const NO_FIT: &str =
+    "What is live leaves too little: `nffs rm` something, or format with more areas. \
+                      The collections were made on a copy and are not kept.";
 
 pub enum Failure {
     /// The words of the command line make no command.
     Usage(String),
     /// A file could not be read or written: what was tried.
     File(String, io::Error),
+    /// A file is not what is needed: what it is, and what to do.
+    Unfit(String),
     /// The volume does not allow it: the command with its image and path.
     Refused(String, Refusal),
+    /// The same, and collecting did not help: so often it was tried.
+    NoFit(String, Refusal, u32),
+    /// Something was changed, but not all was done, or it may not last: what.
+    Partly(String),
+    /// A check found something wrong in a volume that mounts; its page has said what.
+    Unsound,
+    /// A check printed the refusal of a volume that does not mount.
+    Unmounted,
+    /// The reader of standard output has gone.
+    Closed,
 }
 
 impl Failure {
-    /// 1 where a call refused, 2 where it was not reached.
+    /// The status of a run, as the usage says it.
     pub fn status(&self) -> u8 {
         match self {
-            Failure::Refused(..) => 1,
-            Failure::Usage(_) | Failure::File(..) => 2,
+            Failure::Refused(..) | Failure::NoFit(..) | Failure::Unmounted => 1,
+            Failure::Usage(_) | Failure::File(..) | Failure::Unfit(_) | Failure::Closed => 2,
+            Failure::Unsound => 3,
+            Failure::Partly(_) => 4,
+        }
+    }
+
+    /// What is left to say, if anything.
+    pub fn message(&self) -> Option<String> {
+        match self {
+            Failure::Unsound | Failure::Unmounted | Failure::Closed => None,
+            other => Some(other.to_string()),
         }
     }
 }
@@ -28,7 +56,15 @@ impl fmt::Display for Failure {
         match self {
             Failure::Usage(what) => write!(f, "{what}; `nffs help` says how to use it"),
             Failure::File(what, why) => write!(f, "{what}: {why}"),
-            Failure::Refused(what, refusal) => write!(f, "{what}: refused with {refusal}"),
+            Failure::Unfit(what) | Failure::Partly(what) => f.write_str(what),
+            Failure::Refused(what, refusal) => {
+                write!(f, "{what}: refused with {refusal}{}", advice::lines(*refusal))
+            }
+            Failure::NoFit(what, refusal, made) => {
+                let made = count(*made as usize, "collection", "collections");
+                write!(f, "{what}: refused with {refusal}, also after {made}\n  {NO_FIT}")
+            }
+            Failure::Unsound | Failure::Unmounted | Failure::Closed => Ok(()),
         }
     }
 }

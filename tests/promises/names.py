@@ -7,7 +7,7 @@ from pathlib import Path
 
 TOP = Path(__file__).resolve().parents[2]
 CRATES = {path.name for path in (TOP / "crates").iterdir() if path.is_dir()}
-OTHERS = ["README.md", "docs/ARCHITECTURE.md", "docs/LINKING.md", "docs/DECISIONS.md", "docs/TRUST.md"]
+OTHERS = ["README.md", "docs/ARCHITECTURE.md", "docs/LINKING.md", "docs/DESK.md", "docs/DECISIONS.md", "docs/TRUST.md"]
 # where the files of a test stand, and what a name in backticks leaves out
 TESTS = {"tests/compare": ("tests/compare/tests", ".rs"), "tests/model": ("model/tests", ".rs"), "tests/bindings": ("tests/bindings", "")}
 ROOTS = "crates|tests|docs|tools|include|bindings|cli|model|examples"

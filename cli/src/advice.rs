@@ -1,0 +1,75 @@
+//! What to do about each refusal: the one table of it.
+
+use nffs::Refusal;
+
+/// Number; what to do, in the words of docs/LINKING.md (a test holds them together); what this
+/// program offers for it.
+#[rustfmt::skip]
+const TABLE: [(u32, &str, &str); 17] = [
+    (1, "Give the areas that the volume was formatted with: 1 to 8, of 128 to 65,536 bytes, inside the image, none overlapping. The image has at most 65,536 bytes.",
+        "`nffs areas IMAGE` prints the areas whose headers it sees; --at names the place of a volume in a longer file."),
+    (2, "Give the areas that the volume was formatted with. If they are these, the header of an area is damaged, by a single bit perhaps, or power was lost during a collection, for which there is no recovery call yet. Nothing can be read or written. Keep the image: the files may all be whole.",
+        "`nffs check IMAGE` shows the header of each area."),
+    (3, "Give the areas that the volume was formatted with. If they are these, the header of an area is damaged, by a single bit perhaps, or power was lost during a format or a collection, for which there is no recovery call yet. Nothing can be read or written. Keep the image: the files may all be whole. Format only what never was a volume.",
+        "`nffs check IMAGE` shows the header of each area."),
+    (4, "Give the areas that the volume was formatted with. If they are these, the header of an area is damaged. Nothing can be read or written. Keep the image: the files may all be whole.",
+        "`nffs check IMAGE` shows the header of each area."),
+    (5, "Ask for a report. While it answers 0, ids are used up: collecting gives back those of deleted files, an inode's mostly one collection later than those of its blocks, which still name it. Where it answers 5 too, the image holds more ids than the tables, every call but format answers 5, and nothing can be read, written or collected.",
+        "--collect collects until it fits."),
+    (6, "Two records have the same id and version and different bytes, so that neither can be trusted: nothing can be read or written. Keep the image.",
+        ""),
+    (7, "No record of the root is read: it or the header of its area is damaged, by a single bit perhaps, or power was lost during a format, or these are not all areas of the volume. Nothing can be read or written. Give all areas, and keep the image: the files may all be whole.",
+        "`nffs areas IMAGE` prints the areas whose headers it sees."),
+    (8, "Mend the path: \"/\", or names of 1 to 255 bytes behind single slashes, 1,024 bytes in all. At most 8,192 bytes are appended at a time. The root is neither created nor unlinked.",
+        ""),
+    (9, "Nothing is there: look at the path, name by name, or create it. Of a handle: the file was unlinked, open it again. Where something should be there, ask for a report: its record, or one above it, may be damaged.",
+        "`nffs check IMAGE` lists what is live."),
+    (10, "Two live children have this name, so that it leads to neither. Unlinking the directory above takes both away; the root cannot be unlinked.",
+        ""),
+    (11, "A file stands where a directory is needed, or the reverse: look at the path, and at the kind of what it leads to. Where that is a surprise, ask for a report: damage can bring a deleted name back.",
+        "`nffs lookup IMAGE PATH` prints the kind."),
+    (12, "Take another name, or unlink what has this one first. Where nothing should be there, ask for a report: damage can bring a deleted name back.",
+        "--replace does so for a file."),
+    (13, "Blocks of this file are lost. Other files can be read. Unlink it and store it anew.",
+        "`nffs put IMAGE PATH FILE --replace` does both."),
+    (14, "Begin the read inside the file, or just at its end. Where the file was longer, ask for a report: its last blocks may be lost.",
+        "`nffs check IMAGE` prints sizes."),
+    (15, "No room in a clean file area. Ask for a report first: a stretch may mean that an older version counts, and a collection removes the stretch. Then collect and call again; each call collects one area.",
+        "--collect collects until it fits; `nffs rm` gives a collection something to free."),
+    (16, "The inode cannot be deleted: its sequence number is at its greatest. Unlink the directory above it, or format the volume.",
+        ""),
+    (17, "No area can be collected into scratch: all file areas are shorter. Copy the files out, and format with areas of one length.",
+        "`nffs export IMAGE FOLDER` copies all files out."),
+];
+
+/// What to do, and what this program offers for it; nothing for a number that it does not know.
+pub fn of(refusal: Refusal) -> Option<(&'static str, &'static str)> {
+    TABLE.iter().find(|row| row.0 == refusal.number()).map(|row| (row.1, row.2))
+}
+
+/// The same as lines below a message.
+pub fn lines(refusal: Refusal) -> String {
+    let Some((words, here)) = of(refusal) else { return String::new() };
+    let mut lines = format!("\n  {words}");
+    if !here.is_empty() {
+        lines = format!("{lines}\n  {here}");
+    }
+    lines
+}
+
+#[cfg(test)]
+mod tests {
+    use super::TABLE;
+    use nffs::Refusal;
+
+    #[test]
+    fn each_number_is_there_once_and_in_the_words_of_the_document() {
+        let document = include_str!("../../docs/LINKING.md");
+        for (k, (number, words, _)) in TABLE.iter().enumerate() {
+            assert_eq!(*number, k as u32 + 1);
+            assert!(document.contains(&format!("\n| {number} | {words} |\n")), "{number}: {words}");
+        }
+        let next = Refusal::of(TABLE.len() as u32 + 1).unwrap();
+        assert!(next.meaning().contains("does not know"), "no advice for {next}");
+    }
+}

@@ -1,0 +1,221 @@
+//! Which areas a volume has: by a list, or found by their headers.
+//!
+//! Headers are read here to propose a list and to show what stands in them. What a list means is
+//! for the calls to say: they look at every header again.
+
+use crate::arguments::{number, usage, Arguments};
+use crate::console::say;
+use crate::failure::Failure;
+use crate::image_file::MOST;
+use nffs::Area;
+use std::ffi::OsStr;
+use std::fs::File;
+use std::io::Read;
+use std::os::unix::ffi::OsStrExt;
+use std::path::Path;
+
+/// The most areas of a good list.
+const AREAS_MOST: usize = 8;
+/// The lengths of a good area.
+const LENGTHS: std::ops::RangeInclusive<u32> = 128..=MOST as u32;
+const MAGICS: [u32; 4] = [0xb98a_31e2, 0x7fb0_428c, 0xace0_8253, 0xb185_fc8e];
+const HEADER_SIZE: usize = 24;
+/// The area id of scratch.
+const SCRATCH: u8 = 255;
+
+/// What stands in the header of an area.
+#[derive(Clone, Copy)]
+pub struct Header {
+    pub length: u32,
+    pub count: u8,
+    pub id: u8,
+}
+
+impl Header {
+    pub fn is_scratch(&self) -> bool {
+        self.id == SCRATCH
+    }
+}
+
+/// The header at a place: the four magics, version 0, and a length that fits.
+fn header_at(image: &[u8], offset: usize) -> Option<Header> {
+    let bytes = image.get(offset..)?.get(..HEADER_SIZE)?;
+    let field = |k: usize| u32::from_le_bytes([bytes[k], bytes[k + 1], bytes[k + 2], bytes[k + 3]]);
+    let magics = MAGICS.iter().enumerate().all(|(k, magic)| field(4 * k) == *magic);
+    let length = field(16);
+    let fits = LENGTHS.contains(&length) && length as usize <= image.len() - offset;
+    let good = magics && fits && bytes[20] == 0;
+    good.then(|| Header { length, count: bytes[21], id: bytes[23] })
+}
+
+/// The header of an area, where it is one of this length.
+pub fn header(image: &[u8], area: Area) -> Option<Header> {
+    header_at(image, area.offset as usize).filter(|header| header.length == area.length)
+}
+
+/// The headers that are seen besides the listed areas. Inside an area none is looked for: a file
+/// may hold anything.
+pub fn seen(image: &[u8], listed: &[Area]) -> Vec<Area> {
+    let mut found = Vec::new();
+    let mut offset = 0;
+    while offset < image.len() {
+        let Some(header) = header_at(image, offset) else {
+            offset += 1;
+            continue;
+        };
+        let area = Area { offset: offset as u32, length: header.length };
+        let mut end = area.offset + area.length;
+        if !listed.contains(&area) {
+            found.push(area);
+            // what is listed is looked at from its start
+            let next = listed.iter().map(|l| l.offset).filter(|o| *o > area.offset).min();
+            end = end.min(next.unwrap_or(end));
+        }
+        offset = end as usize;
+    }
+    found
+}
+
+/// A list of areas, and where it is from.
+pub struct Chosen {
+    pub areas: Vec<Area>,
+    /// By their headers; otherwise they were listed.
+    pub found: bool,
+    /// Headers that the list leaves out.
+    pub left_out: Vec<Area>,
+}
+
+/// The areas by `--areas`, or else by their headers; nothing is said of them.
+pub fn choose(arguments: &Arguments, image: &[u8]) -> Result<Chosen, Failure> {
+    Ok(match listed(arguments)? {
+        Some(areas) => Chosen { left_out: seen(image, &areas), areas, found: false },
+        None => Chosen { areas: seen(image, &[]), found: true, left_out: Vec::new() },
+    })
+}
+
+/// The same; which areas were found is said, and a header that was left out is warned of.
+pub fn take(arguments: &Arguments, image: &[u8]) -> Result<Vec<Area>, Failure> {
+    let chosen = choose(arguments, image)?;
+    warn(&chosen.left_out);
+    if !chosen.found {
+        return Ok(chosen.areas);
+    }
+    let many = chosen.areas.len();
+    if many == 0 {
+        return Err(none_seen(arguments));
+    }
+    if many > AREAS_MOST {
+        return Err(Failure::Unfit(format!(
+            "{} area headers are seen in {}, and a volume has at most {AREAS_MOST}: name its own \
+             with --areas",
+            many,
+            arguments.image.display()
+        )));
+    }
+    if !arguments.given("--quiet") {
+        say(&format!("areas {}, found by their headers", list(&chosen.areas)));
+    }
+    Ok(chosen.areas)
+}
+
+/// Warns of headers that a list of areas leaves out.
+pub fn warn(left_out: &[Area]) {
+    for area in left_out {
+        say(&format!(
+            "warning: an area header at {} (length {}) is not in the list: a volume that is used \
+             without one of its areas reads wrong, and writes to it go wrong",
+            area.offset, area.length
+        ));
+    }
+}
+
+pub fn none_seen(arguments: &Arguments) -> Failure {
+    Failure::Unfit(format!(
+        "no area header is seen in {}: it holds no volume, or the headers are damaged (then name \
+         the areas with --areas), or the volume lies elsewhere in it (--at)",
+        arguments.image.display()
+    ))
+}
+
+/// A list of areas in the form that `--areas` takes.
+pub fn list(areas: &[Area]) -> String {
+    let length = areas.first().map_or(0, |area| area.length);
+    let row = |(k, area): (usize, &Area)| {
+        area.length == length && u64::from(area.offset) == k as u64 * u64::from(length)
+    };
+    if areas.iter().enumerate().all(row) {
+        return format!("{length}x{}", areas.len());
+    }
+    let pairs: Vec<_> = areas.iter().map(|a| format!("{}:{}", a.offset, a.length)).collect();
+    pairs.join(",")
+}
+
+/// The areas that `--areas` lists, in its value or in a file.
+pub fn listed(arguments: &Arguments) -> Result<Option<Vec<Area>>, Failure> {
+    let Some(value) = arguments.value("--areas") else { return Ok(None) };
+    match value.as_bytes() {
+        [b'@', name @ ..] => from_file(Path::new(OsStr::from_bytes(name))).map(Some),
+        text => parse(&String::from_utf8_lossy(text)).map(Some),
+    }
+}
+
+/// A list in a file: its lines joined, without spaces and what follows a '#'.
+fn from_file(path: &Path) -> Result<Vec<Area>, Failure> {
+    let mut text = Vec::new();
+    // no list is longer than an image
+    File::open(path)
+        .and_then(|file| file.take(MOST as u64).read_to_end(&mut text))
+        .map_err(|e| Failure::File(format!("--areas: cannot read {}", path.display()), e))?;
+    let text = String::from_utf8_lossy(&text);
+    let entries: Vec<&str> = text
+        .lines()
+        .flat_map(|line| line.split('#').next().unwrap_or_default().split([',', ' ', '\t', '\r']))
+        .filter(|entry| !entry.is_empty())
+        .collect();
+    parse(&entries.join(","))
+}
+
+/// Areas by OFFSET:LENGTH,.. or LENGTHxCOUNT. Whether they are good is for the calls to say, but
+/// for their number: a list without bound could not be held.
+fn parse(text: &str) -> Result<Vec<Area>, Failure> {
+    let row_of = text.rsplit_once('x').filter(|_| !text.contains(':') && number_of(text).is_err());
+    let mut areas = match row_of {
+        Some((length, count)) => row(number_of(length)?, number_of(count)?)?,
+        None => text.split(',').map(area).collect::<Result<Vec<_>, _>>()?,
+    };
+    // there a list ends for the calls; so it does for what is shown
+    areas.truncate(areas.iter().position(|a| a.length == 0).unwrap_or(areas.len()));
+    if areas.len() > AREAS_MOST {
+        return Err(too_many());
+    }
+    Ok(areas)
+}
+
+fn row(length: u32, count: u32) -> Result<Vec<Area>, Failure> {
+    if count as usize > AREAS_MOST {
+        return Err(too_many());
+    }
+    (0..count)
+        .map(|i| match i.checked_mul(length) {
+            Some(offset) => Ok(Area { offset, length }),
+            None => Err(usage(format!("--areas: area {i} of {length} bytes starts past 32 bits"))),
+        })
+        .collect()
+}
+
+fn area(text: &str) -> Result<Area, Failure> {
+    let Some((offset, length)) = text.split_once(':') else {
+        return Err(usage(format!("--areas: '{text}' is neither OFFSET:LENGTH nor LENGTHxCOUNT")));
+    };
+    Ok(Area { offset: number_of(offset)?, length: number_of(length)? })
+}
+
+fn number_of(text: &str) -> Result<u32, Failure> {
+    number(text.as_bytes())
+        .and_then(|number| u32::try_from(number).ok())
+        .ok_or_else(|| usage(format!("--areas: '{text}' is no number of 32 bits")))
+}
+
+fn too_many() -> Failure {
+    usage(format!("--areas: more than {AREAS_MOST} areas"))
+}

@@ -1,0 +1,110 @@
+//! `check`: what there is to say of a volume.
+//!
+//! Whether it mounts, what is live, how long a file is and whether it is broken, how much is damaged:
+//! all of it is answered by the calls. Only the headers of areas, the names that are asked for and the
+//! names of orphans are read here (`areas`, `records`).
+
+use crate::areas::{choose, header, Header};
+use crate::arguments::Arguments;
+use crate::console::print;
+use crate::failure::Failure;
+use crate::image_file;
+use crate::page::{Gone, Mounted, Page, Row};
+use crate::records::{candidates, is_each_once, Candidate};
+use crate::tree::tree;
+use crate::work::Collections;
+use nffs::{Area, Refusal, Report};
+
+pub fn check(arguments: &Arguments) -> Result<(), Failure> {
+    let at = arguments.number("--at")?;
+    let image = image_file::load(&arguments.image, at)?;
+    let chosen = choose(arguments, &image)?;
+    let mounted = mounted(&image, &chosen.areas);
+    let rows = rows(&image, &chosen.areas, mounted.is_ok());
+    let page = Page {
+        image: arguments.image.display().to_string(),
+        size: image.len(),
+        at: at.unwrap_or(0),
+        chosen,
+        rows,
+        mounted,
+    };
+    let text = if arguments.given("--json") { page.json() } else { page.text() };
+    print(text.as_bytes())?;
+    match page.status() {
+        0 => Ok(()),
+        1 => Err(Failure::Unmounted),
+        _ => Err(Failure::Unsound),
+    }
+}
+
+fn mounted(image: &[u8], areas: &[Area]) -> Result<Mounted, Refusal> {
+    let report = nffs::report(image, areas)?;
+    let tree = tree(image, areas, b"/")?;
+    let unreached = report.live.saturating_sub(tree.entries.len() as u32);
+    Ok(Mounted { report, gone: gone(image, areas, &report), tree, unreached })
+}
+
+/// Which inodes that are not live were deleted, and which are orphans. No call tells them apart,
+/// but a collection drops the deleted in the end and keeps orphans for ever: so a copy is collected
+/// until nothing more goes. Two things can keep the deleted too, and then it is not known: an area
+/// shorter than scratch, which is never collected, and equal records in two areas.
+fn gone(image: &[u8], areas: &[Area], report: &Report) -> Gone {
+    if report.inodes == report.live {
+        return Gone { deleted: Some(0), orphans: Some(0), named: Vec::new() };
+    }
+    let lengths: Vec<_> =
+        areas.iter().filter_map(|a| header(image, *a)).map(|h| h.length).collect();
+    if lengths.iter().any(|length| *length != lengths[0]) {
+        return Gone::default();
+    }
+    let mut copy = image.to_vec();
+    let mut collections = Collections::of(&copy, areas);
+    while let Ok(true) = collections.step(&mut copy, areas) {}
+    match nffs::report(&copy, areas) {
+        Ok(after) if collections.is_exhausted() && is_each_once(&copy, areas) => Gone {
+            deleted: report.inodes.checked_sub(after.inodes),
+            orphans: Some(after.inodes - after.live),
+            named: orphans(&copy, areas, after.inodes - after.live),
+        },
+        _ => Gone::default(),
+    }
+}
+
+/// The candidates that are not live, if there are as many of them as orphans.
+fn orphans(image: &[u8], areas: &[Area], number: u32) -> Vec<Candidate> {
+    let is_gone = |id: u32| nffs::read_at(image, areas, id, 0, &mut []) == Err(Refusal::NOT_FOUND);
+    let named: Vec<_> = candidates(image, areas).into_iter().filter(|c| is_gone(c.id)).collect();
+    if named.len() == number as usize {
+        named
+    } else {
+        Vec::new()
+    }
+}
+
+/// The areas with their damage. A report counts it over all file areas, so that of one area is what
+/// a report of it beside scratch and the root's area counts more than one of these two alone.
+fn rows(image: &[u8], areas: &[Area], mounts: bool) -> Vec<Row> {
+    let headers: Vec<_> = areas.iter().map(|a| (*a, header(image, *a))).collect();
+    let of = |scratch: bool| {
+        headers.iter().filter_map(move |(a, h)| h.filter(|h| h.is_scratch() == scratch).map(|_| *a))
+    };
+    let pairs = of(true).flat_map(|s| of(false).map(move |f| [s, f]));
+    let least = pairs.filter(|_| mounts).find_map(|p| nffs::report(image, &p).ok().map(|r| (p, r)));
+    let damage = |area: Area, header: &Header| {
+        let (pair, alone) = least.as_ref()?;
+        let with = match (header.is_scratch(), area == pair[1]) {
+            (true, _) => return None,
+            (false, true) => return Some((alone.stretches, alone.skipped)),
+            (false, false) => nffs::report(image, &[pair[0], pair[1], area]).ok()?,
+        };
+        let more = with.stretches.checked_sub(alone.stretches);
+        more.zip(with.skipped.checked_sub(alone.skipped))
+    };
+    let row = |(area, header): &(Area, Option<Header>)| Row {
+        area: *area,
+        header: *header,
+        damage: header.as_ref().and_then(|h| damage(*area, h)),
+    };
+    headers.iter().map(row).collect()
+}

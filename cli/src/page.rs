@@ -1,0 +1,281 @@
+//! The page of `check`, for a person or as JSON; docs/DESK.md has its fields.
+
+use crate::advice;
+use crate::areas::{list, Chosen, Header};
+use crate::console::{count, shown};
+use crate::json;
+use crate::records::Candidate;
+use crate::tree::{Entry, Tree, What};
+use nffs::{Area, Refusal, Report};
+use std::fmt::Write;
+
+const DAMAGE: &str = "\
+Damage: bytes that no record holds, torn or worn. Of what stood there an older version may count,
+  or something deleted be back: compare with what you expect. Nothing is written to a damaged area;
+  `nffs collect`, until no damage is counted, clears it.";
+const BROKEN: &str = "\
+Broken: blocks of the file are lost. `nffs put IMAGE PATH FILE --replace` stores it anew, `nffs rm`
+  unlinks it.";
+const ORPHANS: &str = "\
+Orphans: the directory they were in is lost. No path leads to them, and they keep their room until
+  the volume is formatted.";
+const UNREACHED: &str = "\
+Unreached: live, but no path leads there, since two have one name or the path would be too long.
+  `nffs rm` of the directory above takes them away; the root cannot be unlinked.";
+
+/// An area, what its header says, and its damage in stretches and bytes.
+pub struct Row {
+    pub area: Area,
+    pub header: Option<Header>,
+    pub damage: Option<(u32, u32)>,
+}
+
+/// What became of the inodes that are not live.
+#[derive(Default)]
+pub struct Gone {
+    pub deleted: Option<u32>,
+    pub orphans: Option<u32>,
+    /// The orphans by name, where it is sure which they are.
+    pub named: Vec<Candidate>,
+}
+
+/// A volume that mounts.
+pub struct Mounted {
+    pub report: Report,
+    pub gone: Gone,
+    pub tree: Tree,
+    /// Live inodes to which no path leads.
+    pub unreached: u32,
+}
+
+pub struct Page {
+    pub image: String,
+    pub size: usize,
+    pub at: u64,
+    pub chosen: Chosen,
+    pub rows: Vec<Row>,
+    pub mounted: Result<Mounted, Refusal>,
+}
+
+impl Page {
+    /// 0 nothing wrong, 1 it does not mount, 3 something is wrong in it.
+    pub fn status(&self) -> u8 {
+        match &self.mounted {
+            Err(_) => 1,
+            Ok(_) if !self.chosen.left_out.is_empty() => 3,
+            Ok(volume) if volume.wrong().is_empty() => 0,
+            Ok(_) => 3,
+        }
+    }
+
+    pub fn text(&self) -> String {
+        let mut page = format!("{}: {} bytes", self.image, self.size);
+        if self.at > 0 {
+            let _ = write!(page, " from {} on", self.at);
+        }
+        page += &match &self.mounted {
+            Ok(_) if self.status() == 0 => ", mounts, and nothing is wrong\n".to_string(),
+            Ok(_) => ", mounts, and something is wrong\n".to_string(),
+            Err(refusal) => {
+                format!(", does not mount: {refusal}{}\n", advice::lines(*refusal))
+            }
+        };
+        page += &self.areas_text();
+        if let Ok(volume) = &self.mounted {
+            page += &volume.text();
+        }
+        page
+    }
+
+    fn areas_text(&self) -> String {
+        let from = match (self.chosen.found, self.chosen.areas.is_empty()) {
+            (true, true) => "areas: no header is seen\n".to_string(),
+            (true, false) => format!("areas: {}, found\n", list(&self.chosen.areas)),
+            (false, _) => format!("areas: {}, as listed\n", list(&self.chosen.areas)),
+        };
+        let rows: String = self.rows.iter().map(|row| format!("  {}\n", row.text())).collect();
+        let left_out = self.chosen.left_out.iter().map(|area| {
+            format!("  {:>5}+{:<5} a header that the list leaves out\n", area.offset, area.length)
+        });
+        from + &rows + &left_out.collect::<String>()
+    }
+
+    pub fn json(&self) -> String {
+        let refusal = match &self.mounted {
+            Ok(_) => "null".to_string(),
+            Err(refusal) => json::object(&[
+                ("number", refusal.number().to_string()),
+                ("meaning", json::text(refusal.meaning())),
+                ("advice", json::text(advice::of(*refusal).map_or("", |(words, _)| words))),
+            ]),
+        };
+        let mut fields = vec![
+            ("image", json::text(&self.image)),
+            ("at", self.at.to_string()),
+            ("size", self.size.to_string()),
+            ("status", self.status().to_string()),
+            ("refusal", refusal),
+            ("found", self.chosen.found.to_string()),
+            ("areas", json::list(self.rows.iter().map(Row::json))),
+            ("left_out", json::list(self.chosen.left_out.iter().map(|a| json::object(&place(*a))))),
+        ];
+        if let Ok(volume) = &self.mounted {
+            fields.extend(volume.json());
+        }
+        let lines: Vec<_> =
+            fields.iter().map(|(name, value)| format!("\n  \"{name}\": {value}")).collect();
+        format!("{{{}\n}}\n", lines.join(","))
+    }
+}
+
+fn place(area: Area) -> [(&'static str, String); 2] {
+    [("offset", area.offset.to_string()), ("length", area.length.to_string())]
+}
+
+impl Row {
+    fn kind(&self) -> &'static str {
+        match self.header {
+            None => "none",
+            Some(header) if header.is_scratch() => "scratch",
+            Some(_) => "file",
+        }
+    }
+
+    fn text(&self) -> String {
+        let mut text = format!("{:>5}+{:<5} ", self.area.offset, self.area.length);
+        text += &match self.header {
+            Some(header) if header.is_scratch() => format!("scratch, count {}", header.count),
+            Some(header) => format!("file area {}, count {}", header.id, header.count),
+            None => "no header of this length: passed over".to_string(),
+        };
+        match self.damage {
+            None => {}
+            Some((0, _)) => text += ", clean",
+            Some((stretches, bytes)) => text += &format!(", damaged: {}", damage(stretches, bytes)),
+        }
+        text
+    }
+
+    fn json(&self) -> String {
+        let [offset, length] = place(self.area);
+        json::object(&[
+            offset,
+            length,
+            ("kind", json::text(self.kind())),
+            ("id", json::number(self.header.map(|h| h.id))),
+            ("count", json::number(self.header.map(|h| h.count))),
+            ("stretches", json::number(self.damage.map(|d| d.0))),
+            ("skipped", json::number(self.damage.map(|d| d.1))),
+        ])
+    }
+}
+
+fn damage(stretches: u32, bytes: u32) -> String {
+    let stretches = count(stretches as usize, "stretch", "stretches");
+    format!("{stretches}, {}", count(bytes as usize, "byte", "bytes"))
+}
+
+impl Mounted {
+    /// What is wrong, and what to do about it.
+    fn wrong(&self) -> Vec<&'static str> {
+        let broken = self.tree.entries.iter().any(|e| matches!(e.what, What::Broken));
+        let found = [
+            (self.report.stretches > 0, DAMAGE),
+            (broken, BROKEN),
+            (self.gone.orphans.is_some_and(|n| n > 0), ORPHANS),
+            (self.unreached > 0, UNREACHED),
+        ];
+        found.into_iter().filter(|(is, _)| *is).map(|(_, words)| words).collect()
+    }
+
+    fn text(&self) -> String {
+        let r = &self.report;
+        let mut text = format!("inodes: {}, of which {} live", r.inodes, r.live);
+        match (self.gone.deleted, self.gone.orphans) {
+            (Some(deleted), Some(orphans)) => {
+                let _ = write!(
+                    text,
+                    ", {deleted} deleted, {}",
+                    count(orphans as usize, "orphan", "orphans")
+                );
+            }
+            _ => {
+                let _ = write!(text, ", {} deleted or orphans", r.inodes - r.live);
+            }
+        }
+        let _ = write!(text, "\ndamage: {}\n", damage(r.stretches, r.skipped));
+        for entry in &self.tree.entries {
+            let _ = writeln!(text, "  {}", entry.text());
+        }
+        for path in &self.tree.ambiguous {
+            let _ = writeln!(text, "  {:>9}  {}", "ambiguous", shown(path));
+        }
+        for orphan in &self.gone.named {
+            let name = shown(&orphan.name);
+            let _ = writeln!(
+                text,
+                "  {:>9}  {name} (was in directory {:08x})",
+                "orphan", orphan.parent
+            );
+        }
+        for words in self.wrong() {
+            let _ = writeln!(text, "{words}");
+        }
+        text
+    }
+
+    fn json(&self) -> Vec<(&'static str, String)> {
+        let r = &self.report;
+        let paths = self.tree.ambiguous.iter().map(|path| json::object(&path_fields("path", path)));
+        let orphan = |c: &Candidate| {
+            let [name, bytes] = path_fields("name", &c.name);
+            json::object(&[name, bytes, ("id", c.id.to_string()), ("parent", c.parent.to_string())])
+        };
+        vec![
+            ("inodes", r.inodes.to_string()),
+            ("live", r.live.to_string()),
+            ("deleted", json::number(self.gone.deleted)),
+            ("orphans", json::number(self.gone.orphans)),
+            ("stretches", r.stretches.to_string()),
+            ("skipped", r.skipped.to_string()),
+            ("entries", json::list(self.tree.entries.iter().map(Entry::json))),
+            ("ambiguous", json::list(paths)),
+            ("unreached", self.unreached.to_string()),
+            ("orphaned", json::list(self.gone.named.iter().map(orphan))),
+        ]
+    }
+}
+
+/// Bytes as text, if they are any, and by number.
+fn path_fields(name: &'static str, bytes: &[u8]) -> [(&'static str, String); 2] {
+    let text = std::str::from_utf8(bytes).map_or("null".into(), json::text);
+    let by_number = if name == "path" { "path_hex" } else { "name_hex" };
+    [(name, text), (by_number, json::hex(bytes))]
+}
+
+impl Entry {
+    fn text(&self) -> String {
+        let what = match &self.what {
+            What::Directory => "directory".to_string(),
+            What::File(bytes) => bytes.len().to_string(),
+            What::Broken => "broken".to_string(),
+        };
+        format!("{what:>9}  {}", shown(&self.path))
+    }
+
+    fn json(&self) -> String {
+        let (kind, size) = match &self.what {
+            What::Directory => ("directory", None),
+            What::File(bytes) => ("file", Some(bytes.len())),
+            What::Broken => ("broken", None),
+        };
+        let [path, bytes] = path_fields("path", &self.path);
+        json::object(&[
+            path,
+            bytes,
+            ("id", self.id.to_string()),
+            ("kind", json::text(kind)),
+            ("size", json::number(size)),
+        ])
+    }
+}

@@ -1,0 +1,121 @@
+//! What is live in a volume, as the calls confirm it.
+
+use crate::image_file::MOST;
+use crate::records::{candidates, Candidate};
+use nffs::{Area, Kind, Refusal};
+use std::collections::BTreeSet;
+
+pub enum What {
+    Directory,
+    /// Its contents.
+    File(Vec<u8>),
+    Broken,
+}
+
+pub struct Entry {
+    pub path: Vec<u8>,
+    pub id: u32,
+    pub what: What,
+}
+
+/// The live inodes below a directory, each directory before what lies in it.
+#[derive(Default)]
+pub struct Tree {
+    pub entries: Vec<Entry>,
+    /// Paths that lead to two or more live inodes, and so to none.
+    pub ambiguous: BTreeSet<Vec<u8>>,
+}
+
+/// What lies at a path and below it. Names are proposed by `records`; an entry is one whose path
+/// leads to its id by a lookup, and whose kind and contents a read of that id answers.
+pub fn tree(image: &[u8], areas: &[Area], path: &[u8]) -> Result<Tree, Refusal> {
+    let found = nffs::lookup(image, areas, b"", path)?;
+    let proposed = candidates(image, areas);
+    let mut tree = Tree::default();
+    // what is still to be looked at, the next one last
+    let mut open = vec![(path.to_vec(), found.id)];
+    while let Some((path, id)) = open.pop() {
+        let Some(what) = what_is(image, areas, id)? else { continue };
+        if matches!(what, What::Directory) {
+            let children = proposed.iter().filter(|c| c.parent == id);
+            let mut live = tree.children(image, areas, &path, children)?;
+            live.reverse();
+            open.extend(live);
+        }
+        tree.entries.push(Entry { path, id, what });
+    }
+    Ok(tree)
+}
+
+impl Tree {
+    /// The children of a directory that a lookup confirms, by path and id.
+    fn children<'a>(
+        &mut self,
+        image: &[u8],
+        areas: &[Area],
+        directory: &[u8],
+        proposed: impl Iterator<Item = &'a Candidate>,
+    ) -> Result<Vec<(Vec<u8>, u32)>, Refusal> {
+        let mut confirmed = Vec::new();
+        for candidate in proposed {
+            let path = below(directory, &candidate.name);
+            match nffs::lookup(image, areas, b"", &path) {
+                Ok(found) if found.id == candidate.id => confirmed.push((path, found.id)),
+                Err(Refusal::AMBIGUOUS) => {
+                    self.ambiguous.insert(path);
+                }
+                // an old or damaged name, or a path too long for any call
+                Ok(_) | Err(Refusal::NOT_FOUND | Refusal::BAD_PATH) => {}
+                Err(refusal) => return Err(refusal),
+            }
+        }
+        Ok(confirmed)
+    }
+}
+
+/// What a live id is, by a read of it; none where it is not live.
+fn what_is(image: &[u8], areas: &[Area], id: u32) -> Result<Option<What>, Refusal> {
+    match contents(image, areas, id, 0, MOST) {
+        Ok(bytes) => Ok(Some(What::File(bytes))),
+        Err(Refusal::WRONG_KIND) => Ok(Some(What::Directory)),
+        Err(Refusal::BROKEN) => Ok(Some(What::Broken)),
+        Err(Refusal::NOT_FOUND) => Ok(None),
+        Err(refusal) => Err(refusal),
+    }
+}
+
+/// Bytes of a file from a position on. A buffer for what an image can hold gets all there is.
+pub fn contents(
+    image: &[u8],
+    areas: &[Area],
+    id: u32,
+    from: u32,
+    length: usize,
+) -> Result<Vec<u8>, Refusal> {
+    let mut contents = vec![0; length.min(MOST)];
+    let given = nffs::read_at(image, areas, id, from, &mut contents)?;
+    contents.truncate(given.bytes);
+    Ok(contents)
+}
+
+/// A name below a directory.
+pub fn below(directory: &[u8], name: &[u8]) -> Vec<u8> {
+    let parent = if directory == b"/" { b"" } else { directory };
+    [parent, b"/", name].concat()
+}
+
+/// A path and those above it, from above; without the root, which is always there.
+pub fn prefixes(path: &[u8]) -> impl Iterator<Item = &[u8]> {
+    let ends = (1..path.len()).filter(|k| path[*k] == b'/').chain([path.len()]);
+    ends.map(|end| &path[..end])
+}
+
+/// Whether a directory is there; a file in its place is refused.
+pub fn is_directory(image: &[u8], areas: &[Area], path: &[u8]) -> Result<bool, Refusal> {
+    match nffs::lookup(image, areas, b"", path) {
+        Ok(found) if found.kind == Kind::Directory => Ok(true),
+        Ok(_) => Err(Refusal::WRONG_KIND),
+        Err(Refusal::NOT_FOUND) => Ok(false),
+        Err(refusal) => Err(refusal),
+    }
+}

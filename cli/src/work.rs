@@ -1,0 +1,181 @@
+//! Changes of a volume, made on a copy of its image: the file is replaced when all are done.
+
+use crate::areas::header;
+use crate::arguments::Arguments;
+use crate::console::{count, Progress};
+use crate::failure::Failure;
+use nffs::{Area, Kind, Refusal};
+
+/// No volume is collected oftener for one call: so often each area's count has gone round.
+const COLLECTIONS_MOST: u32 = 4096;
+
+/// Collections of one volume, as long as they can give something. They give nothing more once
+/// every area has been collected since records went the last time.
+pub struct Collections {
+    pub made: u32,
+    used: usize,
+    sources: Vec<u32>,
+}
+
+impl Collections {
+    pub fn of(image: &[u8], areas: &[Area]) -> Collections {
+        Collections { made: 0, used: used(image, areas), sources: Vec::new() }
+    }
+
+    /// Collects once more; false where nothing is to be gained.
+    pub fn step(&mut self, image: &mut [u8], areas: &[Area]) -> Result<bool, Refusal> {
+        if self.made >= COLLECTIONS_MOST || self.is_round_done(image, areas) {
+            return Ok(false);
+        }
+        nffs::collect(image, areas)?;
+        self.made += 1;
+        let used = used(image, areas);
+        if used < self.used {
+            self.used = used;
+            self.sources.clear();
+        }
+        // what was collected is scratch now
+        self.sources.extend(scratch(image, areas).map(|area| area.offset));
+        Ok(true)
+    }
+
+    /// Whether it ended because nothing was left to gain, and not for their number.
+    pub fn is_exhausted(&self) -> bool {
+        self.made < COLLECTIONS_MOST
+    }
+
+    fn is_round_done(&self, image: &[u8], areas: &[Area]) -> bool {
+        let Some(scratch) = scratch(image, areas) else { return false };
+        let mut long = areas.iter().filter(|a| a.length == scratch.length);
+        long.all(|a| header(image, *a).is_none() || self.sources.contains(&a.offset))
+    }
+}
+
+fn scratch(image: &[u8], areas: &[Area]) -> Option<Area> {
+    areas.iter().copied().find(|a| header(image, *a).is_some_and(|h| h.is_scratch()))
+}
+
+/// The bytes up to the last that is not blank, of all areas: less of them after a collection means
+/// that records or damage went.
+fn used(image: &[u8], areas: &[Area]) -> usize {
+    let used_of = |area: &Area| {
+        let end = area.offset as usize + area.length as usize;
+        let bytes = image.get(area.offset as usize..end).unwrap_or_default();
+        bytes.iter().rposition(|b| *b != 0xff).map_or(0, |last| last + 1)
+    };
+    areas.iter().map(used_of).sum()
+}
+
+/// What collecting was good for where calls were refused.
+enum Collecting {
+    NotTried,
+    /// It was refused itself.
+    Refused,
+    /// So often, and it gave too little.
+    InVain(u32),
+}
+
+/// An image that is being changed.
+pub struct Work<'a> {
+    pub image: Vec<u8>,
+    pub areas: &'a [Area],
+    collect: bool,
+    progress: Progress,
+    last: Collecting,
+    collected: u32,
+}
+
+impl<'a> Work<'a> {
+    pub fn new(arguments: &Arguments, image: &[u8], areas: &'a [Area]) -> Work<'a> {
+        Work {
+            image: image.to_vec(),
+            areas,
+            collect: arguments.given("--collect"),
+            progress: Progress::new(arguments.given("--quiet")),
+            last: Collecting::NotTried,
+            collected: 0,
+        }
+    }
+
+    pub fn show(&self, text: &str) {
+        self.progress.show(text);
+    }
+
+    /// Makes calls, all or none. With --collect the volume is collected first, as often as it needs,
+    /// where they are refused for want of room or ids; it stays as it was where that does not help.
+    pub fn make(
+        &mut self,
+        calls: impl Fn(&mut [u8], &[Area]) -> Result<(), Refusal>,
+    ) -> Result<(), Refusal> {
+        self.last = Collecting::NotTried;
+        let mut base = self.image.clone();
+        let mut collections = Collections::of(&base, self.areas);
+        loop {
+            let mut next = base.clone();
+            let Err(refusal) = calls(&mut next, self.areas) else {
+                self.image = next;
+                self.collected += collections.made;
+                return Ok(());
+            };
+            let mendable = matches!(refusal, Refusal::NO_ROOM | Refusal::TOO_MANY_IDS);
+            if !self.collect || !mendable {
+                return Err(refusal);
+            }
+            self.progress.show(&format!("no room: {} collections", collections.made));
+            self.last = Collecting::Refused;
+            if !collections.step(&mut base, self.areas)? {
+                self.last = Collecting::InVain(collections.made);
+                return Err(refusal);
+            }
+        }
+    }
+
+    /// The new image, and in words how often it was collected for it, if it was.
+    pub fn done(self) -> (Vec<u8>, String) {
+        let made = match self.collected {
+            0 => String::new(),
+            n => format!(", after {}", count(n as usize, "collection", "collections")),
+        };
+        (self.image, made)
+    }
+
+    /// The failure of what was refused last; a refusal of the collection is told as such.
+    pub fn refused(&self, what: String, refusal: Refusal) -> Failure {
+        match self.last {
+            Collecting::NotTried => Failure::Refused(what, refusal),
+            Collecting::Refused => {
+                Failure::Refused(format!("{what}: no room, and a collection is"), refusal)
+            }
+            Collecting::InVain(made) => Failure::NoFit(what, refusal, made),
+        }
+    }
+
+    /// Stores a new file.
+    pub fn store(&mut self, path: &[u8], data: &[u8]) -> Result<(), Refusal> {
+        self.make(|image, areas| {
+            nffs::create(image, areas, b"", path, Kind::File)?;
+            append(image, areas, path, data)
+        })
+    }
+
+    /// Unlinks a file where there is one. A directory is refused, as open refuses it: it would go
+    /// with all that lies below it.
+    pub fn remove_file(&mut self, path: &[u8]) -> Result<(), Refusal> {
+        match nffs::open(&self.image, self.areas, b"", path) {
+            Ok(_) => self.make(|image, areas| nffs::unlink(image, areas, b"", path)),
+            Err(Refusal::NOT_FOUND) => Ok(()),
+            Err(refusal) => Err(refusal),
+        }
+    }
+}
+
+/// Appends data of any length, by as many calls as it takes; one at least, so that a path is asked
+/// for where there is no data.
+pub fn append(image: &mut [u8], areas: &[Area], path: &[u8], data: &[u8]) -> Result<(), Refusal> {
+    let (first, rest) = data.split_at(data.len().min(nffs::APPEND_MOST));
+    nffs::append(image, areas, b"", path, first)?;
+    for piece in rest.chunks(nffs::APPEND_MOST) {
+        nffs::append(image, areas, b"", path, piece)?;
+    }
+    Ok(())
+}

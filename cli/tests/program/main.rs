@@ -1,0 +1,11 @@
+//! The program, run on images in folders of their own.
+
+mod areas;
+mod check;
+mod commands;
+mod desk;
+mod files;
+mod folder;
+mod folders;
+mod records;
+mod refusals;

@@ -1,0 +1,41 @@
+//! Records written by hand, for volumes that no call would make.
+
+pub const NONE: u32 = 0xffff_ffff;
+
+/// CRC-16/XMODEM.
+fn check(bytes: &[u8]) -> u16 {
+    bytes.iter().fold(0, |crc, byte| {
+        (0..8).fold(crc ^ (u16::from(*byte) << 8), |crc, _| {
+            if crc & 0x8000 == 0 {
+                crc << 1
+            } else {
+                (crc << 1) ^ 0x1021
+            }
+        })
+    })
+}
+
+pub fn inode(id: u32, sequence: u32, parent: u32, name: &[u8]) -> Vec<u8> {
+    let fields = [0x925f_8bc0, id, sequence, parent];
+    let mut front: Vec<u8> = fields.iter().flat_map(|field: &u32| field.to_le_bytes()).collect();
+    front.extend([0, name.len() as u8]);
+    let check = check(&[&front, name].concat());
+    [&front, &check.to_le_bytes()[..], name].concat()
+}
+
+/// An image of two areas of 4,096 bytes, scratch first, whose file area holds the root and then
+/// these records.
+pub fn image(records: &[Vec<u8>]) -> Vec<u8> {
+    let mut image = [header(255, 4096), vec![0xff; 4072], header(0, 4096)].concat();
+    image.extend(inode(0, 0, NONE, b""));
+    image.extend(records.concat());
+    image.resize(8192, 0xff);
+    image
+}
+
+pub fn header(id: u8, length: u32) -> Vec<u8> {
+    let magics = [0xb98a_31e2, 0x7fb0_428c, 0xace0_8253, 0xb185_fc8e, length];
+    let mut header: Vec<u8> = magics.iter().flat_map(|field: &u32| field.to_le_bytes()).collect();
+    header.extend([0, 0, 0, id]);
+    header
+}

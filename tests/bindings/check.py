@@ -1,0 +1,187 @@
+"""`nffs check --json` on volumes made by chance, beside document 01's rules on records, fates and damage, read a second time.
+
+    check.py PROGRAM [COUNT]
+
+What is live, deleted or an orphan, where it stands, and how much is damaged in which area. Volumes hold several versions, missing and looping
+parents, equal records in two areas, damaged bits and areas shorter than scratch. A volume is one check. Ends with the count.
+"""
+
+import binascii
+import json
+import random
+import struct
+import subprocess
+import sys
+import tempfile
+from pathlib import Path
+
+NONE = 0xFFFFFFFF
+INODE, BLOCK = 0x925F8BC0, 0x53BA23B9
+MAGICS = [struct.pack("<I", INODE), struct.pack("<I", BLOCK)]
+DIRECTORIES = list(range(1, 6))
+FILES = [0x10000000 + i for i in range(5)]
+BLOCKS = [0x80000000 + i for i in range(8)]
+
+
+def check(data):
+    return binascii.crc_hqx(data, 0)
+
+
+def inode(ident, sequence, parent, name):
+    front = struct.pack("<IIIIBB", INODE, ident, sequence, parent, 0, len(name))
+    return front + struct.pack("<H", check(front + name)) + name
+
+
+def block(ident, sequence, owner, previous, data):
+    front = struct.pack("<IIIIIH", BLOCK, ident, sequence, owner, previous, len(data))
+    return front + struct.pack("<H", check(front + data)) + data
+
+
+def header(ident, count, length):
+    return struct.pack("<IIIII", 0xB98A31E2, 0x7FB0428C, 0xACE08253, 0xB185FC8E, length) + bytes([0, count, 0, ident])
+
+
+def record(chance):
+    """A record by chance, with its id and sequence."""
+    if chance.random() < 0.65:
+        ident, sequence = chance.choice(DIRECTORIES + FILES), chance.randint(0, 3)
+        if chance.random() < 0.25:
+            return (ident, sequence), inode(ident, sequence, NONE, b"")
+        return (ident, sequence), inode(ident, sequence, chance.choice([0, 0] + DIRECTORIES), chance.choice([b"a", b"b", b"cc", b"d\n", b"\xff"]))
+    ident, sequence = chance.choice(BLOCKS), chance.randint(0, 2)
+    previous = chance.choice([NONE, NONE] + [other for other in BLOCKS if other != ident])
+    return (ident, sequence), block(ident, sequence, chance.choice(FILES), previous, chance.randbytes(chance.randint(1, 30)))
+
+
+def volume(chance):
+    """The bytes of each area, scratch somewhere among them."""
+    count, length = chance.choice([2, 3, 4, 5]), chance.choice([1024, 2048, 4096])
+    kept = [[] for _ in range(count - 1)]
+    chance.choice(kept).append(inode(0, 0, NONE, b""))
+    known = set()
+    twice = chance.random() < 0.2 and count > 2
+    for _ in range(chance.randint(0, 18)):
+        name, made = record(chance)
+        if name not in known:
+            known.add(name)
+            for area in chance.sample(kept, 2 if twice and chance.random() < 0.2 else 1):
+                area.append(made)
+    lengths = [length] * count
+    if chance.random() < 0.1:
+        lengths[-1] = 512
+    scratch = chance.randrange(count - 1)
+    areas = []
+    for i, length in enumerate(lengths):
+        ident = 255 if i == scratch else i
+        area = header(ident, chance.choice([0, 0, 0, 1, 2, 200, 255]), length)
+        for made in [] if i == scratch else kept[i - (i > scratch)]:
+            area += made if len(area) + len(made) <= length else b""
+        area = bytearray(area.ljust(length, b"\xff"))
+        if i != scratch and chance.random() < 0.25:
+            area[chance.randrange(24, min(300, length))] ^= 1 << chance.randrange(8)
+        areas.append(bytes(area))
+    return areas
+
+
+def acceptable(data):
+    """The record at the front: its size, whether it is an inode, and its fields."""
+    if len(data) >= 20 and data[:4] == MAGICS[0]:
+        _, ident, sequence, parent, _, size, right = struct.unpack("<IIIIBBH", data[:20])
+        name = data[20:20 + size]
+        named = size > 0 and parent <= 0x0FFFFFFF
+        rule = parent == NONE and size == 0 if ident == 0 else named or parent == NONE
+        good = len(name) == size and ident <= 0x7FFFFFFF and not set(b"/\0") & set(name) and rule
+        return (20 + size, True, ident, sequence, parent, name) if good and check(data[:18] + name) == right else None
+    if len(data) >= 24 and data[:4] == MAGICS[1]:
+        _, ident, sequence, owner, previous, size, right = struct.unpack("<IIIIIHH", data[:24])
+        body = data[24:24 + size]
+        linked = previous == NONE or previous >= 0x80000000 and previous != ident
+        good = len(body) == size and 1 <= size <= 2048 and 0x80000000 <= ident < NONE and 0x10000000 <= owner <= 0x7FFFFFFF and linked
+        return (24 + size, False, ident, sequence, owner, previous) if good and check(data[:22] + body) == right else None
+    return None
+
+
+def read(area):
+    """The records of an area; the number of its stretches and of their bytes."""
+    records, skipped, at = [], [], 24
+    while at < len(area):
+        found = acceptable(area[at:]) if area[at:at + 4] in MAGICS else None
+        if found:
+            records.append(found)
+            at += found[0]
+        else:
+            if not skipped or skipped[-1][1] != at:
+                skipped.append([at, at])
+            skipped[-1][1] = at = at + 1
+    if skipped and skipped[-1][1] == len(area):
+        skipped[-1][1] = max(skipped[-1][0], len(area.rstrip(b"\xff")))
+    return records, [end - start for start, end in skipped if end > start]
+
+
+def fates(records):
+    """Of each inode id: live, deleted or orphan."""
+    counting = {}
+    for one in records:
+        if one[1] and (one[2] not in counting or counting[one[2]][3] < one[3]):
+            counting[one[2]] = one
+    said = {}
+    for ident in counting:
+        at, seen = ident, set()
+        while at in counting and at not in seen and at != 0 and counting[at][4] != NONE:
+            seen.add(at)
+            at = counting[at][4]
+        said[ident] = "live" if at == 0 and 0 in counting else "deleted" if at in counting and at not in seen else "orphan"
+    return said
+
+
+def wrong(page, areas):
+    """What the page says otherwise than the rules, or nothing."""
+    readings = [read(area) if area[23] != 255 else ([], None) for area in areas]
+    said = fates([one for records, _ in readings for one in records])
+    of = {fate: sorted(i for i in said if said[i] == fate) for fate in ("live", "deleted", "orphan")}
+    entries = sorted(entry["id"] for entry in page["entries"])
+    told = page["orphans"] is not None
+    checks = {
+        "inodes": page["inodes"] == len(said) and page["live"] == len(of["live"]),
+        "deleted": not told or page["deleted"] == len(of["deleted"]),
+        "orphans": not told or page["orphans"] == len(of["orphan"]),
+        "orphaned": not page["orphaned"] or sorted(one["id"] for one in page["orphaned"]) == of["orphan"],
+        "entries": len(set(entries)) == len(entries) and set(entries) <= set(of["live"]),
+        "all entries": page["ambiguous"] or entries == of["live"],
+        "unreached": page["unreached"] == len(of["live"]) - len(entries),
+        "damage": all(row["stretches"] == (None if damage is None else len(damage)) and row["skipped"] == (None if damage is None else sum(damage))
+                      for row, (_, damage) in zip(page["areas"], readings)),
+    }
+    return [name for name, holds in checks.items() if not holds]
+
+
+def main(program, count):
+    chance = random.Random(27)
+    passed = failed = told = orphans = ambiguous = 0
+    with tempfile.TemporaryDirectory() as folder:
+        image = Path(folder) / "image"
+        for k in range(count):
+            areas = volume(chance)
+            image.write_bytes(b"".join(areas))
+            done = subprocess.run([program, "check", image, "--json"], capture_output=True, timeout=60)
+            page = json.loads(done.stdout)
+            if page["refusal"]:
+                # the root's record may be the one that was damaged
+                faults = [] if page["refusal"]["number"] == 7 and 0 not in fates([r for a in areas if a[23] != 255 for r in read(a)[0]]) else ["refusal"]
+            else:
+                faults = wrong(page, areas)
+                told += page["orphans"] is not None
+                orphans += bool(page["orphans"])
+                ambiguous += bool(page["ambiguous"])
+            if faults:
+                print(f"FAILED: volume {k}: {', '.join(faults)}\n{done.stdout.decode()}")
+            passed, failed = passed + (not faults), failed + bool(faults)
+    print(f"of {count} volumes {told} told apart, {orphans} with orphans, {ambiguous} with ambiguous paths")
+    # none of these would be a check of nothing
+    failed += min(told, orphans, ambiguous) < count // 20
+    print(f"{passed} passed, {failed} failed")
+    sys.exit(failed > 0)
+
+
+if __name__ == "__main__":
+    main(sys.argv[1], int(sys.argv[2]) if len(sys.argv) > 2 else 300)
