@@ -336,7 +336,8 @@ pub fn unlink(image: &mut [u8], areas: &[Area], base: &[u8], path: &[u8]) -> Res
 }
 
 /// Copies what counts in one file area into scratch and erases that area, which becomes scratch:
-/// superseded and deleted records leave room, and damage goes. One call collects one area.
+/// superseded records leave room, deleted ones as soon as nothing else names them, and the damage
+/// of that area goes. One call collects one area.
 ///
 /// Checks in order: 1 to 7, 17.
 ///

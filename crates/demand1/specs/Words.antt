@@ -136,7 +136,7 @@ pub record AcceptedCalls (image : Bytes) (ds : List Descriptor) : Type 0 where
       → (scratch source : Descriptor) × (scratchAreas image ds ≡ scratch ∷ []) × (sourceOf image (fileAreas image ds) scratch ≡ some source)
       × ChangedOnly (λ i. InArea scratch i ⊎ InArea source i) image (imageCollected image ds)
 
--- Demand 1, of any image and any area list
+-- Demand 1, of any image and any area list, one that the end mark has cut (`listed`)
 pub record Demand1 (image : Bytes) (ds : List Descriptor) : Type 0 where
   pub numbers : Numbers image ds
   pub exactly : Exactly image ds
