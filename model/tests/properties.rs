@@ -5,7 +5,6 @@ use std::collections::BTreeMap;
 use nffs_model::area::Taken;
 use nffs_model::compare::{Answer, Call, Model, Side};
 use nffs_model::damage::{answers_stay, overwrite, spared, Touched};
-use nffs_model::fault::Fault;
 use nffs_model::file::contents;
 use nffs_model::generate::{self, Random};
 use nffs_model::layout::{is_file, Inode};
@@ -18,7 +17,7 @@ const CASES: u64 = if cfg!(debug_assertions) { 500 } else { 3000 };
 type View = BTreeMap<u32, (Inode, Option<Vec<u8>>)>;
 
 fn view(side: &Side) -> Option<View> {
-    let fs = mount(&side.image, &side.areas, Fault::None).ok()?;
+    let fs = mount(&side.image, &side.areas).ok()?;
     Some(view_of(&fs))
 }
 
@@ -148,7 +147,7 @@ fn damage_leaves_the_untouched_alone() {
         case.calls.iter().for_each(|call| {
             side.perform(&Model::default(), call);
         });
-        let Ok(before) = mount(&side.image, &side.areas, Fault::None) else { continue };
+        let Ok(before) = mount(&side.image, &side.areas) else { continue };
         if !before.file_areas.iter().all(|area| area.reading.is_clean()) {
             continue;
         }
@@ -167,7 +166,7 @@ fn damage_leaves_the_untouched_alone() {
 /// old places."
 fn areas_read_as_untouched(before: &FileSystem, image: &[u8], touched: &Touched) {
     for (i, area) in before.file_areas.iter().enumerate() {
-        let now = nffs_model::area::read(&image[area.at.clone()], Fault::None).records;
+        let now = nffs_model::area::read(&image[area.at.clone()]).records;
         let untouched = |taken: &&Taken| !touched.contains(&(i, (*taken).clone()));
         let kept: Vec<Taken> = area.reading.records.iter().filter(untouched).cloned().collect();
         assert_eq!(now, kept);
@@ -181,7 +180,7 @@ fn files_stay(before: &Side, old: &FileSystem, after: &Side, touched: &Touched) 
     if spared.is_empty() {
         return 0;
     }
-    let new = mount(&after.image, &after.areas, Fault::None).expect("the root wasn't touched");
+    let new = mount(&after.image, &after.areas).expect("the root wasn't touched");
     for id in &spared {
         assert_eq!(view_of(old).get(id), view_of(&new).get(id));
         answers_stay(&Model::default(), (before, old), (after, &new), *id);

@@ -5,7 +5,6 @@ use super::paths::{name, spell};
 use super::random::Random;
 use super::{FILES, NAMES, SEQUENCES};
 use crate::compare::{Call, Case, Model, Side};
-use crate::fault::Fault;
 use crate::layout::{is_file, Block, Inode, Record, FIRST_BLOCK, FIRST_FILE, NONE, ROOT};
 use crate::mount::{mount, Fate, FileSystem};
 
@@ -26,13 +25,13 @@ impl Maker {
     pub fn new(r: Random, image: Vec<u8>, areas: Vec<u32>) -> Maker {
         let case = Case { image: image.clone(), areas: areas.clone(), calls: Vec::new() };
         let side = Side::new(&case);
-        let mounted = mount(&image, &areas, Fault::None).ok();
+        let mounted = mount(&image, &areas).ok();
         Maker { r, case, side, mounted, good: areas, stale: image }
     }
 
     fn push(&mut self, call: Call) {
         let before = (self.side.image.clone(), self.side.areas.clone());
-        self.side.perform(&Model(Fault::None), &call);
+        self.side.perform(&Model, &call);
         self.case.calls.push(call);
         if before != (self.side.image.clone(), self.side.areas.clone()) {
             self.mount();
@@ -106,7 +105,7 @@ impl Maker {
     }
 
     fn mount(&mut self) {
-        self.mounted = mount(&self.side.image, &self.side.areas, Fault::None).ok();
+        self.mounted = mount(&self.side.image, &self.side.areas).ok();
     }
 
     fn call(&mut self) {

@@ -1,7 +1,6 @@
 //! "Acceptable record" and "How an area is read".
 
 use nffs_model::area::{Reading, Stretch};
-use nffs_model::fault::Fault;
 use nffs_model::forge::Flash;
 use nffs_model::layout::{AreaHeader, Block, Inode, NONE, ROOT};
 
@@ -100,7 +99,7 @@ fn root() -> Vec<u8> {
 /// The reading of an area; its damage is what a report of a volume counts in which it is the
 /// second of two file areas.
 fn read(area: &[u8]) -> Reading {
-    let reading = nffs_model::area::read(area, Fault::None);
+    let reading = nffs_model::area::read(area);
     let mut flash = Flash::of(&[area.len(); 3]);
     flash.root(1);
     let start = flash.offset(2);

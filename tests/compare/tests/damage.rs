@@ -3,7 +3,6 @@
 use nffs_compare::Proved;
 use nffs_model::compare::{Model, Side};
 use nffs_model::damage::{answers_stay, overwrite, spared};
-use nffs_model::fault::Fault;
 use nffs_model::generate::{self, Random};
 use nffs_model::mount::mount;
 
@@ -16,14 +15,14 @@ fn what_is_not_touched_answers_as_before() {
         for call in &case.calls {
             side.perform(&Model::default(), call);
         }
-        let Ok(old) = mount(&side.image, &side.areas, Fault::None) else { continue };
+        let Ok(old) = mount(&side.image, &side.areas) else { continue };
         if !old.file_areas.iter().all(|area| area.reading.is_clean()) {
             continue;
         }
         let whole = side.clone();
         let Some(touched) = overwrite(&mut Random::new(seed ^ 0xda3a6e), &old, &mut side.image) else { continue };
         damaged += 1;
-        let Ok(new) = mount(&side.image, &side.areas, Fault::None) else { continue };
+        let Ok(new) = mount(&side.image, &side.areas) else { continue };
         for id in spared(&old, &touched) {
             answers_stay(&Proved, (&whole, &old), (&side, &new), id);
             files += 1;
