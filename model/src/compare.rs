@@ -5,6 +5,7 @@ use std::collections::BTreeMap;
 use std::fmt::Write;
 use std::ops::Range;
 
+use crate::generate::made::{self, Made};
 pub use crate::shrink::shrink;
 use crate::{generate, Create, Handle, Lookup, Open, Read, Report};
 
@@ -256,19 +257,30 @@ impl Side {
     }
 }
 
-/// How many calls were made, and which numbers each kind of call answered.
+/// How many calls were made, which numbers each kind of call answered, and how
+/// often each thing of `generate::made` was met.
 #[derive(Clone, Debug, Default)]
 pub struct Tally {
     pub calls: u64,
     pub answers: BTreeMap<(&'static str, u32), u64>,
+    pub made: BTreeMap<Made, u64>,
 }
 
 impl Tally {
+    fn begin(&mut self, case: &Case) {
+        made::in_image(case).into_iter().for_each(|made| self.met(made));
+    }
+
     fn count(&mut self, call: &Call, answer: &Answer) {
         if call.is_call() {
             self.calls += 1;
             *self.answers.entry((call.name(), answer[0])).or_default() += 1;
+            made::in_call(call, answer).into_iter().for_each(|made| self.met(made));
         }
+    }
+
+    fn met(&mut self, made: Made) {
+        *self.made.entry(made).or_default() += 1;
     }
 }
 
@@ -286,6 +298,7 @@ pub fn run(
     right: &dyn Engine,
     tally: &mut Tally,
 ) -> Option<Difference> {
+    tally.begin(case);
     let (mut a, mut b) = (Side::new(case), Side::new(case));
     for (call, step) in case.calls.iter().enumerate() {
         let answers = (a.perform(left, step), b.perform(right, step));

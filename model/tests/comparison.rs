@@ -5,7 +5,7 @@ use std::collections::BTreeSet;
 use std::time::Instant;
 
 use nffs_model::compare::{bytes, compare, hex, run, Call, Case, Model, Tally};
-use nffs_model::generate;
+use nffs_model::generate::{self, made};
 
 /// Fewer without optimisation.
 const CASES: u64 = if cfg!(debug_assertions) { 1000 } else { 8000 };
@@ -40,12 +40,14 @@ fn every_answer_of_every_call_is_reached() {
     for ((call, number), times) in &tally.answers {
         println!("{call:8} {number:2} {times}");
     }
+    println!("made: {:?}", tally.made);
     let reached: BTreeSet<(&str, u32)> = tally.answers.keys().copied().collect();
     let allowed: BTreeSet<(&str, u32)> =
         ANSWERS.iter().flat_map(|(call, list)| list.iter().map(|n| (*call, *n))).collect();
     assert!(reached.is_subset(&allowed));
     if !cfg!(debug_assertions) {
         assert_eq!(reached, allowed);
+        assert_eq!(tally.made.keys().copied().collect::<Vec<_>>(), made::ALL);
     }
 }
 

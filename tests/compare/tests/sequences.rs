@@ -2,6 +2,7 @@
 
 use nffs_compare::{Proved, Safe};
 use nffs_model::compare::{compare, Engine, Model};
+use nffs_model::generate::made;
 
 /// The numbers that each call must have answered somewhere, so that no rule is passed over.
 const REACHED: [(&str, &[u32]); 10] = [
@@ -21,10 +22,14 @@ fn run(seeds: std::ops::Range<u64>, calls: &dyn Engine) {
     println!("seeds {seeds:?}");
     let tally = compare(seeds, calls, &Model::default()).unwrap_or_else(|case| panic!("{case}"));
     println!("{} calls: {:?}", tally.calls, tally.answers);
+    println!("made: {:?}", tally.made);
     for (call, numbers) in REACHED {
         for number in numbers {
             assert!(tally.answers.contains_key(&(call, *number)), "{call} never answered {number}");
         }
+    }
+    for rare in made::ALL {
+        assert!(tally.made.contains_key(&rare), "{rare:?} was never made");
     }
 }
 
