@@ -2,9 +2,10 @@
 
 use std::collections::BTreeMap;
 
-use nffs_model::area::Taken;
 use nffs_model::compare::{Answer, Call, Model, Side};
-use nffs_model::damage::{answers_stay, overwrite, spared, Touched};
+use nffs_model::damage::{
+    answers_stay, mount_number, overwrite, reads_as_untouched, spared, Touched,
+};
 use nffs_model::file::contents;
 use nffs_model::generate::{self, Random};
 use nffs_model::layout::{is_file, Inode};
@@ -155,22 +156,13 @@ fn damage_leaves_the_untouched_alone() {
         let whole = side.clone();
         let Some(touched) = overwrite(&mut r, &before, &mut side.image) else { continue };
         damaged += 1;
-        areas_read_as_untouched(&before, &side.image, &touched);
+        reads_as_untouched(&before, &side.image, &touched);
+        let number = nffs_model::report(&side.image, &side.areas).number;
+        assert_eq!(number, mount_number(&before, &touched));
         files += files_stay(&whole, &before, &side, &touched);
     }
     println!("{damaged} damaged images, {files} files looked at");
     assert!(damaged > CASES / 10 && files > CASES / 10);
-}
-
-/// "each file area reads as exactly its untouched records, in order, at their
-/// old places."
-fn areas_read_as_untouched(before: &FileSystem, image: &[u8], touched: &Touched) {
-    for (i, area) in before.file_areas.iter().enumerate() {
-        let now = nffs_model::area::read(&image[area.at.clone()]).records;
-        let untouched = |taken: &&Taken| !touched.contains(&(i, (*taken).clone()));
-        let kept: Vec<Taken> = area.reading.records.iter().filter(untouched).cloned().collect();
-        assert_eq!(now, kept);
-    }
 }
 
 /// Each live file of which no record was touched keeps number, parent, name,
