@@ -222,3 +222,11 @@ fn every_count_of_every_area() {
         }
     }
 }
+
+/// The run with overflow checks has them.
+#[cfg(debug_assertions)]
+#[test]
+fn overflow_is_seen() {
+    let most = std::hint::black_box(u32::MAX);
+    assert!(std::panic::catch_unwind(|| most + 1).is_err());
+}
