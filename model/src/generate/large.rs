@@ -110,9 +110,10 @@ pub fn long_blocks(r: &mut Random) -> Flash {
     let scratch = write_headers(r, &mut flash);
     flash.root(1 - scratch);
     flash.inode(1 - scratch, FIRST_FILE, 0, ROOT, b"a");
-    let data = r.bytes(longest);
-    flash.block(1 - scratch, FIRST_BLOCK, 0, FIRST_FILE, NONE, &data);
-    flash.block(1 - scratch, FIRST_BLOCK + 1, 0, FIRST_FILE, FIRST_BLOCK, b"more");
+    let lengths = r.pick(&[(longest, 4), (4, longest)]);
+    let (first, second) = (r.bytes(lengths.0), r.bytes(lengths.1));
+    flash.block(1 - scratch, FIRST_BLOCK, 0, FIRST_FILE, NONE, &first);
+    flash.block(1 - scratch, FIRST_BLOCK + 1, 0, FIRST_FILE, FIRST_BLOCK, &second);
     flash
 }
 

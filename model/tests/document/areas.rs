@@ -36,9 +36,12 @@ fn acceptable_deletion_records() {
 fn acceptable_blocks() {
     assert!(block(BLOCK, A, NONE) && block(0xffff_fffe, 0x7fff_ffff, BLOCK));
     assert!(!block(0x7fff_ffff, A, NONE) && !block(NONE, A, NONE));
-    assert!(
-        !block(BLOCK, 0x0fff_ffff, NONE) && !block(BLOCK, BLOCK, NONE) && !block(BLOCK, NONE, NONE)
-    );
+    for previous in [NONE, BLOCK + 1] {
+        assert!(block(BLOCK, 0x1000_0000, previous) && block(BLOCK, 0x7fff_ffff, previous));
+        for owner in [0, 0x0fff_ffff, 0x8000_0000, 0x8000_0001, 0xffff_fffe, NONE] {
+            assert!(!block(BLOCK, owner, previous), "{owner:x}");
+        }
+    }
     assert!(!block(BLOCK, A, BLOCK) && !block(BLOCK, A, 0x7fff_ffff) && !block(BLOCK, A, 0));
 }
 
