@@ -11,7 +11,7 @@ use nffs_model::generate::{self, made};
 const CASES: u64 = if cfg!(debug_assertions) { 1000 } else { 8000 };
 
 fn tally(seeds: std::ops::Range<u64>) -> Tally {
-    match compare(seeds, &Model::default(), &Model::default()) {
+    match compare(seeds, &Model, &Model) {
         Ok(tally) => tally,
         Err(text) => panic!("{text}"),
     }
@@ -94,7 +94,7 @@ fn a_pasted_case() {
         ],
     };
     let mut tally = Tally::default();
-    assert!(run(&case, &Model::default(), &Model::default(), &mut tally).is_none());
+    assert!(run(&case, &Model, &Model, &mut tally).is_none());
     assert_eq!(tally.calls, 4);
     assert_eq!(tally.answers.get(&("Read", 13)), Some(&1));
 }

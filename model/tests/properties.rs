@@ -41,7 +41,7 @@ fn each_call(seed: u64, check: &mut dyn FnMut(&Side, &Call, &Answer, &Side)) {
     let mut side = Side::new(&case);
     for call in &case.calls {
         let before = side.clone();
-        let answer = side.perform(&Model::default(), call);
+        let answer = side.perform(&Model, call);
         if !answer.is_empty() {
             check(&before, call, &answer, &side);
         }
@@ -146,7 +146,7 @@ fn damage_leaves_the_untouched_alone() {
         let case = generate::case(seed);
         let mut side = Side::new(&case);
         case.calls.iter().for_each(|call| {
-            side.perform(&Model::default(), call);
+            side.perform(&Model, call);
         });
         let Ok(before) = mount(&side.image, &side.areas) else { continue };
         if !before.file_areas.iter().all(|area| area.reading.is_clean()) {
@@ -175,7 +175,7 @@ fn files_stay(before: &Side, old: &FileSystem, after: &Side, touched: &Touched) 
     let new = mount(&after.image, &after.areas).expect("the root wasn't touched");
     for id in &spared {
         assert_eq!(view_of(old).get(id), view_of(&new).get(id));
-        answers_stay(&Model::default(), (before, old), (after, &new), *id);
+        answers_stay(&Model, (before, old), (after, &new), *id);
     }
     spared.len() as u64
 }

@@ -23,7 +23,7 @@ const SEQUENCES: u64 = if cfg!(debug_assertions) { 5_000 } else { 20_000 };
 
 fn run(seeds: std::ops::Range<u64>, calls: &dyn Engine) {
     println!("seeds {seeds:?}");
-    let tally = compare(seeds, calls, &Model::default()).unwrap_or_else(|case| panic!("{case}"));
+    let tally = compare(seeds, calls, &Model).unwrap_or_else(|case| panic!("{case}"));
     println!("{} calls: {:?}", tally.calls, tally.answers);
     println!("made: {:?}", tally.made);
     for (call, numbers) in REACHED {
