@@ -12,7 +12,7 @@ pub unsafe extern "C" fn LLVMFuzzerTestOneInput(data: *const u8, size: usize) ->
     // SAFETY: as said above; an empty slice may come with a null pointer.
     let script = if size == 0 { &[][..] } else { unsafe { std::slice::from_raw_parts(data, size) } };
     let case = generate::scripted(script);
-    let model = Model::default();
+    let model = Model;
     if run(&case, &Proved, &model, &mut Tally::default()).is_some() {
         println!("{}", show(&case, &Proved, &model));
         std::process::abort();

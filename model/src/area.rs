@@ -1,7 +1,6 @@
 //! "How an area is read."
 
-use crate::fault::Fault;
-use crate::layout::{AreaHeader, Block, Inode, Record};
+use crate::layout::{AreaHeader, Record};
 
 /// A record taken, with its offset in the area.
 #[derive(Clone, Debug, PartialEq, Eq)]
@@ -46,55 +45,37 @@ impl Reading {
 
 /// "Start at 24. If an acceptable record starts here, take it and go on at its
 /// end; otherwise skip one byte."
-pub fn read(area: &[u8], fault: Fault) -> Reading {
+pub fn read(area: &[u8]) -> Reading {
     let mut records = Vec::new();
     let mut stretches = Vec::new();
     let mut at = AreaHeader::SIZE;
     while at < area.len() {
-        if let Some(record) = acceptable(&area[at..], fault) {
+        if let Some(record) = Record::acceptable(&area[at..]) {
             let offset = at;
             at += record.size();
             records.push(Taken { offset, record });
         } else {
-            let step = if fault == Fault::DeclaredLength { declared(&area[at..]) } else { 1 };
-            skip(&mut stretches, at, step);
-            at += step;
+            skip(&mut stretches, at);
+            at += 1;
         }
     }
-    let free = free_space(area, &stretches, fault);
+    let free = free_space(area, &stretches);
     Reading { records, damage: damage(stretches, free), free }
 }
 
-fn acceptable(rest: &[u8], fault: Fault) -> Option<Record> {
-    match fault {
-        Fault::AnyFields => Record::parse(rest),
-        Fault::NamedDeletionRefused => {
-            Record::acceptable(rest).filter(|record| !named_deletion(record))
-        }
-        _ => Record::acceptable(rest),
-    }
-}
-
-fn named_deletion(record: &Record) -> bool {
-    record.inode().is_some_and(|inode| inode.is_deletion() && !inode.name.is_empty())
-}
-
-fn skip(stretches: &mut Vec<Stretch>, at: usize, step: usize) {
+/// The byte here belongs to the stretch that ends here, or begins one.
+fn skip(stretches: &mut Vec<Stretch>, at: usize) {
     match stretches.last_mut() {
-        Some(last) if last.end() == at => last.length += step,
-        _ => stretches.push(Stretch { offset: at, length: step }),
+        Some(last) if last.end() == at => last.length += 1,
+        _ => stretches.push(Stretch { offset: at, length: 1 }),
     }
 }
 
 /// "The part of the last stretch that is FF up to the area's end is free
 /// space": where it starts.
-fn free_space(area: &[u8], stretches: &[Stretch], fault: Fault) -> usize {
-    let Some(last) = stretches.last() else { return area.len() };
-    let end = if fault == Fault::FreeBeforeRecord { last.end() } else { area.len() };
-    if last.end() != end {
-        return area.len();
-    }
-    let mut free = end;
+fn free_space(area: &[u8], stretches: &[Stretch]) -> usize {
+    let mut free = area.len();
+    let Some(last) = stretches.last().filter(|last| last.end() == free) else { return free };
     while free > last.offset && area[free - 1] == 0xff {
         free -= 1;
     }
@@ -108,17 +89,4 @@ fn damage(stretches: Vec<Stretch>, free: usize) -> Vec<Stretch> {
         .map(|stretch| Stretch { length: stretch.end().min(free) - stretch.offset, ..stretch })
         .filter(|stretch| stretch.length > 0)
         .collect()
-}
-
-/// Belief 2, which brings stale data back: a step by the declared length.
-fn declared(rest: &[u8]) -> usize {
-    let starts = |magic: u32| rest.starts_with(&magic.to_le_bytes());
-    let length = if rest.len() >= Inode::HEADER && starts(Inode::MAGIC) {
-        Inode::HEADER + usize::from(rest[17])
-    } else if rest.len() >= Block::HEADER && starts(Block::MAGIC) {
-        Block::HEADER + usize::from(u16::from_le_bytes([rest[20], rest[21]]))
-    } else {
-        1
-    };
-    length.min(rest.len())
 }

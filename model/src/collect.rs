@@ -1,33 +1,22 @@
 //! "Collect (after source document 004)."
 
-use std::collections::BTreeSet;
-
-use crate::fault::Fault;
 use crate::layout::{AreaHeader, Block, Inode, Record};
 use crate::mount::{mount, Fate, FileArea, FileSystem};
 use crate::refusal::{number, Refusal};
 use crate::write::{erase_and_head, put};
 
-pub fn collect(image: &mut [u8], areas: &[u32], fault: Fault) -> u32 {
-    number(try_collect(image, areas, fault))
+pub fn collect(image: &mut [u8], areas: &[u32]) -> u32 {
+    number(try_collect(image, areas))
 }
 
-fn try_collect(image: &mut [u8], areas: &[u32], fault: Fault) -> Result<(), Refusal> {
-    let fs = mount(image, areas, fault)?;
+fn try_collect(image: &mut [u8], areas: &[u32]) -> Result<(), Refusal> {
+    let fs = mount(image, areas)?;
     let source = source(&fs).ok_or(Refusal::NoSource)?;
-    let copies = copies(&fs, source);
     let from = &fs.file_areas[source];
-    fill_scratch(image, &fs, from.header.id, &copies);
-    let scratch = fs.scratch.at.start;
-    match fault {
-        Fault::CountTaken => image[scratch + 21] = from.header.count,
-        Fault::ReservedLost => image[scratch + 22] = 0,
-        _ => {}
-    }
+    fill_scratch(image, &fs, from.header.id, &copies(&fs, source));
     // "the source is erased and becomes scratch with its count plus one (255
     // goes to 0)."
-    let stays = fault == Fault::CountStays && from.header.count == 255;
-    let count = if stays { 255 } else { from.header.count.wrapping_add(1) };
+    let count = from.header.count.wrapping_add(1);
     erase_and_head(image, &from.at, count, AreaHeader::SCRATCH);
     Ok(())
 }
@@ -39,9 +28,6 @@ fn source(fs: &FileSystem) -> Option<usize> {
         || (0..fs.file_areas.len()).filter(|i| fs.file_areas[*i].at.len() == fs.scratch.at.len());
     let precedes = |a: usize, b: usize| count_precedes(&fs.file_areas[a], &fs.file_areas[b]);
     let mut unpreceded = eligible().filter(|i| !eligible().any(|other| precedes(other, *i)));
-    if fs.fault == Fault::LastSource {
-        return unpreceded.next_back();
-    }
     unpreceded.next()
 }
 
@@ -55,9 +41,7 @@ fn count_precedes(a: &FileArea, b: &FileArea) -> bool {
 /// copied byte for byte".
 fn fill_scratch(image: &mut [u8], fs: &FileSystem, id: u8, copies: &[&Record]) {
     let scratch = fs.scratch.at.clone();
-    if fs.fault != Fault::DirtyScratch {
-        image[scratch.start + AreaHeader::SIZE..scratch.end].fill(0xff);
-    }
+    image[scratch.start + AreaHeader::SIZE..scratch.end].fill(0xff);
     image[scratch.start + AreaHeader::ID] = id;
     let mut at = scratch.start + AreaHeader::SIZE;
     for record in copies {
@@ -69,15 +53,10 @@ fn fill_scratch(image: &mut [u8], fs: &FileSystem, id: u8, copies: &[&Record]) {
 /// "the counting records that lie in the source ... in order of their first
 /// place there, each once".
 fn copies(fs: &FileSystem, source: usize) -> Vec<&Record> {
-    let mut copied = BTreeSet::new();
     let mut copies = Vec::new();
-    for taken in &fs.file_areas[source].reading.records {
-        let record = &taken.record;
+    for record in in_source(fs, source) {
         let counts = fs.counting(record.id()) == Some(record);
-        let version = (record.id(), record.sequence());
-        let first = copied.insert(version) || fs.fault == Fault::CopiesRepeated;
-        if (counts || fs.fault == Fault::OldVersionsCopied) && first && is_kept(fs, source, record)
-        {
+        if counts && !copies.contains(&record) && is_kept(fs, source, record) {
             copies.push(record);
         }
     }
@@ -85,11 +64,6 @@ fn copies(fs: &FileSystem, source: usize) -> Vec<&Record> {
 }
 
 fn is_kept(fs: &FileSystem, source: usize, record: &Record) -> bool {
-    if fs.fault == Fault::EqualElsewhereDropped
-        && elsewhere(fs, source).any(|other| other == record)
-    {
-        return false;
-    }
     match record {
         Record::Block(block) => {
             fs.fate(block.owner) != Fate::Dead || block_stays(fs, source, block)
@@ -98,21 +72,9 @@ fn is_kept(fs: &FileSystem, source: usize, record: &Record) -> bool {
     }
 }
 
-/// The accepted records in the other file areas.
-fn elsewhere(fs: &FileSystem, source: usize) -> impl Iterator<Item = &Record> {
-    let others = fs.file_areas.iter().enumerate().filter(move |(i, _)| *i != source);
-    others.flat_map(|(_, area)| area.reading.records.iter().map(|taken| &taken.record))
-}
-
 /// "A dead block isn't copied if no other file area has a record of its id."
 fn block_stays(fs: &FileSystem, source: usize, block: &Block) -> bool {
-    match fs.fault {
-        Fault::DeadBlocksDropped => false,
-        Fault::DeadBlockNeedsEqual => {
-            elsewhere(fs, source).any(|other| other.block() == Some(block))
-        }
-        _ => elsewhere(fs, source).any(|other| other.id() == block.id),
-    }
+    elsewhere(fs, source).any(|other| other.id() == block.id)
 }
 
 /// "A dead inode isn't copied if no accepted record, as they stood before the
@@ -121,12 +83,7 @@ fn block_stays(fs: &FileSystem, source: usize, block: &Block) -> bool {
 fn inode_stays(fs: &FileSystem, source: usize, inode: &Inode) -> bool {
     let others_there = in_source(fs, source).filter(|record| record.id() != inode.id);
     let mut considered = elsewhere(fs, source).chain(others_there);
-    let stays = considered.any(|record| names_inode(record, inode.id));
-    faulty_stay(fs, source, inode).unwrap_or(stays)
-}
-
-fn in_source(fs: &FileSystem, source: usize) -> impl Iterator<Item = &Record> {
-    fs.file_areas[source].reading.records.iter().map(|taken| &taken.record)
+    considered.any(|record| names_inode(record, inode.id))
 }
 
 fn names_inode(record: &Record, id: u32) -> bool {
@@ -136,23 +93,13 @@ fn names_inode(record: &Record, id: u32) -> bool {
     }
 }
 
-fn faulty_stay(fs: &FileSystem, source: usize, inode: &Inode) -> Option<bool> {
-    let names = |record: &&Record| names_inode(record, inode.id);
-    let own = |record: &&Record| record.id() == inode.id;
-    let dead = |record: &&Record| match record {
-        Record::Inode(inode) => fs.fate(inode.id) == Fate::Dead,
-        Record::Block(block) => fs.fate(block.owner) == Fate::Dead,
-    };
-    match fs.fault {
-        Fault::DeletionsDropped if inode.is_deletion() => Some(false),
-        Fault::NamedDeadDropped => Some(elsewhere(fs, source).any(|record| own(&record))),
-        Fault::OwnRecordsKeep => {
-            Some(elsewhere(fs, source).chain(in_source(fs, source)).filter(names).count() > 1)
-        }
-        Fault::DroppedDontKeep => {
-            let kept = in_source(fs, source).filter(|record| !dead(record));
-            Some(elsewhere(fs, source).chain(kept).any(|record| names(&record)))
-        }
-        _ => None,
-    }
+/// The accepted records in the source area.
+fn in_source(fs: &FileSystem, source: usize) -> impl Iterator<Item = &Record> {
+    fs.file_areas[source].reading.records.iter().map(|taken| &taken.record)
+}
+
+/// The accepted records in the other file areas.
+fn elsewhere(fs: &FileSystem, source: usize) -> impl Iterator<Item = &Record> {
+    let others = fs.file_areas.iter().enumerate().filter(move |(i, _)| *i != source);
+    others.flat_map(|(_, area)| area.reading.records.iter().map(|taken| &taken.record))
 }

@@ -5,7 +5,7 @@ use std::collections::BTreeMap;
 use std::fmt::Write;
 use std::ops::Range;
 
-use crate::fault::Fault;
+use crate::generate::made::{self, Made};
 pub use crate::shrink::shrink;
 use crate::{generate, Create, Handle, Lookup, Open, Read, Report};
 
@@ -38,22 +38,22 @@ pub trait Engine {
     fn collect(&self, image: &mut [u8], areas: &[u32]) -> u32;
 }
 
-/// The model; with a fault, a mutant of it.
+/// The model.
 #[derive(Clone, Copy, Debug, Default)]
-pub struct Model(#[doc(hidden)] pub Fault);
+pub struct Model;
 
 impl Engine for Model {
     fn format(&self, image: &mut [u8], areas: &[u32]) -> u32 {
-        crate::write::format(image, areas)
+        crate::format(image, areas)
     }
     fn report(&self, image: &[u8], areas: &[u32]) -> Report {
-        crate::mount::report(image, areas, self.0)
+        crate::report(image, areas)
     }
     fn lookup(&self, image: &[u8], areas: &[u32], base: &[u8], path: &[u8]) -> Lookup {
-        crate::lookup::lookup(image, areas, self.0, base, path)
+        crate::lookup(image, areas, base, path)
     }
     fn open(&self, image: &[u8], areas: &[u32], base: &[u8], path: &[u8]) -> Open {
-        crate::file::open(image, areas, self.0, base, path)
+        crate::open(image, areas, base, path)
     }
     fn read_at(
         &self,
@@ -63,10 +63,10 @@ impl Engine for Model {
         position: u32,
         buffer: &mut [u8],
     ) -> Read {
-        crate::file::read_at(image, areas, self.0, id, position, buffer)
+        crate::read_at(image, areas, id, position, buffer)
     }
     fn read(&self, image: &[u8], areas: &[u32], handle: &mut Handle, buffer: &mut [u8]) -> Read {
-        crate::file::read(image, areas, self.0, handle, buffer)
+        crate::read(image, areas, handle, buffer)
     }
     fn create(
         &self,
@@ -76,7 +76,7 @@ impl Engine for Model {
         path: &[u8],
         kind: u32,
     ) -> Create {
-        crate::write::create(image, areas, self.0, base, path, kind)
+        crate::create(image, areas, base, path, kind)
     }
     fn append(
         &self,
@@ -86,13 +86,13 @@ impl Engine for Model {
         path: &[u8],
         data: &[u8],
     ) -> u32 {
-        crate::write::append(image, areas, self.0, base, path, data)
+        crate::append(image, areas, base, path, data)
     }
     fn unlink(&self, image: &mut [u8], areas: &[u32], base: &[u8], path: &[u8]) -> u32 {
-        crate::write::unlink(image, areas, self.0, base, path)
+        crate::unlink(image, areas, base, path)
     }
     fn collect(&self, image: &mut [u8], areas: &[u32]) -> u32 {
-        crate::collect::collect(image, areas, self.0)
+        crate::collect(image, areas)
     }
 }
 
@@ -257,19 +257,30 @@ impl Side {
     }
 }
 
-/// How many calls were made, and which numbers each kind of call answered.
+/// How many calls were made, which numbers each kind of call answered, and how
+/// often each thing of `generate::made` was met.
 #[derive(Clone, Debug, Default)]
 pub struct Tally {
     pub calls: u64,
     pub answers: BTreeMap<(&'static str, u32), u64>,
+    pub made: BTreeMap<Made, u64>,
 }
 
 impl Tally {
+    fn begin(&mut self, case: &Case) {
+        made::in_image(case).into_iter().for_each(|made| self.met(made));
+    }
+
     fn count(&mut self, call: &Call, answer: &Answer) {
         if call.is_call() {
             self.calls += 1;
             *self.answers.entry((call.name(), answer[0])).or_default() += 1;
+            made::in_call(call, answer).into_iter().for_each(|made| self.met(made));
         }
+    }
+
+    fn met(&mut self, made: Made) {
+        *self.made.entry(made).or_default() += 1;
     }
 }
 
@@ -287,6 +298,7 @@ pub fn run(
     right: &dyn Engine,
     tally: &mut Tally,
 ) -> Option<Difference> {
+    tally.begin(case);
     let (mut a, mut b) = (Side::new(case), Side::new(case));
     for (call, step) in case.calls.iter().enumerate() {
         let answers = (a.perform(left, step), b.perform(right, step));

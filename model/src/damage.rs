@@ -1,12 +1,14 @@
 //! Damage inside records, the files that it spares, and what an engine must
 //! answer of these before and after: the words of demand 3.
 
-use crate::area::Taken;
+use crate::area::{self, Taken};
 use crate::compare::{Engine, Side};
 use crate::generate::Random;
-use crate::layout::{is_file, Inode, Record};
+use crate::layout::{is_file, Inode, Record, ROOT};
 use crate::mount::{Fate, FileSystem};
 use crate::path;
+use crate::refusal::Refusal;
+use crate::{Handle, Read};
 
 /// Each record touched, and the number of its file area.
 pub type Touched = Vec<(usize, Taken)>;
@@ -21,11 +23,9 @@ pub fn overwrite(r: &mut Random, fs: &FileSystem, image: &mut [u8]) -> Option<To
                 continue;
             }
             let start = area.at.start + taken.offset;
-            let size = taken.record.size();
-            for _ in 0..r.between(1, 4) {
-                image[start + r.below(size)] ^= 1 << r.below(8);
-            }
-            if image[start..start + size] != taken.record.bytes() {
+            let bytes = &mut image[start..start + taken.record.size()];
+            scribble(r, bytes);
+            if bytes != taken.record.bytes() {
                 touched.push((i, taken.clone()));
             }
         }
@@ -36,6 +36,48 @@ pub fn overwrite(r: &mut Random, fs: &FileSystem, image: &mut [u8]) -> Option<To
             .any(|at| Record::acceptable(&area[at..]).is_some())
     };
     (!touched.iter().any(inside)).then_some(touched)
+}
+
+/// "whatever is written": flipped bits, one byte over and over, or any bytes.
+fn scribble(r: &mut Random, bytes: &mut [u8]) {
+    let from = r.below(bytes.len());
+    let to = r.between(from, bytes.len() - 1);
+    match r.below(8) {
+        0 => bytes[from..=to].fill(0xff),
+        1 => bytes.fill(r.pick(&[0, 0xff])),
+        2 => bytes[from..=to].iter_mut().for_each(|byte| *byte = r.draw() as u8),
+        _ => (0..r.between(1, 4)).for_each(|_| bytes[r.below(to + 1)] ^= 1 << r.below(8)),
+    }
+}
+
+fn untouched<'a>(
+    fs: &'a FileSystem,
+    touched: &'a Touched,
+    area: usize,
+) -> impl Iterator<Item = &'a Taken> {
+    let records = fs.file_areas[area].reading.records.iter();
+    records.filter(move |taken| !touched.iter().any(|(i, other)| *i == area && other == *taken))
+}
+
+/// Asserts that "each file area reads as exactly its untouched records, in
+/// order, at their old places".
+pub fn reads_as_untouched(before: &FileSystem, image: &[u8], touched: &Touched) {
+    for (i, file_area) in before.file_areas.iter().enumerate() {
+        let now = area::read(&image[file_area.at.clone()]).records;
+        assert!(now.iter().eq(untouched(before, touched, i)), "file area {i}");
+    }
+}
+
+/// The number that mounting answers after the damage. Areas and headers are as
+/// they were, and each file area reads as its untouched records: of checks 1 to
+/// 7 only "no record of id 0" can fail now.
+pub fn mount_number(before: &FileSystem, touched: &Touched) -> u32 {
+    let mut left = (0..before.file_areas.len()).flat_map(|i| untouched(before, touched, i));
+    if left.any(|taken| taken.record.id() == ROOT) {
+        0
+    } else {
+        Refusal::NoRoot.number()
+    }
 }
 
 /// A live inode and its ancestors, itself first.
@@ -61,9 +103,15 @@ pub fn spared(fs: &FileSystem, touched: &Touched) -> Vec<u32> {
     live.filter(|id| is_file(*id) && is_spared(*id)).collect()
 }
 
-/// The absolute path of a live inode.
-fn path_of(fs: &FileSystem, id: u32) -> Vec<u8> {
-    lineage(fs, id).iter().rev().skip(1).flat_map(|at| [b"/", &at.name[..]].concat()).collect()
+/// Base and path in each way to spell a live inode's path: absolute, or below
+/// a base of some of its names. Those over the limits are left out.
+fn spellings(fs: &FileSystem, id: u32) -> Vec<(Vec<u8>, Vec<u8>)> {
+    let chain = lineage(fs, id);
+    let names: Vec<&[u8]> = chain.iter().rev().skip(1).map(|at| &at.name[..]).collect();
+    let absolute = |names: &[&[u8]]| [b"/", &names.join(&b'/')[..]].concat();
+    let below = (0..names.len()).map(|at| (absolute(&names[..at]), names[at..].join(&b'/')));
+    let all = below.chain([(Vec::new(), absolute(&names))]);
+    all.filter(|(base, path)| base.len().max(path.len()) <= path::PATH).collect()
 }
 
 /// Whether a name on the old path belongs to two or more live children now.
@@ -79,32 +127,46 @@ fn is_ambiguous(old: &FileSystem, new: &FileSystem, id: u32) -> bool {
     })
 }
 
+/// A read by id and one by handle: answers, buffers and the handle.
+fn reads(
+    engine: &dyn Engine,
+    side: &Side,
+    mut handle: Handle,
+    length: usize,
+) -> (Read, Vec<u8>, Read, Vec<u8>, Handle) {
+    let mut buffer: Vec<u8> = (0..length).map(|i| (i * 7 + 13) as u8).collect();
+    let mut other = buffer.clone();
+    let (Handle { id, position }, Side { image, areas, .. }) = (handle, side);
+    let by_id = engine.read_at(image, areas, id, position, &mut buffer);
+    let by_handle = engine.read(image, areas, &mut handle, &mut other);
+    (by_id, buffer, by_handle, other, handle)
+}
+
 /// Asserts what an engine answers of one spared file: reads as before; lookup
 /// and open of its path refused as ambiguous exactly when they must be, and
-/// otherwise this file. `old` and `new` are the two mounts.
+/// otherwise this file. `old` and `new` are the two mounts. Whether the path is
+/// ambiguous.
 pub fn answers_stay(
     engine: &dyn Engine,
     (before, old): (&Side, &FileSystem),
     (after, new): (&Side, &FileSystem),
     id: u32,
-) {
+) -> bool {
     for (position, length) in
         [(0, 0), (0, 1), (0, 20_000), (1, 7), (9, 4096), (3000, 3000), (u32::MAX, 1)]
     {
-        let read = |side: &Side| {
-            let mut buffer: Vec<u8> = (0..length).map(|i: usize| (i * 7 + 13) as u8).collect();
-            let answer = engine.read_at(&side.image, &side.areas, id, position, &mut buffer);
-            (answer, buffer)
-        };
-        assert!(read(before) == read(after), "read of {id:x} at {position}");
+        let handle = Handle { id, position };
+        let alike = reads(engine, before, handle, length) == reads(engine, after, handle, length);
+        assert!(alike, "read of {id:x} at {position}");
     }
-    let path = path_of(old, id);
-    if path.len() > path::PATH {
-        return;
+    let ambiguous = is_ambiguous(old, new, id);
+    let spellings = spellings(old, id);
+    let (number, id, kind) = if ambiguous { (10, 0, 0) } else { (0, id, 1) };
+    for (base, path) in spellings {
+        let found = engine.lookup(&after.image, &after.areas, &base, &path);
+        let opened = engine.open(&after.image, &after.areas, &base, &path);
+        assert_eq!((found.number, found.id, found.kind), (number, id, kind));
+        assert_eq!((opened.number, opened.id, opened.position), (number, id, 0));
     }
-    let found = engine.lookup(&after.image, &after.areas, b"", &path);
-    let opened = engine.open(&after.image, &after.areas, b"", &path);
-    let (number, id, kind) = if is_ambiguous(old, new, id) { (10, 0, 0) } else { (0, id, 1) };
-    assert_eq!((found.number, found.id, found.kind), (number, id, kind));
-    assert_eq!((opened.number, opened.id, opened.position), (number, id, 0));
+    ambiguous
 }

@@ -1,6 +1,5 @@
 //! "A live file's contents", open and read.
 
-use crate::fault::Fault;
 use crate::layout::{is_file, Block, NONE};
 use crate::lookup::find;
 use crate::mount::{mount, Fate, FileSystem};
@@ -13,18 +12,11 @@ pub fn contents(fs: &FileSystem, id: u32) -> Result<Vec<Block>, Refusal> {
     if blocks.is_empty() {
         return Ok(Vec::new());
     }
-    let chain = chain(&blocks).unwrap_or_default();
-    if chain.len() == blocks.len() && chain[0].previous == NONE {
-        return Ok(chain);
-    }
-    if fs.fault == Fault::BrokenReads {
-        return Ok(chain);
-    }
-    Err(Refusal::Broken)
+    chain(&blocks).ok_or(Refusal::Broken)
 }
 
-/// From the "one block named by none of them" back by "previous", as far as it
-/// goes; the result is in file order.
+/// "one chain by "previous", one block named by none of them, ending in NONE,
+/// using all of them", in file order.
 fn chain(blocks: &[&Block]) -> Option<Vec<Block>> {
     let unnamed: Vec<&&Block> = blocks
         .iter()
@@ -34,16 +26,17 @@ fn chain(blocks: &[&Block]) -> Option<Vec<Block>> {
     let mut chain = vec![(*last).clone()];
     while chain.len() < blocks.len() {
         let previous = chain[chain.len() - 1].previous;
-        let Some(block) = blocks.iter().find(|block| block.id == previous) else { break };
+        let block = blocks.iter().find(|block| block.id == previous)?;
         chain.push((*block).clone());
     }
     chain.reverse();
-    Some(chain)
+    // A chain that came to a block twice would not end.
+    (chain[0].previous == NONE).then_some(chain)
 }
 
 /// "Open gives position 0; open ... of a directory" is 11.
-pub fn open(image: &[u8], areas: &[u32], fault: Fault, base: &[u8], path: &[u8]) -> Open {
-    match find(image, areas, fault, base, path) {
+pub fn open(image: &[u8], areas: &[u32], base: &[u8], path: &[u8]) -> Open {
+    match find(image, areas, base, path) {
         Ok(id) if is_file(id) => Open { number: 0, id, position: 0 },
         Ok(_) => Open { number: Refusal::WrongKind.number(), ..Open::default() },
         Err(refusal) => Open { number: refusal.number(), ..Open::default() },
@@ -77,15 +70,8 @@ fn headers(blocks: &[Block], position: usize) -> usize {
 
 /// "A read gives as many bytes as the buffer and the file allow, in the front
 /// of the buffer".
-pub fn read_at(
-    image: &[u8],
-    areas: &[u32],
-    fault: Fault,
-    id: u32,
-    position: u32,
-    buffer: &mut [u8],
-) -> Read {
-    let found = mount(image, areas, fault).and_then(|fs| readable(&fs, id, position));
+pub fn read_at(image: &[u8], areas: &[u32], id: u32, position: u32, buffer: &mut [u8]) -> Read {
+    let found = mount(image, areas).and_then(|fs| readable(&fs, id, position));
     let blocks = match found {
         Ok(blocks) => blocks,
         Err(refusal) => return Read { number: refusal.number(), ..Read::default() },
@@ -100,14 +86,8 @@ pub fn read_at(
 
 /// "a file handle holds an id and a position, and a read moves the position in
 /// place."
-pub fn read(
-    image: &[u8],
-    areas: &[u32],
-    fault: Fault,
-    handle: &mut Handle,
-    buffer: &mut [u8],
-) -> Read {
-    let answer = read_at(image, areas, fault, handle.id, handle.position, buffer);
+pub fn read(image: &[u8], areas: &[u32], handle: &mut Handle, buffer: &mut [u8]) -> Read {
+    let answer = read_at(image, areas, handle.id, handle.position, buffer);
     handle.position += answer.given;
     answer
 }

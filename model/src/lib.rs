@@ -12,8 +12,6 @@ pub mod collect;
 pub mod compare;
 pub mod crc;
 pub mod damage;
-#[doc(hidden)]
-pub mod fault;
 pub mod file;
 pub mod forge;
 pub mod generate;
@@ -24,8 +22,6 @@ pub mod path;
 pub mod refusal;
 mod shrink;
 pub mod write;
-
-use fault::Fault;
 
 #[derive(Clone, Copy, Debug, Default, PartialEq, Eq)]
 pub struct Report {
@@ -76,38 +72,38 @@ pub fn format(image: &mut [u8], areas: &[u32]) -> u32 {
 }
 
 pub fn report(image: &[u8], areas: &[u32]) -> Report {
-    mount::report(image, areas, Fault::None)
+    mount::report(image, areas)
 }
 
 pub fn lookup(image: &[u8], areas: &[u32], base: &[u8], path: &[u8]) -> Lookup {
-    lookup::lookup(image, areas, Fault::None, base, path)
+    lookup::lookup(image, areas, base, path)
 }
 
 pub fn open(image: &[u8], areas: &[u32], base: &[u8], path: &[u8]) -> Open {
-    file::open(image, areas, Fault::None, base, path)
+    file::open(image, areas, base, path)
 }
 
 pub fn read_at(image: &[u8], areas: &[u32], id: u32, position: u32, buffer: &mut [u8]) -> Read {
-    file::read_at(image, areas, Fault::None, id, position, buffer)
+    file::read_at(image, areas, id, position, buffer)
 }
 
 pub fn read(image: &[u8], areas: &[u32], handle: &mut Handle, buffer: &mut [u8]) -> Read {
-    file::read(image, areas, Fault::None, handle, buffer)
+    file::read(image, areas, handle, buffer)
 }
 
 /// `kind` 0 creates a directory, every other number a file.
 pub fn create(image: &mut [u8], areas: &[u32], base: &[u8], path: &[u8], kind: u32) -> Create {
-    write::create(image, areas, Fault::None, base, path, kind)
+    write::create(image, areas, base, path, kind)
 }
 
 pub fn append(image: &mut [u8], areas: &[u32], base: &[u8], path: &[u8], data: &[u8]) -> u32 {
-    write::append(image, areas, Fault::None, base, path, data)
+    write::append(image, areas, base, path, data)
 }
 
 pub fn unlink(image: &mut [u8], areas: &[u32], base: &[u8], path: &[u8]) -> u32 {
-    write::unlink(image, areas, Fault::None, base, path)
+    write::unlink(image, areas, base, path)
 }
 
 pub fn collect(image: &mut [u8], areas: &[u32]) -> u32 {
-    collect::collect(image, areas, Fault::None)
+    collect::collect(image, areas)
 }

@@ -1,6 +1,5 @@
 //! Walking a path: "the first failing step decides among 9, 10 and 11".
 
-use crate::fault::Fault;
 use crate::layout::{is_directory, ROOT};
 use crate::mount::{mount, Fate, FileSystem};
 use crate::path;
@@ -23,13 +22,11 @@ pub fn children(fs: &FileSystem, directory: u32, name: &[u8]) -> Vec<u32> {
 /// One step: 11 below a file, 9 for no child, 10 for two or more.
 fn step(fs: &FileSystem, at: u32, name: &[u8]) -> Result<u32, Refusal> {
     if !is_directory(at) {
-        let nine = fs.fault == Fault::NineBelowFile;
-        return Err(if nine { Refusal::Absent } else { Refusal::WrongKind });
+        return Err(Refusal::WrongKind);
     }
     match children(fs, at, name)[..] {
         [] => Err(Refusal::Absent),
         [child] => Ok(child),
-        [first, ..] if fs.fault == Fault::FirstChild => Ok(first),
         _ => Err(Refusal::Ambiguous),
     }
 }
@@ -39,21 +36,15 @@ pub fn walk(fs: &FileSystem, names: &[Vec<u8>]) -> Result<u32, Refusal> {
     names.iter().try_fold(ROOT, |at, name| step(fs, at, name))
 }
 
-pub fn lookup(image: &[u8], areas: &[u32], fault: Fault, base: &[u8], path: &[u8]) -> Lookup {
-    match find(image, areas, fault, base, path) {
+pub fn lookup(image: &[u8], areas: &[u32], base: &[u8], path: &[u8]) -> Lookup {
+    match find(image, areas, base, path) {
         Ok(id) => Lookup { number: 0, id, kind: if is_directory(id) { DIRECTORY } else { FILE } },
         Err(refusal) => Lookup { number: refusal.number(), ..Lookup::default() },
     }
 }
 
-pub fn find(
-    image: &[u8],
-    areas: &[u32],
-    fault: Fault,
-    base: &[u8],
-    path: &[u8],
-) -> Result<u32, Refusal> {
-    let fs = mount(image, areas, fault)?;
+pub fn find(image: &[u8], areas: &[u32], base: &[u8], path: &[u8]) -> Result<u32, Refusal> {
+    let fs = mount(image, areas)?;
     let names = path::names(base, path)?;
     walk(&fs, &names)
 }

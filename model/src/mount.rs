@@ -4,8 +4,7 @@ use std::collections::{BTreeMap, BTreeSet};
 use std::ops::Range;
 
 use crate::area::{self, Reading};
-use crate::fault::Fault;
-use crate::layout::{is_block, AreaHeader, Block, Inode, Record, ROOT};
+use crate::layout::{is_block, AreaHeader, Block, Inode, Record, BLOCK_DATA, ROOT};
 use crate::refusal::Refusal;
 use crate::Report;
 
@@ -89,11 +88,10 @@ pub struct FileSystem {
     /// For each id "the one with the greatest sequence among all records in
     /// file areas".
     counting: BTreeMap<u32, Record>,
-    pub fault: Fault,
 }
 
 /// Checks 1 to 7, in order.
-pub fn mount(image: &[u8], areas: &[u32], fault: Fault) -> Result<FileSystem, Refusal> {
+pub fn mount(image: &[u8], areas: &[u32]) -> Result<FileSystem, Refusal> {
     let descriptors = descriptors(image, areas)?;
     let valid = valid_areas(image, &descriptors);
     let (scratches, files): (Vec<Area>, Vec<Area>) =
@@ -106,15 +104,9 @@ pub fn mount(image: &[u8], areas: &[u32], fault: Fault) -> Result<FileSystem, Re
     if files.iter().any(|file| file.at.len() > scratch.at.len()) {
         return Err(Refusal::ShortScratch);
     }
-    let mut file_areas: Vec<FileArea> = files.iter().map(|area| read(image, area, fault)).collect();
-    if fault == Fault::ScratchRead {
-        file_areas.push(read(image, scratch, fault));
-    }
-    let counting = counting(&file_areas, fault)?;
-    if fault == Fault::ScratchRead {
-        file_areas.pop();
-    }
-    Ok(FileSystem { file_areas, scratch: scratch.clone(), counting, fault })
+    let file_areas: Vec<FileArea> = files.iter().map(|area| read(image, area)).collect();
+    let counting = counting(&file_areas)?;
+    Ok(FileSystem { file_areas, scratch: scratch.clone(), counting })
 }
 
 /// "A descriptor without a valid header is passed over."
@@ -135,8 +127,8 @@ fn no_shared_id(files: &[Area]) -> Result<(), Refusal> {
     Ok(())
 }
 
-fn read(image: &[u8], area: &Area, fault: Fault) -> FileArea {
-    let reading = area::read(&image[area.at.clone()], fault);
+fn read(image: &[u8], area: &Area) -> FileArea {
+    let reading = area::read(&image[area.at.clone()]);
     FileArea { at: area.at.clone(), header: area.header, reading }
 }
 
@@ -145,31 +137,21 @@ fn accepted(file_areas: &[FileArea]) -> impl Iterator<Item = &Record> {
 }
 
 /// Checks 5 to 7, and the record that counts for each id.
-fn counting(file_areas: &[FileArea], fault: Fault) -> Result<BTreeMap<u32, Record>, Refusal> {
+fn counting(file_areas: &[FileArea]) -> Result<BTreeMap<u32, Record>, Refusal> {
     let ids: BTreeSet<u32> = accepted(file_areas).map(Record::id).collect();
-    if fault == Fault::SixBeforeFive {
-        no_clash(file_areas, fault)?;
-    }
-    tables_hold(&ids, 0, 0, fault)?;
-    no_clash(file_areas, fault)?;
+    tables_hold(&ids, 0, 0)?;
+    no_clash(file_areas)?;
     if !ids.contains(&ROOT) {
         return Err(Refusal::NoRoot);
     }
-    Ok(greatest(file_areas, fault))
+    Ok(greatest(file_areas))
 }
 
 /// Check 5, also for a write, "with the new records counted in".
-fn tables_hold(
-    ids: &BTreeSet<u32>,
-    new_inodes: usize,
-    new_blocks: usize,
-    fault: Fault,
-) -> Result<(), Refusal> {
-    let inode_places = INODES + usize::from(fault == Fault::OneInodeMore);
-    let block_places = BLOCKS + usize::from(fault == Fault::OneBlockMore);
+fn tables_hold(ids: &BTreeSet<u32>, new_inodes: usize, new_blocks: usize) -> Result<(), Refusal> {
     let blocks = ids.iter().filter(|id| is_block(**id)).count();
     let inodes = ids.len() - blocks;
-    if inodes + new_inodes > inode_places || blocks + new_blocks > block_places {
+    if inodes + new_inodes > INODES || blocks + new_blocks > BLOCKS {
         return Err(Refusal::Tables);
     }
     Ok(())
@@ -177,37 +159,26 @@ fn tables_hold(
 
 /// Check 6, about any two versions, the counting ones and the others. The
 /// fields of accepted records are equal just when all their bytes are.
-fn no_clash(file_areas: &[FileArea], fault: Fault) -> Result<(), Refusal> {
+fn no_clash(file_areas: &[FileArea]) -> Result<(), Refusal> {
     let mut versions: BTreeMap<(u32, u32), &Record> = BTreeMap::new();
     for record in accepted(file_areas) {
-        let (id, sequence) = (record.id(), record.sequence());
-        if fault == Fault::ClashWithGreatestOnly {
-            versions.retain(|(other, old), _| *other != id || *old >= sequence);
-        }
-        let first = *versions.entry((id, sequence)).or_insert(record);
-        if first != record
-            && !(fault == Fault::ClashWithoutReserved && only_reserved(first, record))
-        {
+        let version = (record.id(), record.sequence());
+        let first = *versions.entry(version).or_insert(record);
+        if first != record {
             return Err(Refusal::Clash);
         }
     }
     Ok(())
 }
 
-/// Whether two inodes differ in nothing but the reserved byte.
-fn only_reserved(a: &Record, b: &Record) -> bool {
-    let plain = |inode: &Inode| Inode { reserved: 0, ..inode.clone() };
-    a.inode().is_some() && a.inode().map(plain) == b.inode().map(plain)
-}
-
 /// "The record that counts for an id is the one with the greatest sequence".
 /// Where two have it, they are equal by check 6.
-fn greatest(file_areas: &[FileArea], fault: Fault) -> BTreeMap<u32, Record> {
+fn greatest(file_areas: &[FileArea]) -> BTreeMap<u32, Record> {
     let mut counting: BTreeMap<u32, Record> = BTreeMap::new();
     for record in accepted(file_areas) {
         let old = counting.get(&record.id());
         let newer = old.is_none_or(|old| old.sequence() < record.sequence());
-        if newer || fault == Fault::LastRead {
+        if newer {
             counting.insert(record.id(), record.clone());
         }
     }
@@ -240,20 +211,18 @@ impl FileSystem {
 
     /// Follows the counting records of the inode and its parents.
     pub fn fate(&self, id: u32) -> Fate {
-        let orphan = if self.fault == Fault::OrphanIsDead { Fate::Dead } else { Fate::Orphan };
         let mut seen = BTreeSet::new();
         let mut at = id;
         loop {
-            let Some(inode) = self.inode(at) else { return orphan };
+            let Some(inode) = self.inode(at) else { return Fate::Orphan };
             if at == ROOT {
                 return Fate::Live;
             }
             if inode.is_deletion() {
-                let own = at == id || self.fault != Fault::DeathNotInherited;
-                return if own { Fate::Dead } else { Fate::Live };
+                return Fate::Dead;
             }
             if !seen.insert(at) {
-                return orphan;
+                return Fate::Orphan;
             }
             at = inode.parent;
         }
@@ -262,29 +231,26 @@ impl FileSystem {
     /// 5 "tested again ... with the new records counted in".
     pub fn tables_hold(&self, new_inodes: usize, new_blocks: usize) -> Result<(), Refusal> {
         let ids = self.counting.keys().copied().collect();
-        tables_hold(&ids, new_inodes, new_blocks, self.fault)
+        tables_hold(&ids, new_inodes, new_blocks)
     }
 
     /// "The greatest block size is the smaller of 2,048 and half the shortest
     /// file area's length, rounded down, less 24."
     pub fn greatest_block(&self) -> usize {
         let shortest = self.file_areas.iter().map(|area| area.at.len()).min().unwrap_or(0);
-        if self.fault == Fault::SmallerBlocks {
-            return greatest_block(shortest - AreaHeader::SIZE);
-        }
         greatest_block(shortest)
     }
 }
 
 /// The greatest block size by the shortest area's length, 128 or more.
 pub fn greatest_block(shortest: usize) -> usize {
-    (shortest / 2 - Block::HEADER).min(crate::layout::BLOCK_DATA)
+    (shortest / 2 - Block::HEADER).min(BLOCK_DATA)
 }
 
 /// "report: distinct inode ids, live ones, damage stretches, damage bytes over
 /// file areas."
-pub fn report(image: &[u8], areas: &[u32], fault: Fault) -> Report {
-    match mount(image, areas, fault) {
+pub fn report(image: &[u8], areas: &[u32]) -> Report {
+    match mount(image, areas) {
         Ok(fs) => Report {
             number: 0,
             inodes: fs.inodes().count() as u32,

@@ -2,13 +2,12 @@
 
 use std::collections::BTreeSet;
 
-use crate::fault::Fault;
 use crate::file::contents;
 use crate::layout::{
     is_directory, AreaHeader, Block, Inode, FIRST_BLOCK, FIRST_DIRECTORY, FIRST_FILE, NONE, ROOT,
 };
 use crate::lookup::{children, walk, DIRECTORY};
-use crate::mount::{descriptors, mount, Descriptor, FileSystem};
+use crate::mount::{descriptors, mount, Descriptor, FileArea, FileSystem};
 use crate::path;
 use crate::refusal::{number, Refusal};
 use crate::Create;
@@ -63,9 +62,6 @@ struct Named(BTreeSet<u32>);
 
 impl Named {
     fn of(fs: &FileSystem) -> Named {
-        if fs.fault == Fault::ReuseNamedId {
-            return Named(fs.accepted().map(|record| record.id()).collect());
-        }
         Named(fs.accepted().flat_map(|record| record.named()).collect())
     }
 
@@ -95,12 +91,9 @@ struct Plan {
 
 impl Plan {
     fn new(fs: &FileSystem) -> Plan {
-        let any = fs.fault == Fault::WriteAfterDamage;
-        let clean = fs.file_areas.iter().filter(|area| any || area.reading.is_clean());
-        let room = |area: &crate::mount::FileArea| Room {
-            at: area.at.start + area.reading.free,
-            end: area.at.end,
-        };
+        let clean = fs.file_areas.iter().filter(|area| area.reading.is_clean());
+        let room =
+            |area: &FileArea| Room { at: area.at.start + area.reading.free, end: area.at.end };
         Plan { rooms: clean.map(room).collect(), puts: Vec::new() }
     }
 
@@ -124,15 +117,8 @@ impl Plan {
 
 /// "Create is told file or directory and answers the new id". Kind 0 is a
 /// directory, every other number a file.
-pub fn create(
-    image: &mut [u8],
-    areas: &[u32],
-    fault: Fault,
-    base: &[u8],
-    path: &[u8],
-    kind: u32,
-) -> Create {
-    match try_create(image, areas, fault, base, path, kind) {
+pub fn create(image: &mut [u8], areas: &[u32], base: &[u8], path: &[u8], kind: u32) -> Create {
+    match try_create(image, areas, base, path, kind) {
         Ok(id) => Create { number: 0, id },
         Err(refusal) => Create { number: refusal.number(), id: 0 },
     }
@@ -141,12 +127,11 @@ pub fn create(
 fn try_create(
     image: &mut [u8],
     areas: &[u32],
-    fault: Fault,
     base: &[u8],
     path: &[u8],
     kind: u32,
 ) -> Result<u32, Refusal> {
-    let fs = mount(image, areas, fault)?;
+    let fs = mount(image, areas)?;
     let names = path::names(base, path)?;
     let Some((name, above)) = names.split_last() else { return Err(Refusal::BadRequest) };
     let parent = walk(&fs, above)?;
@@ -166,43 +151,26 @@ fn name_is_new(fs: &FileSystem, parent: u32, name: &[u8]) -> Result<(), Refusal>
     if !is_directory(parent) {
         return Err(Refusal::WrongKind);
     }
-    if fs.fault == Fault::DeadNamesBlock && once_there(fs, parent, name) {
-        return Err(Refusal::NameTaken);
-    }
     if !children(fs, parent, name).is_empty() {
         return Err(Refusal::NameTaken);
     }
     Ok(())
 }
 
-/// Whether any version gave the name to a child of that directory.
-fn once_there(fs: &FileSystem, parent: u32, name: &[u8]) -> bool {
-    let mut inodes = fs.accepted().filter_map(|record| record.inode());
-    inodes.any(|inode| inode.parent == parent && inode.name == name)
-}
-
 /// "Append cuts the data into pieces of the greatest block size, the last one
 /// shorter, each naming the one before".
-pub fn append(
-    image: &mut [u8],
-    areas: &[u32],
-    fault: Fault,
-    base: &[u8],
-    path: &[u8],
-    data: &[u8],
-) -> u32 {
-    number(try_append(image, areas, fault, base, path, data))
+pub fn append(image: &mut [u8], areas: &[u32], base: &[u8], path: &[u8], data: &[u8]) -> u32 {
+    number(try_append(image, areas, base, path, data))
 }
 
 fn try_append(
     image: &mut [u8],
     areas: &[u32],
-    fault: Fault,
     base: &[u8],
     path: &[u8],
     data: &[u8],
 ) -> Result<(), Refusal> {
-    let fs = mount(image, areas, fault)?;
+    let fs = mount(image, areas)?;
     let names = path::names(base, path)?;
     if data.len() > APPEND {
         return Err(Refusal::BadRequest);
@@ -214,64 +182,33 @@ fn try_append(
     let last = contents(&fs, owner)?.last().map_or(NONE, |block| block.id);
     let pieces: Vec<&[u8]> = data.chunks(fs.greatest_block()).collect();
     fs.tables_hold(0, pieces.len())?;
-    let mut plan = Plan::new(&fs);
-    let planned = plan_pieces(&fs, &mut plan, owner, last, &pieces);
-    if planned.is_ok() || fault == Fault::HalfAppend {
-        plan.write(image);
-    }
-    planned
-}
-
-/// New ids are chosen piece by piece.
-fn plan_pieces(
-    fs: &FileSystem,
-    plan: &mut Plan,
-    owner: u32,
-    last: u32,
-    pieces: &[&[u8]],
-) -> Result<(), Refusal> {
-    let mut named = Named::of(fs);
+    let (mut named, mut plan) = (Named::of(&fs), Plan::new(&fs));
     let mut previous = last;
-    for (i, piece) in pieces.iter().enumerate() {
-        let id = if i > 0 && fs.fault == Fault::ConsecutiveIds {
-            previous + 1
-        } else {
-            named.take(FIRST_BLOCK)
-        };
+    for piece in pieces {
+        let id = named.take(FIRST_BLOCK);
         plan.add(Block::new(id, 0, owner, previous, piece).bytes())?;
         previous = id;
     }
+    plan.write(image);
     Ok(())
 }
 
 /// "Unlink writes a deletion record, sequence plus one, no name".
-pub fn unlink(image: &mut [u8], areas: &[u32], fault: Fault, base: &[u8], path: &[u8]) -> u32 {
-    number(try_unlink(image, areas, fault, base, path))
+pub fn unlink(image: &mut [u8], areas: &[u32], base: &[u8], path: &[u8]) -> u32 {
+    number(try_unlink(image, areas, base, path))
 }
 
-fn try_unlink(
-    image: &mut [u8],
-    areas: &[u32],
-    fault: Fault,
-    base: &[u8],
-    path: &[u8],
-) -> Result<(), Refusal> {
-    let fs = mount(image, areas, fault)?;
+fn try_unlink(image: &mut [u8], areas: &[u32], base: &[u8], path: &[u8]) -> Result<(), Refusal> {
+    let fs = mount(image, areas)?;
     let names = path::names(base, path)?;
     if names.is_empty() {
         return Err(Refusal::BadRequest);
     }
     let id = walk(&fs, &names)?;
     let sequence = fs.inode(id).map_or(0, |inode| inode.sequence);
+    let next = sequence.checked_add(1).ok_or(Refusal::LastSequence)?;
     let mut plan = Plan::new(&fs);
-    let room = plan.add(Inode::new(id, sequence.wrapping_add(1), NONE, b"").bytes());
-    if fault == Fault::RoomBeforeSequence {
-        room?;
-    }
-    if sequence == u32::MAX {
-        return Err(Refusal::LastSequence);
-    }
-    room?;
+    plan.add(Inode::new(id, next, NONE, b"").bytes())?;
     plan.write(image);
     Ok(())
 }

@@ -5,13 +5,13 @@ use std::collections::BTreeSet;
 use std::time::Instant;
 
 use nffs_model::compare::{bytes, compare, hex, run, Call, Case, Model, Tally};
-use nffs_model::generate;
+use nffs_model::generate::{self, made};
 
 /// Fewer without optimisation.
 const CASES: u64 = if cfg!(debug_assertions) { 1000 } else { 8000 };
 
 fn tally(seeds: std::ops::Range<u64>) -> Tally {
-    match compare(seeds, &Model::default(), &Model::default()) {
+    match compare(seeds, &Model, &Model) {
         Ok(tally) => tally,
         Err(text) => panic!("{text}"),
     }
@@ -40,12 +40,14 @@ fn every_answer_of_every_call_is_reached() {
     for ((call, number), times) in &tally.answers {
         println!("{call:8} {number:2} {times}");
     }
+    println!("made: {:?}", tally.made);
     let reached: BTreeSet<(&str, u32)> = tally.answers.keys().copied().collect();
     let allowed: BTreeSet<(&str, u32)> =
         ANSWERS.iter().flat_map(|(call, list)| list.iter().map(|n| (*call, *n))).collect();
     assert!(reached.is_subset(&allowed));
     if !cfg!(debug_assertions) {
         assert_eq!(reached, allowed);
+        assert_eq!(tally.made.keys().copied().collect::<Vec<_>>(), made::ALL);
     }
 }
 
@@ -92,7 +94,7 @@ fn a_pasted_case() {
         ],
     };
     let mut tally = Tally::default();
-    assert!(run(&case, &Model::default(), &Model::default(), &mut tally).is_none());
+    assert!(run(&case, &Model, &Model, &mut tally).is_none());
     assert_eq!(tally.calls, 4);
     assert_eq!(tally.answers.get(&("Read", 13)), Some(&1));
 }

@@ -1,69 +1,19 @@
 //! The comparison must be able to fail: each engine here has one deliberate
-//! fault, and a bounded number of generated cases finds it.
+//! fault at the call itself, and a bounded number of generated cases finds it.
+//! Faults inside the rules: the package `mutants`.
 
 use nffs_model::compare::{compare, first_difference, run, shrink, Engine, Model, Tally};
-use nffs_model::fault::Fault;
 use nffs_model::{generate, Create, Handle, Lookup, Open, Read, Report};
 
 /// Cases allowed for finding a fault.
 const CASES: u64 = 4000;
 
 fn found(name: &str, mutant: &dyn Engine) {
-    let seed = first_difference(0..CASES, &Model::default(), mutant);
+    let seed = first_difference(0..CASES, &MODEL, mutant);
     println!("{name}: {seed:?}");
     assert!(seed.is_some(), "{name} isn't found in {CASES} cases");
 }
 
-macro_rules! faults {
-    ($($test:ident: $fault:ident,)*) => {
-        $(#[test]
-        fn $test() {
-            found(stringify!($fault), &Model(Fault::$fault));
-        })*
-    };
-}
-
-faults! {
-    a_bad_record_skipped_by_its_declared_length: DeclaredLength,
-    a_right_check_is_enough: AnyFields,
-    a_deletion_record_with_a_name_refused: NamedDeletionRefused,
-    free_space_before_a_record: FreeBeforeRecord,
-    the_scratch_area_read: ScratchRead,
-    the_last_record_read_counts: LastRead,
-    six_before_five: SixBeforeFive,
-    six_against_the_greatest_only: ClashWithGreatestOnly,
-    six_without_the_reserved_byte: ClashWithoutReserved,
-    one_inode_more: OneInodeMore,
-    one_block_more: OneBlockMore,
-    an_orphan_called_dead: OrphanIsDead,
-    death_not_inherited: DeathNotInherited,
-    the_first_of_two_children: FirstChild,
-    nine_below_a_file: NineBelowFile,
-    a_broken_file_read: BrokenReads,
-    old_names_block_create: DeadNamesBlock,
-    a_named_id_used_again: ReuseNamedId,
-    consecutive_ids: ConsecutiveIds,
-    writing_after_a_torn_record: WriteAfterDamage,
-    smaller_blocks: SmallerBlocks,
-    fifteen_before_sixteen: RoomBeforeSequence,
-    half_an_append: HalfAppend,
-    every_deletion_record_dropped: DeletionsDropped,
-    every_dead_block_dropped: DeadBlocksDropped,
-    a_dead_block_needs_an_equal_record: DeadBlockNeedsEqual,
-    a_named_dead_inode_dropped: NamedDeadDropped,
-    own_records_keep_a_dead_inode: OwnRecordsKeep,
-    dropped_records_do_not_keep: DroppedDontKeep,
-    an_equal_record_elsewhere_suffices: EqualElsewhereDropped,
-    equal_records_copied_again: CopiesRepeated,
-    old_versions_copied: OldVersionsCopied,
-    the_count_stays_at_255: CountStays,
-    the_last_source_among_equals: LastSource,
-    a_dirty_scratch_not_erased: DirtyScratch,
-    the_source_count_taken: CountTaken,
-    the_reserved_byte_lost: ReservedLost,
-}
-
-/// The faults that show at the call itself.
 #[derive(Clone, Copy, Debug, PartialEq)]
 enum Impostor {
     RefusesEverything,
@@ -76,6 +26,7 @@ enum Impostor {
     RefusedReadTouchesBuffer,
     ReadFillsWholeBuffer,
     KindLost,
+    FirstOfTwo,
     RefusedAnswerKeepsId,
     FormatErasesEverything,
     WalkBeforeEight,
@@ -90,7 +41,7 @@ impl Wrapped {
     }
 }
 
-const MODEL: Model = Model(Fault::None);
+const MODEL: Model = Model;
 
 impl Engine for Wrapped {
     fn format(&self, image: &mut [u8], areas: &[u32]) -> u32 {
@@ -116,6 +67,7 @@ impl Engine for Wrapped {
             Impostor::RefusesEverything => Lookup { number: 1, id: 0, kind: 0 },
             Impostor::ConstantId if found.number == 0 => Lookup { id: 0x1000_0000, ..found },
             Impostor::KindLost => Lookup { kind: 0, ..found },
+            Impostor::FirstOfTwo if found.number == 10 => Lookup { number: 0, id: 1, kind: 0 },
             _ => found,
         }
     }
@@ -198,6 +150,7 @@ fn impostors_at_the_call() {
         Impostor::RefusedReadTouchesBuffer,
         Impostor::ReadFillsWholeBuffer,
         Impostor::KindLost,
+        Impostor::FirstOfTwo,
         Impostor::RefusedAnswerKeepsId,
         Impostor::FormatErasesEverything,
         Impostor::WalkBeforeEight,
@@ -210,7 +163,7 @@ fn impostors_at_the_call() {
 /// The shrunk case still differs, is no larger, and comes as text.
 #[test]
 fn a_difference_is_shrunk_and_shown() {
-    let mutant = Model(Fault::FirstChild);
+    let mutant = Wrapped(Impostor::FirstOfTwo);
     let seed = first_difference(0..CASES, &MODEL, &mutant).expect("a difference");
     let case = generate::case(seed);
     let small = shrink(case.clone(), &MODEL, &mutant);

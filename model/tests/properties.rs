@@ -2,10 +2,10 @@
 
 use std::collections::BTreeMap;
 
-use nffs_model::area::Taken;
 use nffs_model::compare::{Answer, Call, Model, Side};
-use nffs_model::damage::{answers_stay, overwrite, spared, Touched};
-use nffs_model::fault::Fault;
+use nffs_model::damage::{
+    answers_stay, mount_number, overwrite, reads_as_untouched, spared, Touched,
+};
 use nffs_model::file::contents;
 use nffs_model::generate::{self, Random};
 use nffs_model::layout::{is_file, Inode};
@@ -18,7 +18,7 @@ const CASES: u64 = if cfg!(debug_assertions) { 500 } else { 3000 };
 type View = BTreeMap<u32, (Inode, Option<Vec<u8>>)>;
 
 fn view(side: &Side) -> Option<View> {
-    let fs = mount(&side.image, &side.areas, Fault::None).ok()?;
+    let fs = mount(&side.image, &side.areas).ok()?;
     Some(view_of(&fs))
 }
 
@@ -41,7 +41,7 @@ fn each_call(seed: u64, check: &mut dyn FnMut(&Side, &Call, &Answer, &Side)) {
     let mut side = Side::new(&case);
     for call in &case.calls {
         let before = side.clone();
-        let answer = side.perform(&Model::default(), call);
+        let answer = side.perform(&Model, call);
         if !answer.is_empty() {
             check(&before, call, &answer, &side);
         }
@@ -146,9 +146,9 @@ fn damage_leaves_the_untouched_alone() {
         let case = generate::case(seed);
         let mut side = Side::new(&case);
         case.calls.iter().for_each(|call| {
-            side.perform(&Model::default(), call);
+            side.perform(&Model, call);
         });
-        let Ok(before) = mount(&side.image, &side.areas, Fault::None) else { continue };
+        let Ok(before) = mount(&side.image, &side.areas) else { continue };
         if !before.file_areas.iter().all(|area| area.reading.is_clean()) {
             continue;
         }
@@ -156,22 +156,13 @@ fn damage_leaves_the_untouched_alone() {
         let whole = side.clone();
         let Some(touched) = overwrite(&mut r, &before, &mut side.image) else { continue };
         damaged += 1;
-        areas_read_as_untouched(&before, &side.image, &touched);
+        reads_as_untouched(&before, &side.image, &touched);
+        let number = nffs_model::report(&side.image, &side.areas).number;
+        assert_eq!(number, mount_number(&before, &touched));
         files += files_stay(&whole, &before, &side, &touched);
     }
     println!("{damaged} damaged images, {files} files looked at");
     assert!(damaged > CASES / 10 && files > CASES / 10);
-}
-
-/// "each file area reads as exactly its untouched records, in order, at their
-/// old places."
-fn areas_read_as_untouched(before: &FileSystem, image: &[u8], touched: &Touched) {
-    for (i, area) in before.file_areas.iter().enumerate() {
-        let now = nffs_model::area::read(&image[area.at.clone()], Fault::None).records;
-        let untouched = |taken: &&Taken| !touched.contains(&(i, (*taken).clone()));
-        let kept: Vec<Taken> = area.reading.records.iter().filter(untouched).cloned().collect();
-        assert_eq!(now, kept);
-    }
 }
 
 /// Each live file of which no record was touched keeps number, parent, name,
@@ -181,10 +172,10 @@ fn files_stay(before: &Side, old: &FileSystem, after: &Side, touched: &Touched) 
     if spared.is_empty() {
         return 0;
     }
-    let new = mount(&after.image, &after.areas, Fault::None).expect("the root wasn't touched");
+    let new = mount(&after.image, &after.areas).expect("the root wasn't touched");
     for id in &spared {
         assert_eq!(view_of(old).get(id), view_of(&new).get(id));
-        answers_stay(&Model::default(), (before, old), (after, &new), *id);
+        answers_stay(&Model, (before, old), (after, &new), *id);
     }
     spared.len() as u64
 }

@@ -5,7 +5,6 @@ use super::paths::{name, spell};
 use super::random::Random;
 use super::{FILES, NAMES, SEQUENCES};
 use crate::compare::{Call, Case, Model, Side};
-use crate::fault::Fault;
 use crate::layout::{is_file, Block, Inode, Record, FIRST_BLOCK, FIRST_FILE, NONE, ROOT};
 use crate::mount::{mount, Fate, FileSystem};
 
@@ -26,13 +25,13 @@ impl Maker {
     pub fn new(r: Random, image: Vec<u8>, areas: Vec<u32>) -> Maker {
         let case = Case { image: image.clone(), areas: areas.clone(), calls: Vec::new() };
         let side = Side::new(&case);
-        let mounted = mount(&image, &areas, Fault::None).ok();
+        let mounted = mount(&image, &areas).ok();
         Maker { r, case, side, mounted, good: areas, stale: image }
     }
 
     fn push(&mut self, call: Call) {
         let before = (self.side.image.clone(), self.side.areas.clone());
-        self.side.perform(&Model(Fault::None), &call);
+        self.side.perform(&Model, &call);
         self.case.calls.push(call);
         if before != (self.side.image.clone(), self.side.areas.clone()) {
             self.mount();
@@ -106,7 +105,7 @@ impl Maker {
     }
 
     fn mount(&mut self) {
-        self.mounted = mount(&self.side.image, &self.side.areas, Fault::None).ok();
+        self.mounted = mount(&self.side.image, &self.side.areas).ok();
     }
 
     fn call(&mut self) {
@@ -163,13 +162,14 @@ impl Maker {
     fn data(&mut self) -> Vec<u8> {
         let block = self.mounted.as_ref().map_or(40, FileSystem::greatest_block);
         let r = &mut self.r;
-        let length = match r.below(20) {
-            0 => 0,
-            1 => 8192,
-            2 => 8193,
-            3 => r.pick(&[block - 1, block, block + 1]),
-            4 => 2 * block + r.below(3) - 1,
-            5 => r.between(1, 4 * block),
+        let length = match r.below(80) {
+            0 => r.pick(&[8194, 9000, 65_535, 65_536, 70_000]),
+            1..=4 => 0,
+            5..=8 => 8192,
+            9..=12 => 8193,
+            13..=16 => r.pick(&[block - 1, block, block + 1]),
+            17..=20 => 2 * block + r.below(3) - 1,
+            21..=24 => r.between(1, 4 * block),
             _ => r.between(1, 30),
         };
         if r.chance(12) {
@@ -211,10 +211,11 @@ impl Maker {
 
     fn buffer_length(&mut self, id: u32) -> usize {
         let size = self.size(id);
-        match self.r.below(5) {
-            0 => self.r.below(3),
-            1 => size,
-            2 => size + 1,
+        match self.r.below(50) {
+            0 => self.r.pick(&[8192, 8193, 9000, 65_536, 70_000]),
+            1..=10 => self.r.below(3),
+            11..=20 => size,
+            21..=30 => size + 1,
             _ => self.r.below(size + 20),
         }
     }

@@ -1,5 +1,6 @@
 //! Images: formatted ones, hand-made trees, full tables, junk, bad headers.
 
+use super::large::borrowed_chain;
 use super::paths::name;
 use super::random::Random;
 use super::{DIRECTORIES, FILES, SEQUENCES};
@@ -20,7 +21,7 @@ fn shape(r: &mut Random) -> Flash {
     place(r, &lengths)
 }
 
-fn place(r: &mut Random, lengths: &[usize]) -> Flash {
+pub fn place(r: &mut Random, lengths: &[usize]) -> Flash {
     let mut order: Vec<usize> = (0..lengths.len()).collect();
     r.shuffle(&mut order);
     let mut areas = vec![0; 2 * lengths.len()];
@@ -44,7 +45,7 @@ pub fn life(r: &mut Random) -> Flash {
 }
 
 /// Valid headers with one scratch area that is long enough, mostly.
-fn write_headers(r: &mut Random, flash: &mut Flash) -> usize {
+pub fn write_headers(r: &mut Random, flash: &mut Flash) -> usize {
     let count = flash.areas.len() / 2;
     let longest = (0..count).max_by_key(|i| flash.length(*i)).unwrap_or(0);
     let scratch = if r.chance(97) { longest } else { r.below(count) };
@@ -81,10 +82,14 @@ pub fn tree(r: &mut Random) -> Flash {
         let sequence = if r.chance(80) { 0 } else { r.pick(&SEQUENCES) };
         records.push(Inode::new(ROOT, sequence, NONE, b"").bytes());
     }
-    let directories = inodes(r, &DIRECTORIES, &[ROOT], &mut records);
-    let files = inodes(r, &FILES, &directories, &mut records);
-    chains(r, &files, &mut records);
-    odd_records(r, &mut records);
+    if r.chance(2) {
+        borrowed_chain(r, &mut records);
+    } else {
+        let directories = inodes(r, &DIRECTORIES, &[ROOT], &mut records);
+        let files = inodes(r, &FILES, &directories, &mut records);
+        chains(r, &files, &mut records);
+        odd_records(r, &mut records);
+    }
     if r.chance(50) {
         let first = usize::from(r.chance(85)).min(records.len());
         r.shuffle(&mut records[first..]);
@@ -209,7 +214,7 @@ fn odd_records(r: &mut Random, records: &mut Vec<Vec<u8>>) {
 fn unacceptable(r: &mut Random) -> Vec<u8> {
     let file = FIRST_FILE + 7;
     let block = FIRST_BLOCK + 7;
-    match r.below(14) {
+    match r.below(15) {
         0 => Inode::new(file, 9, ROOT, b"x/y").bytes(),
         1 => Inode::new(file, 9, NONE, b"x\0").bytes(),
         2 => Inode::new(file, 9, ROOT, b"").bytes(),
@@ -223,6 +228,7 @@ fn unacceptable(r: &mut Random) -> Vec<u8> {
         10 => Block::new(block, 9, file, 5, b"x").bytes(),
         11 => Block::new(NONE, 9, file, NONE, b"x").bytes(),
         12 => Block::new(block, 9, file, NONE, b"").bytes(),
+        13 => Block::new(block, 9, FIRST_BLOCK, NONE, b"x").bytes(),
         _ => Block::new(file, 9, file, NONE, b"x").bytes(),
     }
 }

@@ -2,6 +2,8 @@
 
 mod calls;
 mod images;
+mod large;
+pub mod made;
 mod paths;
 mod random;
 
@@ -28,12 +30,17 @@ pub fn scripted(script: &[u8]) -> Case {
 }
 
 fn drawn(mut r: Random) -> Case {
-    let flash = match r.below(100) {
-        0..=37 => images::life(&mut r),
-        38..=90 => images::tree(&mut r),
-        91..=92 => images::tables(&mut r),
-        93..=95 => images::junk(&mut r),
-        _ => images::headers(&mut r),
+    // Large images are few: each takes as long as many small ones.
+    let flash = match r.below(400) {
+        0..=148 => images::life(&mut r),
+        149..=356 => images::tree(&mut r),
+        357..=364 => images::tables(&mut r),
+        365..=376 => images::junk(&mut r),
+        377..=388 => images::headers(&mut r),
+        389..=391 => large::whole(&mut r),
+        392..=393 => large::named(&mut r),
+        394..=397 => large::deep(&mut r),
+        _ => large::long_blocks(&mut r),
     };
     let mut image = flash.image;
     if r.below(200) == 0 {

@@ -36,7 +36,8 @@ fn misspell(r: &mut Random, names: &[Vec<u8>]) -> (Vec<u8>, Vec<u8>) {
     let good = absolute(names);
     let relative = good[1..].to_vec();
     let long = |length: usize, times: usize| absolute(&vec![b"n".repeat(length); times]);
-    match r.below(14) {
+    let about_the_limit = r.pick(&[1023, 1024, 1025, 1026, 1300, 5000]);
+    match r.below(17) {
         0 => (b"/".to_vec(), [&good[..], b"/"].concat()),
         1 => (b"/".to_vec(), [b"/", &good[..]].concat()),
         2 => (b"/".to_vec(), [&good[..], b"/\0"].concat()),
@@ -50,6 +51,15 @@ fn misspell(r: &mut Random, names: &[Vec<u8>]) -> (Vec<u8>, Vec<u8>) {
         10 => (b"/".to_vec(), long(256, 1)),
         11 => (b"/".to_vec(), long(255, 4)),
         12 => (long(255, 4), [b"n/", &relative[..]].concat()),
+        13 => (b"/".to_vec(), of_length(about_the_limit)),
+        14 => ([b"/", &of_length(about_the_limit - 1)[..]].concat(), relative),
+        15 => (b"/".to_vec(), [b"/", &of_length(about_the_limit - 1)[..]].concat()),
         _ => (b"/".to_vec(), [long(254, 4), b"n/nnn".to_vec()].concat()),
     }
+}
+
+/// Names in a path without a leading slash, so many bytes in all.
+fn of_length(length: usize) -> Vec<u8> {
+    let slash = |i: usize| i % 200 == 199 && i + 1 < length;
+    (0..length).map(|i| if slash(i) { b'/' } else { b'n' }).collect()
 }

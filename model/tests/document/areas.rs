@@ -1,7 +1,6 @@
 //! "Acceptable record" and "How an area is read".
 
 use nffs_model::area::{Reading, Stretch};
-use nffs_model::fault::Fault;
 use nffs_model::forge::Flash;
 use nffs_model::layout::{AreaHeader, Block, Inode, NONE, ROOT};
 
@@ -37,9 +36,12 @@ fn acceptable_deletion_records() {
 fn acceptable_blocks() {
     assert!(block(BLOCK, A, NONE) && block(0xffff_fffe, 0x7fff_ffff, BLOCK));
     assert!(!block(0x7fff_ffff, A, NONE) && !block(NONE, A, NONE));
-    assert!(
-        !block(BLOCK, 0x0fff_ffff, NONE) && !block(BLOCK, BLOCK, NONE) && !block(BLOCK, NONE, NONE)
-    );
+    for previous in [NONE, BLOCK + 1] {
+        assert!(block(BLOCK, 0x1000_0000, previous) && block(BLOCK, 0x7fff_ffff, previous));
+        for owner in [0, 0x0fff_ffff, 0x8000_0000, 0x8000_0001, 0xffff_fffe, NONE] {
+            assert!(!block(BLOCK, owner, previous), "{owner:x}");
+        }
+    }
     assert!(!block(BLOCK, A, BLOCK) && !block(BLOCK, A, 0x7fff_ffff) && !block(BLOCK, A, 0));
 }
 
@@ -100,7 +102,7 @@ fn root() -> Vec<u8> {
 /// The reading of an area; its damage is what a report of a volume counts in which it is the
 /// second of two file areas.
 fn read(area: &[u8]) -> Reading {
-    let reading = nffs_model::area::read(area, Fault::None);
+    let reading = nffs_model::area::read(area);
     let mut flash = Flash::of(&[area.len(); 3]);
     flash.root(1);
     let start = flash.offset(2);

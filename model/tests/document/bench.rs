@@ -42,11 +42,13 @@ fn greatest_block_size_by_shortest_area() {
 fn name_and_data_lengths() {
     assert!(accepted(&Inode::new(A, 0, 0, &[b'n'; 255]).bytes()));
     assert!(!accepted(&Inode::new(A, 0, 0, b"").bytes()));
-    let block = |n: usize| Block::new(BLOCK, 0, A, NONE, &vec![0; n]).bytes();
-    assert!(accepted(&block(2048)));
-    assert!(accepted(&block(1)));
-    assert!(!accepted(&block(2049)));
-    assert!(!accepted(&block(0)));
+    for previous in [NONE, BLOCK + 1] {
+        let block = |n: usize| Block::new(BLOCK, 0, A, previous, &vec![0; n]).bytes();
+        assert!(accepted(&block(2048)));
+        assert!(accepted(&block(1)));
+        assert!(!accepted(&block(2049)));
+        assert!(!accepted(&block(0)));
+    }
 }
 
 /// The ranges by the kind that a lookup tells of an inode, and by which ids an inode and a

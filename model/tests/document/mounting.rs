@@ -1,9 +1,9 @@
 //! "What a call is given", refusals 1 to 7 and their order, what counts, the
 //! report.
 
+use crate::calls::report as bare_report;
 use nffs_model::forge::Flash;
 use nffs_model::layout::{Inode, NONE, ROOT};
-use crate::calls::report as bare_report;
 
 use crate::calls;
 use crate::common::*;

@@ -66,6 +66,33 @@ fn broken_chains() {
     }
 }
 
+/// A file whose last block leads into another's blocks, which are as many as it
+/// lacks and end in NONE; its own others are a loop, so each of them is named.
+/// The chain must be of its own blocks, whatever has become of the other.
+#[test]
+fn a_chain_through_another_files_blocks() {
+    for looped in [2, 3, 5] {
+        for fate in 0..3 {
+            let mut flash = file(&[(BLOCK + 30, 0, A, BLOCK + 20 + looped - 1, b"last")]);
+            for k in 0..looped {
+                flash.block(1, BLOCK + 10 + k, 0, A, BLOCK + 10 + (k + 1) % looped, b"loop");
+                let previous = if k == 0 { NONE } else { BLOCK + 20 + k - 1 };
+                flash.block(1, BLOCK + 20 + k, 0, B, previous, b"other");
+            }
+            match fate {
+                0 => assert!(flash.inode(1, B, 0, ROOT, b"b")),
+                1 => assert!(flash.delete(1, B, 0)),
+                _ => {}
+            }
+            assert_eq!(contents(&flash, "/a"), Err(13), "{looped} blocks");
+            assert_eq!(read(&flash, A, 0, 0).0.number, 13);
+            assert_eq!(append(&mut flash, "/a", b"x"), 13);
+            let other = if fate == 0 { Ok(b"other".repeat(looped as usize)) } else { Err(9) };
+            assert_eq!(contents(&flash, "/b"), other);
+        }
+    }
+}
+
 /// Blocks of 10, 5 and 3 bytes: which headers are followed.
 #[test]
 fn bytes_and_headers() {

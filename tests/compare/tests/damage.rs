@@ -1,34 +1,61 @@
 //! Demand 3, run: bytes inside records of valid images overwritten at random, and what the proved calls then answer.
 
 use nffs_compare::Proved;
-use nffs_model::compare::{Model, Side};
-use nffs_model::damage::{answers_stay, overwrite, spared};
-use nffs_model::fault::Fault;
+use nffs_model::compare::{Engine, Model, Side};
+use nffs_model::damage::{answers_stay, mount_number, overwrite, reads_as_untouched, spared, Touched};
 use nffs_model::generate::{self, Random};
-use nffs_model::mount::mount;
+use nffs_model::mount::{mount, FileSystem};
+
+/// The state that a case leads to, if it mounts and its file areas are clean.
+fn clean(seed: u64) -> Option<(Side, FileSystem)> {
+    let case = generate::case(seed);
+    let mut side = Side::new(&case);
+    for call in &case.calls {
+        side.perform(&Model, call);
+    }
+    let fs = mount(&side.image, &side.areas).ok()?;
+    fs.file_areas.iter().all(|area| area.reading.is_clean()).then_some((side, fs))
+}
+
+/// How many damaged images there were, how many of them without a root's record, and spared files and ambiguous paths.
+#[derive(Debug, Default)]
+struct Count {
+    images: u64,
+    rootless: u64,
+    files: u64,
+    ambiguous: u64,
+}
+
+/// Asserts all that demand 3 says of one damaged image.
+fn holds(count: &mut Count, (whole, old): (&Side, &FileSystem), after: &Side, touched: &Touched) {
+    reads_as_untouched(old, &after.image, touched);
+    let report = Proved.report(&after.image, &after.areas);
+    assert_eq!(report, nffs_model::report(&after.image, &after.areas));
+    assert_eq!(report.number, mount_number(old, touched));
+    let spared = spared(old, touched);
+    count.images += 1;
+    let Ok(new) = mount(&after.image, &after.areas) else {
+        // the root is an ancestor of every live file
+        assert!(report.number == 7 && spared.is_empty(), "{} spared files don't mount", spared.len());
+        count.rootless += 1;
+        return;
+    };
+    for id in spared {
+        count.files += 1;
+        count.ambiguous += u64::from(answers_stay(&Proved, (whole, old), (after, &new), id));
+    }
+}
 
 #[test]
 fn what_is_not_touched_answers_as_before() {
-    let (mut damaged, mut files) = (0, 0);
+    let mut count = Count::default();
     for seed in 0..6_000 {
-        let case = generate::case(seed);
-        let mut side = Side::new(&case);
-        for call in &case.calls {
-            side.perform(&Model::default(), call);
-        }
-        let Ok(old) = mount(&side.image, &side.areas, Fault::None) else { continue };
-        if !old.file_areas.iter().all(|area| area.reading.is_clean()) {
-            continue;
-        }
-        let whole = side.clone();
-        let Some(touched) = overwrite(&mut Random::new(seed ^ 0xda3a6e), &old, &mut side.image) else { continue };
-        damaged += 1;
-        let Ok(new) = mount(&side.image, &side.areas, Fault::None) else { continue };
-        for id in spared(&old, &touched) {
-            answers_stay(&Proved, (&whole, &old), (&side, &new), id);
-            files += 1;
-        }
+        let Some((whole, old)) = clean(seed) else { continue };
+        let mut after = whole.clone();
+        let Some(touched) = overwrite(&mut Random::new(seed ^ 0xda3a6e), &old, &mut after.image) else { continue };
+        holds(&mut count, (&whole, &old), &after, &touched);
     }
-    println!("{damaged} damaged images, {files} files");
-    assert!(damaged > 2_000 && files > 2_000, "too few to tell: {damaged} images, {files} files");
+    println!("{count:?}");
+    let Count { images, rootless, files, ambiguous } = count;
+    assert!(images > 2_000 && rootless > 50 && files > 2_000 && ambiguous > 20, "too few to tell");
 }

@@ -12,11 +12,15 @@ mod areas;
 mod bench;
 #[path = "../../../model/tests/document/collecting.rs"]
 mod collecting;
+#[path = "../../../model/tests/document/ids.rs"]
+mod ids;
 #[path = "../../../model/tests/document/mounting.rs"]
 mod mounting;
 #[path = "../../../model/tests/document/paths.rs"]
 mod paths;
 #[path = "../../../model/tests/document/reading.rs"]
 mod reading;
+#[path = "../../../model/tests/document/tables.rs"]
+mod tables;
 #[path = "../../../model/tests/document/writing.rs"]
 mod writing;

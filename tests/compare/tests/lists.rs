@@ -33,7 +33,7 @@ fn compare(formatted: u32, areas: Vec<u32>, tally: &mut Tally) {
     let mut image = vec![0; (MOST * LENGTH) as usize];
     nffs_model::format(&mut image, &entries(formatted));
     let case = Case { image, areas, calls: calls() };
-    let model = Model::default();
+    let model = Model;
     if run(&case, &Proved, &model, tally).is_some() {
         panic!("{}", show(&case, &Proved, &model));
     }

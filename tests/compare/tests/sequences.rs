@@ -2,6 +2,7 @@
 
 use nffs_compare::{Proved, Safe};
 use nffs_model::compare::{compare, Engine, Model};
+use nffs_model::generate::made;
 
 /// The numbers that each call must have answered somewhere, so that no rule is passed over.
 const REACHED: [(&str, &[u32]); 10] = [
@@ -17,29 +18,36 @@ const REACHED: [(&str, &[u32]); 10] = [
     ("Collect", &[0, 1, 2, 3, 4, 5, 6, 7, 17]),
 ];
 
+/// Fewer where overflow is checked.
+const SEQUENCES: u64 = if cfg!(debug_assertions) { 5_000 } else { 20_000 };
+
 fn run(seeds: std::ops::Range<u64>, calls: &dyn Engine) {
     println!("seeds {seeds:?}");
-    let tally = compare(seeds, calls, &Model::default()).unwrap_or_else(|case| panic!("{case}"));
+    let tally = compare(seeds, calls, &Model).unwrap_or_else(|case| panic!("{case}"));
     println!("{} calls: {:?}", tally.calls, tally.answers);
+    println!("made: {:?}", tally.made);
     for (call, numbers) in REACHED {
         for number in numbers {
             assert!(tally.answers.contains_key(&(call, *number)), "{call} never answered {number}");
         }
     }
+    for rare in made::ALL {
+        assert!(tally.made.contains_key(&rare), "{rare:?} was never made");
+    }
 }
 
 #[test]
 fn first_half() {
-    run(10_000_000..10_020_000, &Proved);
+    run(10_000_000..10_000_000 + SEQUENCES, &Proved);
 }
 
 #[test]
 fn second_half() {
-    run(20_000_000..20_020_000, &Proved);
+    run(20_000_000..20_000_000 + SEQUENCES, &Proved);
 }
 
 /// The functions that answer with a `Result`.
 #[test]
 fn by_results() {
-    run(30_000_000..30_010_000, &Safe);
+    run(30_000_000..30_000_000 + SEQUENCES / 2, &Safe);
 }

@@ -1,15 +1,19 @@
-//! The calls of the proved code and of the model, over the states that seeded sequences of calls go through.
+//! The proved code and the model over the states that seeded sequences of calls go through: report and format in each of them, every call in
+//! the last.
 
 use std::collections::BTreeMap;
 
-use nffs_model::compare::{Model, Side};
+use nffs_compare::Proved;
+use nffs_model::compare::{run as run_case, show, Call, Case, Model, Side, Tally};
 use nffs_model::generate;
+use nffs_model::layout::{is_file, ROOT};
+use nffs_model::mount::{mount, Fate};
 
 /// How often each number was answered.
 type Answers = BTreeMap<u32, u64>;
 
-/// Compares every call in one state of the image; none of them changes it.
-fn compare(side: &Side, at: &str, reports: &mut Answers, formats: &mut Answers) {
+/// Compares report and format in one state of the image; neither changes it.
+fn report_and_format(side: &Side, at: &str, reports: &mut Answers, formats: &mut Answers) {
     let report = nffs_compare::report(&side.image, &side.areas);
     assert_eq!(report, nffs_model::report(&side.image, &side.areas), "report, {at}");
     *reports.entry(report.number).or_insert(0) += 1;
@@ -21,23 +25,68 @@ fn compare(side: &Side, at: &str, reports: &mut Answers, formats: &mut Answers) 
     *formats.entry(number).or_insert(0) += 1;
 }
 
+/// The id and the path of the last live file, or of one that isn't there.
+fn a_file(side: &Side) -> (u32, Vec<u8>) {
+    let nothing = (0x1000_0000, b"/a".to_vec());
+    let Ok(fs) = mount(&side.image, &side.areas) else { return nothing };
+    let live = |id: &u32| is_file(*id) && fs.fate(*id) == Fate::Live;
+    let Some(id) = fs.inodes().map(|inode| inode.id).filter(live).last() else { return nothing };
+    let (mut path, mut at) = (Vec::new(), id);
+    while at != ROOT {
+        let inode = fs.inode(at).expect("a live inode's parents have records");
+        path = [b"/", &inode.name[..], &path].concat();
+        at = inode.parent;
+    }
+    (id, path)
+}
+
+/// Every call, each on the same state.
+fn every_call(side: &Side, at: &str, tally: &mut Tally) {
+    let (id, path) = a_file(side);
+    let base = Vec::new();
+    let handle = Call::Handle { id, position: 1 };
+    let calls = [
+        vec![Call::Report],
+        vec![Call::Format],
+        vec![Call::Lookup { base: base.clone(), path: path.clone() }],
+        vec![Call::Open { base: base.clone(), path: path.clone() }],
+        vec![Call::ReadAt { id, position: 0, length: 100 }],
+        vec![handle, Call::Read { length: 100 }],
+        vec![Call::Create { base: b"/".to_vec(), path: b"a new name".to_vec(), kind: 1 }],
+        vec![Call::Append { base: base.clone(), path: path.clone(), data: vec![7; 50] }],
+        vec![Call::Unlink { base, path }],
+        vec![Call::Collect],
+    ];
+    for calls in calls {
+        let case = Case { image: side.image.clone(), areas: side.areas.clone(), calls };
+        if run_case(&case, &Proved, &Model, tally).is_some() {
+            panic!("{at}\n{}", show(&case, &Proved, &Model));
+        }
+    }
+}
+
 /// Every state of the seeds' cases: each image and area list before and after every call, damage included.
 fn run(seeds: std::ops::Range<u64>) {
     println!("seeds {seeds:?}");
-    let (mut reports, mut formats) = (Answers::new(), Answers::new());
+    let (mut reports, mut formats, mut tally) = (Answers::new(), Answers::new(), Tally::default());
     for seed in seeds {
         let case = generate::case(seed);
         let mut side = Side::new(&case);
-        compare(&side, &format!("seed {seed}, at first"), &mut reports, &mut formats);
+        report_and_format(&side, &format!("seed {seed}, at first"), &mut reports, &mut formats);
         for (step, call) in case.calls.iter().enumerate() {
-            side.perform(&Model::default(), call);
-            compare(&side, &format!("seed {seed}, after {} calls", step + 1), &mut reports, &mut formats);
+            side.perform(&Model, call);
+            report_and_format(&side, &format!("seed {seed}, after {} calls", step + 1), &mut reports, &mut formats);
         }
+        every_call(&side, &format!("seed {seed}, at last"), &mut tally);
     }
     println!("reports by number: {reports:?}, in all {}", reports.values().sum::<u64>());
     println!("formats by number: {formats:?}, in all {}", formats.values().sum::<u64>());
+    println!("every call in the last states: {:?}, in all {}", tally.answers, tally.calls);
     assert!((0..=7).all(|number| reports.contains_key(&number)), "a number of the report was not reached");
     assert!([0, 1, 3].iter().all(|number| formats.contains_key(number)), "a number of format was not reached");
+    for call in ["Report", "Format", "Lookup", "Open", "ReadAt", "Read", "Create", "Append", "Unlink", "Collect"] {
+        assert!(tally.answers.contains_key(&(call, 0)), "{call} was never accepted");
+    }
 }
 
 #[test]

@@ -14,7 +14,7 @@ fn main() {
     let mut calls = 0;
     while calls < wanted {
         let seeds = seed..seed + 10_000;
-        match compare(seeds.clone(), &Proved, &Model::default()) {
+        match compare(seeds.clone(), &Proved, &Model) {
             Ok(tally) => calls += tally.calls,
             Err(case) => {
                 println!("{case}");

@@ -87,7 +87,7 @@ fn main() {
     for (name, flash) in volumes() {
         for call in CALLS {
             let (ours, number) = shortest(&Proved, &flash, call);
-            let (model, expected) = shortest(&Model::default(), &flash, call);
+            let (model, expected) = shortest(&Model, &flash, call);
             assert_eq!(number, expected, "{name}, {}", call.0);
             println!("| {name} | {} | {number} | {ours:.0} | {model:.0} | {:.2} |", call.0, ours / model);
         }
