@@ -43,7 +43,7 @@ use Rattle.demand2.specs.NewInode.{InodeNew, inode-new}
 use Rattle.demand2.specs.Store.{OneStored, one-stored, same-file-areas, same-clean}
 use Rattle.demand2.specs.Places.{place-found, all-placed}
 use Rattle.calls_laws.specs.Unused.{Smallest, unused-smallest}
-use Rattle.demand2.specs.Unused.{Unused, unnamed-unused, few-named}
+use Rattle.demand2.specs.Unused.{Unused, unnamed-unused, named-used, few-named}
 use Rattle.demand2.specs.Names.{GoodName, good-name, last-mem, names-split}
 use Rattle.demand2.specs.Found.{passed-check, lookup-refused, root-there, found-lives, found-once}
 use Rattle.demand2.specs.Found.{resolved, resolve-alike, read-given, read-kept}
@@ -128,6 +128,7 @@ pub record AfterCreate (image image′ : Bytes) (ds : List Descriptor) (base pat
   -- "the smallest id of their range that no accepted record names as id, parent, owner or previous"
   pub smallest : Smallest (firstIdOf kind) (namedIds (volume image ds)) id
   pub unused : Unused (volume image ds) id
+  pub least : (j : ℕ) → firstIdOf kind ≤ j → j < id → ¬ Unused (volume image ds) j
   -- "Create is told file or directory"
   pub an-inode : isInodeId id ≡ true
   pub of-kind : isDirectoryId id ≡ eqb kind 0
@@ -181,17 +182,17 @@ module _ (image : Bytes) (ds : List Descriptor) (base path : Bytes) (kind : ℕ)
   abbrev b : Bytes
   b = inodeBytes id 0 (g .directory) name
 
-  least : Smallest (firstIdOf kind) (namedIds v) id
+  least-id : Smallest (firstIdOf kind) (namedIds v) id
   unfolding newId
-  least = unused-smallest (firstIdOf kind) (namedIds v)
+  least-id = unused-smallest (firstIdOf kind) (namedIds v)
 
   free-id : Unused v id
-  free-id = unnamed-unused v id (least .unused)
+  free-id = unnamed-unused v id (least-id .unused)
 
   -- the id is in its range
   ranged : (id < firstBlockId) × (isDirectoryId id ≡ eqb kind 0)
   unfolding firstIdOf isDirectoryId
-  ranged = go (eqb kind 0) refl (least .from) (least .near)
+  ranged = go (eqb kind 0) refl (least-id .from) (least-id .near)
     where
       go : (t : Bool) → eqb kind 0 ≡ t → cond t rootId firstFileId ≤ id → id ≤ cond t rootId firstFileId + length (namedIds v)
           → (id < firstBlockId) × (ltb id firstFileId ≡ eqb kind 0)
@@ -334,8 +335,9 @@ module _ (image : Bytes) (ds : List Descriptor) (base path : Bytes) (kind : ℕ)
   unfolding isInodeId
   after-create = record {
     mounts = mounts image′ ds still;
-    smallest = least;
+    smallest = least-id;
     unused = free-id;
+    least = λ j h k. named-used v j (least-id .smallest j h k);
     an-inode = T→true (lt→ltb id firstBlockId (ranged .0));
     of-kind = ranged .1;
     lives = rw (is .id-is) at (now .lives);
