@@ -25,7 +25,7 @@ use Rattle.volume.specs.Path.{pathNames}
 use Rattle.volume_laws.specs.Tests.{true→T, T→true, not-is-false, eqb-differ}
 use Rattle.volume_laws.specs.Lists.{all-mem, mem-all, not-all, keep-mem, same-refl, keep-shorter}
 use Rattle.volume_laws.specs.Once.{Nodup, once-nodup, once-mem, pigeons}
-use Rattle.volume_laws.specs.Counting.{agree-sub, test-agree, counting-mem, fewer-ids}
+use Rattle.volume_laws.specs.Counting.{agree-sub, test-agree, counting-mem, counting-absent, fewer-ids}
 use Rattle.volume_laws.specs.Sound.{kinds-apart}
 use Rattle.volume_laws.specs.Climb.{fate-discrete, live-not-dead}
 use Rattle.calls.specs.Areas.{areaBytes, fileAreas, scratchAreas}
@@ -50,7 +50,7 @@ use Rattle.demand2.specs.Mounted.{agreed, accepted-kind, few-ids, ids-few}
 use Rattle.demand2.specs.Found.{root-there, root-lives, resolve-alike, read-alike}
 use Rattle.demand2.specs.Format.{own-ids}
 use Rattle.demand2_collect.specs.Dropped.{InodeDropped, BlockDropped, LeftOut, kept-fate, kept-inode, stays-live, no-new-life, same-lookups, kept-contents}
-use Rattle.demand2_collect.specs.Copies.{fewer-records, fewer-blocks, left-out}
+use Rattle.demand2_collect.specs.Copies.{inode-in, block-in, inode-not-copied, block-not-copied, fewer-records, fewer-blocks, left-out}
 use Rattle.demand2_collect.specs.Image.{CollectGoes, collect-goes, ImageCollected, image-collected}
 
 -- ---- check 2 by members
@@ -215,6 +215,15 @@ pub record AfterCollect (image image′ : Bytes) (ds : List Descriptor) : Type 0
       → (b : Bytes) → List·Memᴰ b (acceptedRecords image ds) → recordLink b ≡ i → recordId b ≡ i
   pub unowned : (i : ℕ) → inodeOf byBytes (volume image ds) i ≢ none → inodeOf byBytes (volume image′ ds) i ≡ none
       → (b : Bytes) → List·Memᴰ b (volume image ds .blocks) → byBytes .owner b ≢ i
+  -- and each such is left out: no record names it "as id, parent or owner, its own records in the source area apart"
+  pub inode-left-out : (i : ℕ) → fateOf byBytes (volume image ds) i ≡ dead
+      → ((b : Bytes) → List·Memᴰ b (recordsElsewhere image (fileAreas image ds) source) → (recordId b ≢ i) × (recordLink b ≢ i))
+      → ((b : Bytes) → List·Memᴰ b (bytesOf (recordsOf image source)) → recordLink b ≡ i → recordId b ≡ i)
+      → inodeOf byBytes (volume image′ ds) i ≡ none
+  -- "A dead block isn't copied if no other file area has a record of its id"
+  pub block-left-out : (i : ℕ) (r : Bytes) → blockOf byBytes (volume image ds) i ≡ some r → blockDead byBytes (volume image ds) r ≡ true
+      → ((b : Bytes) → List·Memᴰ b (recordsElsewhere image (fileAreas image ds) source) → recordId b ≢ i)
+      → blockOf byBytes (volume image′ ds) i ≡ none
   -- a file that was not dead has the blocks that it had, or is broken as it was
   pub contents : (f : ℕ) → fateOf byBytes (volume image ds) f ≢ dead
       → fileBlocks byBytes (volume image′ ds) f ≡ fileBlocks byBytes (volume image ds) f
@@ -399,6 +408,31 @@ module _ (image : Bytes) (ds : List Descriptor) (g : CollectGoes image ds) where
       go none q x = inl (x .none-left ∙ sym q)
       go (some r) q x = inr ((r, q, ap isDead (x .died r q)), x .none-left)
 
+  inode-gone : (i : ℕ) → fateOf byBytes v i ≡ dead
+      → ((b : Bytes) → List·Memᴰ b (recordsElsewhere image (fileAreas image ds) s) → (recordId b ≢ i) × (recordLink b ≢ i))
+      → ((b : Bytes) → List·Memᴰ b (bytesOf (recordsOf image s)) → recordLink b ≡ i → recordId b ≡ i)
+      → inodeOf byBytes w i ≡ none
+  unfolding volume
+  inode-gone i died others own = counting-absent byBytes (w .inodes) i gone
+    where
+      gone : (b : Bytes) → List·Memᴰ b (w .inodes) → recordId b ≢ i
+      gone b m =
+          let k = inode-in (acceptedRecords image′ ds) b m in
+          ⊎-elim (λ n. inode-not-copied v _ _ i died others own b n (k .1)) (λ n. others b n .0) (c .moved .is b (k .0))
+
+  block-gone : (i : ℕ) (r : Bytes) → blockOf byBytes v i ≡ some r → blockDead byBytes v r ≡ true
+      → ((b : Bytes) → List·Memᴰ b (recordsElsewhere image (fileAreas image ds) s) → recordId b ≢ i) → blockOf byBytes w i ≡ none
+  unfolding volume
+  block-gone i r q died others = counting-absent byBytes (w .blocks) i gone
+    where
+      gone : (b : Bytes) → List·Memᴰ b (w .blocks) → recordId b ≢ i
+      gone b m e =
+          let k = block-in (acceptedRecords image′ ds) b m in
+          ⊎-elim (λ n.
+          let y : _≡_ {A = Option Bytes} (some b) (some r) = sym (survive .block-counts b n (k .1)) ∙ ap (blockOf byBytes v) e ∙ q in
+          let u : b ≡ r = cc in
+          block-not-copied v _ _ i others b n (k .1) (rw u died) e) (λ n. others b n e) (c .moved .is b (k .0))
+
   -- ---- the file areas
 
   area-file : (d : Descriptor) → List·Memᴰ d (fileAreas image′ ds) ↔ ((d ≡ t) ⊎ (List·Memᴰ d (fileAreas image ds) × (d ≢ s)))
@@ -448,6 +482,8 @@ module _ (image : Bytes) (ds : List Descriptor) (g : CollectGoes image ds) where
     unnamed = λ i n z b m e. let x = inode-left i n z in
         ⊎-elim (λ k. x .unnamed b k e) (λ k. x .unowned b k e) (accepted-kind image ds b m);
     unowned = not-owned;
+    inode-left-out = inode-gone;
+    block-left-out = block-gone;
     contents = kept-contents byBytes v w left;
     paths = same-paths;
     reads = same-reads;
