@@ -55,7 +55,8 @@ module _ (v : Volume Bytes) (source elsewhere : List Bytes) (i : ℕ) where
   unfolding drops dropsInode namesInode
   inode-not-copied died none-elsewhere own b m k e = not-dropped b m (rw (drops, k, dropsInode, e, died) (mem-all _ _ unnamed))
     where
-      unnamed : (c : Bytes) → List·Memᴰ c (keep (λ c. not (eqb (recordId c) i)) source ++ elsewhere) → T (not (eqb (recordId c) i || eqb (recordLink c) i))
+      unnamed : (c : Bytes) → List·Memᴰ c (keep (λ c. not (eqb (recordId c) i)) source ++ elsewhere)
+          → T (not (eqb (recordId c) i || eqb (recordLink c) i))
       unnamed c n = ⊎-elim
           (λ z. let s = keep-mem (λ c. not (eqb (recordId c) i)) source z in
           let o : recordId c ≢ i = λ q. T-not (eqb (recordId c) i) (s .1) (rw q (eqb-refl i)) in
