@@ -33,10 +33,10 @@ use Rattle.demand2.specs.Append.{append-goes}
 use Rattle.demand2.specs.Unlink.{unlink-goes}
 use Rattle.demand2.specs.Refused.{refused-calls}
 use Rattle.demand2_collect.specs.Collect.{collect}
-use Rattle.demand1.specs.Words.{OnlyStored, OnlyRead, AcceptedCalls, Demand1}
+use Rattle.demand1.specs.Words.{OnlyStored, OnlyOne, OnlyRead, AcceptedCalls, Demand1}
 use Rattle.demand1.specs.Exactly.{exactly}
 use Rattle.demand1.specs.Numbers.{numbers}
-use Rattle.demand1.specs.Stores.{only-stored}
+use Rattle.demand1.specs.Stores.{only-stored, only-one}
 
 -- ---- a read
 
@@ -88,13 +88,13 @@ no-more image ds id position room =
 module _ (image : Bytes) (ds : List Descriptor) where
   created : (base path : Bytes) (kind : ℕ) → createOf image ds base path kind .number ≡ 0
       → (d : ℕ) × (lookupNames byBytes (volume image ds) (namesBefore (pathNames base path)) ≡ found d)
-      × OnlyStored image (imageCreated image ds base path kind) ds (newInode (volume image ds) kind d (lastName (pathNames base path)) ∷ [])
+      × OnlyOne image (imageCreated image ds base path kind) ds (newInode (volume image ds) kind d (lastName (pathNames base path)))
   unfolding imageCreated
   created base path kind e =
       let g = create-goes image ds base path kind e in (
         g .directory,
         g .found-there,
-        rw (imageCreated, g .goes, g .placed) (only-stored image ds (passes image ds (g .mounted) .described) _ (g .stores) (g .placed)),
+        rw (imageCreated, g .goes, g .placed) (only-one image ds (passes image ds (g .mounted) .described) _ (g .stores) (g .placed)),
       )
 
   appended : (base path text : Bytes) → appendOf image ds base path text ≡ 0
@@ -109,14 +109,14 @@ module _ (image : Bytes) (ds : List Descriptor) where
       )
 
   unlinked : (base path : Bytes) → unlinkOf image ds base path ≡ 0
-      → (i : ℕ) × (resolve image ds base path ≡ found i) × OnlyStored image (imageUnlinked image ds base path) ds (deletion (volume image ds) i ∷ [])
+      → (i : ℕ) × (resolve image ds base path ≡ found i) × OnlyOne image (imageUnlinked image ds base path) ds (deletion (volume image ds) i)
   unfolding imageUnlinked imageRewritten rewritePlan deletion
   unlinked base path e =
       let g = unlink-goes image ds base path e in (
         g .inode,
         resolved image ds base path (g .mounted) ∙ rw (g .good) (g .found-there),
         rw (imageUnlinked, g .goes, imageRewritten, rewritePlan, g .placed)
-            (only-stored image ds (passes image ds (g .mounted) .described) _ (g .stores) (g .placed)),
+            (only-one image ds (passes image ds (g .mounted) .described) _ (g .stores) (g .placed)),
       )
 
   accepted-calls : AcceptedCalls image ds

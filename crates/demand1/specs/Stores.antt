@@ -26,7 +26,8 @@ use Rattle.calls_laws.specs.Checks.{area-fits}
 use Rattle.calls_laws.specs.Storing.{kept-fit}
 use Rattle.image_laws.specs.Laws.{length-put, byte-outside, part-length, part-byte}
 use Rattle.demand2.specs.Store.{freePlace, file-listed, area-length}
-use Rattle.demand1.specs.Words.{ChangedOnly, InStore, OverErased, OnlyStored}
+use Rattle.demand2.specs.NewRecord.{WrittenOne, one-placed}
+use Rattle.demand1.specs.Words.{ChangedOnly, InStore, OverErased, OnlyStored, OnlyOne}
 
 -- ---- free space is erased, in any area
 
@@ -210,39 +211,40 @@ stores-change (s ∷ l) image h = go (stores-change l (put image (s .place) (s .
         }
 
 module _ (image : Bytes) (ds : List Descriptor) (described : badDescription image ds ≡ false) where
+  -- a store into the free space of a clean file area
+  free-erased : (s : Store) (d : Descriptor) → List·Memᴰ d (fileAreas image ds) → areaClean recordSize (areaBytes image d) ≡ true
+      → Inside (record { from = freePlace image d; end = areaEnd d }) (s .place) (length (s .bytes)) → OverErased image ds s
+  free-erased s d f c k = record { area = d; file = f; clean = c; in-free = (k .behind, k .before-end); were-erased = was }
+    where
+      h : (areaHeaderSize ≤ d .length) × (areaEnd d ≤ length image)
+      h = area-fits image ds described d (file-listed image ds d f)
+
+      long : length (areaBytes image d) ≡ d .length
+      long = area-length image d (h .1)
+
+      -- the byte at j of the area
+      byte : (j : ℕ) → freePlace image d ≤ d .offset + j → j < d .length → byteAt image (d .offset + j) ≡ ERASED
+      byte j a b = sym (part-byte image (d .offset) (d .length) j b)
+          ∙ area-erased (areaBytes image d) (omega (arith, long, h .0)) j (omega arith) (omega (arith, long))
+
+      was : part image (s .place) (length (s .bytes)) ≡ erased (length (s .bytes))
+      was =
+          let n = part-length image (s .place) (length (s .bytes)) (omega (arith, k .before-end, h .1)) in
+          ext-getD 0 (part image (s .place) (length (s .bytes))) (erased (length (s .bytes)))
+          (n ∙ sym (length-replicate (length (s .bytes)) ERASED))
+          (λ i g.
+          let l : i < length (s .bytes) = omega arith in
+          let j = s .place + i - d .offset in
+          let e : d .offset + j ≡ s .place + i = omega (arith, k .behind) in
+          part-byte image (s .place) (length (s .bytes)) i l
+          ∙ ap (byteAt image) (sym e)
+          ∙ byte j (omega (arith, k .behind)) (omega (arith, k .before-end))
+          ∙ sym (getD-replicate (length (s .bytes)) i ERASED 0 l))
+
   space-erased : (s : Store) → InSome (spaces image (fileAreas image ds)) (s .place) (length (s .bytes)) → OverErased image ds s
   space-erased s i =
       let t = space-of image (fileAreas image ds) (i .0) (i .1) in
-      at (t .0) (t .1) (t .2) (rw (t .3) at (i .2))
-    where
-      at : (d : Descriptor) → List·Memᴰ d (fileAreas image ds) → areaClean recordSize (areaBytes image d) ≡ true
-          → Inside (record { from = freePlace image d; end = areaEnd d }) (s .place) (length (s .bytes)) → OverErased image ds s
-      at d f c k = record { area = d; file = f; clean = c; in-free = (k .behind, k .before-end); were-erased = was }
-        where
-          h : (areaHeaderSize ≤ d .length) × (areaEnd d ≤ length image)
-          h = area-fits image ds described d (file-listed image ds d f)
-
-          long : length (areaBytes image d) ≡ d .length
-          long = area-length image d (h .1)
-
-          -- the byte at j of the area
-          byte : (j : ℕ) → freePlace image d ≤ d .offset + j → j < d .length → byteAt image (d .offset + j) ≡ ERASED
-          byte j a b = sym (part-byte image (d .offset) (d .length) j b)
-              ∙ area-erased (areaBytes image d) (omega (arith, long, h .0)) j (omega arith) (omega (arith, long))
-
-          was : part image (s .place) (length (s .bytes)) ≡ erased (length (s .bytes))
-          was =
-              let n = part-length image (s .place) (length (s .bytes)) (omega (arith, k .before-end, h .1)) in
-              ext-getD 0 (part image (s .place) (length (s .bytes))) (erased (length (s .bytes)))
-              (n ∙ sym (length-replicate (length (s .bytes)) ERASED))
-              (λ i g.
-              let l : i < length (s .bytes) = omega arith in
-              let j = s .place + i - d .offset in
-              let e : d .offset + j ≡ s .place + i = omega (arith, k .behind) in
-              part-byte image (s .place) (length (s .bytes)) i l
-              ∙ ap (byteAt image) (sym e)
-              ∙ byte j (omega (arith, k .behind)) (omega (arith, k .before-end))
-              ∙ sym (getD-replicate (length (s .bytes)) i ERASED 0 l))
+      free-erased s (t .0) (t .1) (t .2) (rw (t .3) at (i .2))
 
   -- records placed and stored
   pub only-stored : (bs : List Bytes) (l : List Store) → placeAll (spaces image (fileAreas image ds)) bs ≡ some l
@@ -258,3 +260,22 @@ module _ (image : Bytes) (ds : List Descriptor) (described : badDescription imag
     where
       inside : (s : Store) → OverErased image ds s → s .place + length (s .bytes) ≤ length image
       inside s o = omega (arith, o .in-free .1, area-fits image ds described (o .area) (file-listed image ds (o .area) (o .file)) .1)
+
+  -- one record alone
+  pub only-one : (b : Bytes) (l : List Store) → placeAll (spaces image (fileAreas image ds)) (b ∷ []) ≡ some l → OnlyOne image (storeAll image l) ds b
+  only-one b l e = at (one-placed image ds described b l e)
+    where
+      at : WrittenOne image (storeAll image l) ds b → OnlyOne image (storeAll image l) ds b
+      at w =
+          let s : Store = record { place = freePlace image (w .area); bytes = b } in
+          let k = area-fits image ds described (w .area) (file-listed image ds (w .area) (w .fits .file)) in
+          let h : freePlace image (w .area) + length b ≤ length image = omega (arith, w .fits .room, k .1) in
+          let o = free-erased s (w .area) (w .fits .file) (w .fits .clean) (record { behind = omega arith; before-end = w .fits .room }) in
+          record {
+            written = w;
+            were-erased = o .were-erased;
+            changed = rw (w .image-is) (record {
+              one-length = length-put image (freePlace image (w .area)) b h;
+              others-kept = λ i n. byte-outside image (freePlace image (w .area)) b h i (λ j f e. n (omega arith, omega arith));
+            });
+          }

@@ -30,6 +30,7 @@ use Rattle.calls.specs.declared.Descriptor.{Descriptor}
 use Rattle.calls.specs.declared.Handle.{Handle}
 use Rattle.calls_laws.specs.Checks.{InArea}
 use Rattle.demand2.specs.Store.{freePlace}
+use Rattle.demand2.specs.NewRecord.{WrittenOne}
 use Rattle.demand2.specs.Refused.{RefusedCalls}
 use Rattle.demand1.specs.Table.{Exactly}
 
@@ -91,7 +92,7 @@ pub record ChangedOnly (P : ℕ → Type 0) (before after : Bytes) : Type 0 wher
 abbrev pub InStore : Store → ℕ → Type 0
 InStore s i = (s .place ≤ i) × (i < s .place + length (s .bytes))
 
--- "Each record goes to the first clean file area .. with room, at the start of its free space, over FF bytes only"
+-- "over FF bytes only", in the free space of a clean file area; demand 2 says in which and where
 pub record OverErased (image : Bytes) (ds : List Descriptor) (s : Store) : Type 0 where
   pub area : Descriptor
   pub file : List·Memᴰ area (fileAreas image ds)
@@ -105,6 +106,13 @@ pub record OnlyStored (image image′ : Bytes) (ds : List Descriptor) (bs : List
   pub each : map (λ s. s .bytes) stores ≡ bs
   pub over-erased : (s : Store) → List·Memᴰ s stores → OverErased image ds s
   pub changed : ChangedOnly (λ i. (s : Store) × List·Memᴰ s stores × InStore s i) image image′
+
+-- "Each record goes to the first clean file area, in descriptor order, with room, at the start of its free space, over FF bytes only": the record b
+-- alone is stored, and no other byte is changed
+pub record OnlyOne (image image′ : Bytes) (ds : List Descriptor) (b : Bytes) : Type 0 where
+  pub written : WrittenOne image image′ ds b
+  pub were-erased : part image (freePlace image (written .area)) (length b) ≡ erased (length b)
+  pub changed : ChangedOnly (InStore (record { place = freePlace image (written .area); bytes = b })) image image′
 
 -- "A read gives as many bytes as the buffer and the file allow, in the front of the buffer", "a read moves the position in place"
 pub record OnlyRead (g : Given) (h : Handle) (buffer : Bytes) : Type 0 where
@@ -123,14 +131,14 @@ pub record AcceptedCalls (image : Bytes) (ds : List Descriptor) : Type 0 where
   -- one new record, below the directory d
   pub create : (base path : Bytes) (kind : ℕ) → createOf image ds base path kind .number ≡ 0
       → (d : ℕ) × (lookupNames byBytes (volume image ds) (namesBefore (pathNames base path)) ≡ found d)
-      × OnlyStored image (imageCreated image ds base path kind) ds (newInode (volume image ds) kind d (lastName (pathNames base path)) ∷ [])
+      × OnlyOne image (imageCreated image ds base path kind) ds (newInode (volume image ds) kind d (lastName (pathNames base path)))
   -- the pieces, for the file f
   pub append : (base path text : Bytes) → appendOf image ds base path text ≡ 0
       → (f : ℕ) × (resolve image ds base path ≡ found f)
       × OnlyStored image (imageAppended image ds base path text) ds (newBlocks image ds f text)
   -- "a deletion record", of the inode i
   pub unlink : (base path : Bytes) → unlinkOf image ds base path ≡ 0
-      → (i : ℕ) × (resolve image ds base path ≡ found i) × OnlyStored image (imageUnlinked image ds base path) ds (deletion (volume image ds) i ∷ [])
+      → (i : ℕ) × (resolve image ds base path ≡ found i) × OnlyOne image (imageUnlinked image ds base path) ds (deletion (volume image ds) i)
   -- scratch and the source area
   pub collect : collectOf image ds ≡ 0
       → (scratch source : Descriptor) × (scratchAreas image ds ≡ scratch ∷ []) × (sourceOf image (fileAreas image ds) scratch ≡ some source)

@@ -1,7 +1,7 @@
 -- Append. Demand 2: "After an append the file reads as its old contents and then the new data."
 use Prim.Native.Nat.{ℕ, _+_, _≤_, _<_}
 use mathlib.Core.Path.{_≡_, refl, sym, ap, _∙_}
-use mathlib.Core.Logic.{_≢_, inr}
+use mathlib.Core.Logic.{_≢_, _⊎_, inl, inr, ⊎-elim}
 use mathlib.Core.Bool.{true, false, cond, not, _||_}
 use mathlib.Core.Option.{Option, none, some}
 use mathlib.Core.List.{List, [], _∷_, _++_, map, append-assoc, List·Memᴰ, List·Memᴰ·head}
@@ -42,14 +42,14 @@ use Rattle.calls_laws.specs.Records.{volume-sound}
 use Rattle.calls_laws.specs.Attempt.{attempt-goes}
 use Rattle.demand2.specs.Area.{Whole}
 use Rattle.demand2.specs.Places.{AreaGrown, areas-grown, place-found, Written, all-placed, octets-written, written-areas, written-clean}
-use Rattle.demand2.specs.Unused.{Unused, block-named, unnamed-unused, few-named}
+use Rattle.demand2.specs.Unused.{Unused, block-named, unnamed-unused, named-used, few-named}
 use Rattle.demand2.specs.Added.{same-inode, same-fate, same-lookup}
 use Rattle.demand2.specs.Mounted.{agreed-inodes}
 use Rattle.demand2.specs.Found.{passed-check, lookup-refused, root-there, found-lives, resolved, resolve-alike, read-given, read-kept}
 use Rattle.demand2.specs.NewRecord.{IsBlock}
 use Rattle.demand2.specs.Cut.{Sized, pieces-joined, pieces-sized, pieces-good}
 use Rattle.demand2.specs.Pieces.{Behind, nothing, a-block, mostNames, Made, made, made-each, made-texts, texts-joined, made-count, made-unnamed}
-use Rattle.demand2.specs.Pieces.{BlocksName, Chained, made-chain, lastId, last-is, Grown, all-grown}
+use Rattle.demand2.specs.Pieces.{BlocksName, Chained, made-chain, chain-least, lastId, last-is, Grown, all-grown}
 
 text-append : (bs cs : List Bytes) → textOf byBytes (bs ++ cs) ≡ textOf byBytes bs ++ textOf byBytes cs
 unfolding textOf
@@ -152,8 +152,11 @@ pub record AfterAppend (image image′ : Bytes) (ds : List Descriptor) (base pat
   pub inodes : (i : ℕ) → inodeOf byBytes (volume image′ ds) i ≡ inodeOf byBytes (volume image ds) i
   pub fates : (i : ℕ) → fateOf byBytes (volume image′ ds) i ≡ fateOf byBytes (volume image ds) i
   pub contents : (f : ℕ) → f ≢ file → fileBlocks byBytes (volume image′ ds) f ≡ fileBlocks byBytes (volume image ds) f
-  -- each new record bears an id that no record named
+  -- each new record bears an id that no record named, and a smaller one of the range was named by a record or taken by a piece before
   pub unused : (b : Bytes) → List·Memᴰ b (newBlocks image ds file text) → Unused (volume image ds) (recordId b)
+  pub least : (before behind : List Bytes) (b : Bytes) → newBlocks image ds file text ≡ before ++ (b ∷ behind)
+      → (j : ℕ) → firstBlockId ≤ j → j < recordId b
+      → (¬ Unused (volume image ds) j) ⊎ ((c : Bytes) × List·Memᴰ c before × (recordId c ≡ j))
   -- "the smallest id", piece by piece, "each naming the one before": the first names the file's last old block, NONE where there was none
   pub chained : Chained file (namedIds (volume image ds)) (lastId old) (newBlocks image ds file text)
   -- "pieces of the greatest block size, the last one shorter"; "0 bytes write nothing"
@@ -256,6 +259,10 @@ module _ (image : Bytes) (ds : List Descriptor) (base path text : Bytes) (octets
   grown = rw records-are (all-grown ds f pieces image image′ (namedIds v) (last .0) p named behind (last .1) names-few
       (omega (arith, counted, g .few)) all-made (rw records-are at all-went))
 
+  all-chained : Chained f (namedIds v) (lastId (g .old)) (newBlocks image ds f text)
+  all-chained = rw (records-are, ← last-is v f (last .0) (g .old) (last .1) (g .not-broken))
+      (made-chain pieces (namedIds v) f (last .0) all-made)
+
   new-texts : map (byBytes .text) (newBlocks image ds f text) ≡ pieces
   new-texts = ap (map (byBytes .text)) records-are ∙ made-texts pieces (namedIds v) f (last .0) all-made
 
@@ -300,8 +307,8 @@ module _ (image : Bytes) (ds : List Descriptor) (base path text : Bytes) (octets
     fates = new-fates;
     contents = grown .other-files;
     unused = λ b m. unnamed-unused v (recordId b) (made-unnamed pieces (namedIds v) f (last .0) all-made b (rw records-are at m));
-    chained = rw (records-are, ← last-is v f (last .0) (g .old) (last .1) (g .not-broken))
-        (made-chain pieces (namedIds v) f (last .0) all-made);
+    least = λ before behind b e j h k. ⊎-elim (λ m. inl (named-used v j m)) inr (chain-least before behind b (rw e at all-chained) j h k);
+    chained = all-chained;
     sizes = rw new-texts (pieces-sized image ds p text);
     no-pieces = nothing-cut image ds f text;
     went = all-went;

@@ -1,11 +1,12 @@
 -- Records as writers make them: whole, of their kind, and with the fields that were meant.
 use Prim.Native.Nat.{ℕ}
-use mathlib.Core.Path.{_≡_, refl}
+use mathlib.Core.Path.{_≡_, refl, ap, _∙_}
 use mathlib.Core.Logic.{_≢_}
 use mathlib.Core.Bool.{true, false}
 use mathlib.Core.Option.{Option, none, some}
 use mathlib.Core.List.{List, [], _∷_, append-nil, List·Memᴰ}
 use native.Mathlib.Omega.{arith}
+use lib.ListN.{length}
 use lib.Dec.{eqb}
 use Rattle.format.specs.Bytes.{Bytes}
 use Rattle.format.specs.Record.{inode, block, recordSize, recordId, recordSequence, acceptable}
@@ -23,11 +24,13 @@ use Rattle.volume_laws.specs.Lists.{keep-none}
 use Rattle.volume_laws.specs.Counting.{counting-mem}
 use Rattle.calls.specs.Image.{put}
 use Rattle.calls.specs.Areas.{fileAreas}
+use Rattle.calls.specs.Mount.{badDescription}
+use Rattle.calls.specs.Storing.{Store, spaces, firstFit, placeAll, storeAll}
 use Rattle.calls.specs.declared.Descriptor.{Descriptor}
 use Rattle.demand2.specs.Octet.{octets-put, octets-inode, octets-block}
 use Rattle.demand2.specs.Area.{Whole}
 use Rattle.demand2.specs.Store.{freePlace, RecordFits, FirstWithRoom}
-use Rattle.demand2.specs.Places.{Written, written, all-written}
+use Rattle.demand2.specs.Places.{files-distinct, first-fitted, bound, prepended}
 
 pub record IsInode (b : Bytes) (id sequence parent : ℕ) (name : Bytes) : Type 0 where
   pub whole : Whole recordSize b
@@ -90,8 +93,23 @@ pub record WrittenOne (image image′ : Bytes) (ds : List Descriptor) (b : Bytes
   pub first : FirstWithRoom image (fileAreas image ds) area b
   pub image-is : image′ ≡ put image (freePlace image area) b
 
-pub written-one : {ds : List Descriptor} {image image′ b : Bytes} → Written ds image (b ∷ []) image′ → WrittenOne image image′ ds b
-written-one (written area f t w all-written) = record { area = area; fits = f; first = t; image-is = refl }
+-- what `placeAll` places alone is so stored, whatever its bytes
+pub one-placed : (image : Bytes) (ds : List Descriptor) → badDescription image ds ≡ false → (b : Bytes) (l : List Store)
+    → placeAll (spaces image (fileAreas image ds)) (b ∷ []) ≡ some l → WrittenOne image (storeAll image l) ds b
+unfolding placeAll storeAll
+one-placed image ds described b l e =
+    let f = bound (firstFit (length b) (spaces image (fileAreas image ds))) _ l e in
+    let p = prepended _ (placeAll (f .0 .left) []) l (f .2) in
+    let t = first-fitted image ds described b (fileAreas image ds) (files-distinct image ds described) (λ d m. m) (f .0) (f .1) in
+    record {
+      area = t .area;
+      fits = t .fits;
+      first = t .first;
+      image-is = ap (storeAll image) (p .2) ∙ alone (f .0 .place) (p .0) (p .1) ∙ ap (λ (n : ℕ). put image n b) (t .placed-at);
+    }
+  where
+    alone : (n : ℕ) (m : List Store) → some [] ≡ some m → storeAll image (record { place = n; bytes = b } ∷ m) ≡ put image n b
+    alone n m q = let z : m ≡ [] = cc in rw z
 
 pub octets-one : {image image′ b : Bytes} {ds : List Descriptor} → WrittenOne image image′ ds b → Octets b → Octets image → Octets image′
 octets-one {image} {b = b} w k o = rw (w .image-is) (octets-put image (freePlace image (w .area)) b o k)

@@ -148,6 +148,15 @@ made-chain (p ∷ ps) names f previous m = on (blockRecords (next names ∷ name
         })
         (rw (m .id-is) ih)
 
+-- every smaller id is named, or was taken by one before
+pub chain-least : (before behind : List Bytes) (b : Bytes) {f previous : ℕ} {names : List ℕ} → Chained f names previous (before ++ (b ∷ behind))
+    → (j : ℕ) → firstBlockId ≤ j → j < recordId b → List·Memᴰ j names ⊎ ((c : Bytes) × List·Memᴰ c before × (recordId c ≡ j))
+chain-least [] behind b (chain-on n c) j h k = inl (n .smallest .smallest j h k)
+chain-least (a ∷ before) behind b (chain-on n c) j h k = ⊎-elim
+    (λ m. ⊎-elim (λ e. inr (a, List·Memᴰ·head refl, sym e)) inl (List·Memᴰ·cases-cons m))
+    (λ t. inr (t .0, List·Memᴰ·tail (t .1), t .2))
+    (chain-least before behind b c j h k)
+
 -- the id of the last of these blocks, NONE where there is none
 abbrev pub lastId : List Bytes → ℕ
 lastId [] = NONE

@@ -99,16 +99,16 @@ unfolding spaces
 spaces-same image image′ [] h = refl
 spaces-same image image′ (d ∷ fs) h = rw (h d (List·Memᴰ·head refl), spaces-same image image′ fs (λ e m. h e (List·Memᴰ·tail m)))
 
--- the area that `firstFit` found for b, and the spaces after b is stored there
+-- the area that `firstFit` found for b, and the spaces after b, a whole record, is stored there
 pub record Fitted (image : Bytes) (ds fs : List Descriptor) (b : Bytes) (f : Fit) : Type 0 where
   pub area : Descriptor
   pub among : List·Memᴰ area fs
   pub fits : RecordFits image ds area b
   pub first : FirstWithRoom image fs area b
   pub placed-at : f .place ≡ freePlace image area
-  pub left-is : spaces (put image (freePlace image area) b) fs ≡ f .left
+  pub left-is : Whole recordSize b → spaces (put image (freePlace image area) b) fs ≡ f .left
 
-module _ (image : Bytes) (ds : List Descriptor) (described : badDescription image ds ≡ false) (b : Bytes) (w : Whole recordSize b) where
+module _ (image : Bytes) (ds : List Descriptor) (described : badDescription image ds ≡ false) (b : Bytes) where
   pub first-fitted : (fs : List Descriptor) → Distinct fs → ((d : Descriptor) → List·Memᴰ d fs → List·Memᴰ d (fileAreas image ds)) → (f : Fit)
       → firstFit (length b) (spaces image fs) ≡ some f → Fitted image ds fs b f
   unfolding firstFit spaces
@@ -122,8 +122,9 @@ module _ (image : Bytes) (ds : List Descriptor) (described : badDescription imag
       listed e m = file-listed image ds e (h e m)
 
       -- stored elsewhere, d is as it was
-      untouched : (a : Descriptor) → List·Memᴰ a fs → RecordFits image ds a b → areaBytes (put image (freePlace image a) b) d ≡ areaBytes image d
-      untouched a m t =
+      untouched : (a : Descriptor) → List·Memᴰ a fs → RecordFits image ds a b → Whole recordSize b
+          → areaBytes (put image (freePlace image a) b) d ≡ areaBytes image d
+      untouched a m t w =
           one-stored image ds described a b t w .elsewhere d (listed d (List·Memᴰ·head refl)) (λ q. n .0 (Memᴰ·cast q m))
 
       -- d was passed over
@@ -143,7 +144,7 @@ module _ (image : Bytes) (ds : List Descriptor) (described : badDescription imag
         fits = t .fits;
         first = later (t .area) (λ k. absurd (rw c at (true→T k))) (t .first);
         placed-at = t .placed-at;
-        left-is = rw (untouched (t .area) (t .among) (t .fits), c) (t .left-is);
+        left-is = λ w. rw (untouched (t .area) (t .among) (t .fits) w, c) (t .left-is w);
       }
 
       too-short : (g : Fit) → areaClean recordSize (areaBytes image d) ≡ true → areaEnd d < freePlace image d + length b → Fitted image ds fs b g
@@ -155,7 +156,7 @@ module _ (image : Bytes) (ds : List Descriptor) (described : badDescription imag
         fits = t .fits;
         first = later (t .area) (λ k. short) (t .first);
         placed-at = p ∙ t .placed-at;
-        left-is = rw (untouched (t .area) (t .among) (t .fits), c, l, t .left-is);
+        left-is = λ w. rw (untouched (t .area) (t .among) (t .fits) w, c, l, t .left-is w);
       }
 
       taken : areaClean recordSize (areaBytes image d) ≡ true → freePlace image d + length b ≤ areaEnd d
@@ -163,17 +164,18 @@ module _ (image : Bytes) (ds : List Descriptor) (described : badDescription imag
           → Fitted image ds (d ∷ fs) b f
       taken c r p l =
           let t : RecordFits image ds d b = record { file = h d (List·Memᴰ·head refl); clean = c; room = r } in
-          let s = one-stored image ds described d b t w in
-          let k = spaces-same image (put image (freePlace image d) b) fs
-          (λ e m. s .elsewhere e (listed e (List·Memᴰ·tail m)) (λ q. n .0 (Memᴰ·cast (sym q) m))) in
-          let z : d .offset + (areaFree recordSize (areaBytes image d) + length b) ≡ freePlace image d + length b = omega arith in
           record {
             area = d;
             among = List·Memᴰ·head refl;
             fits = t;
             first = record { before = []; behind = fs; split = refl; no-room = λ e m. absurd (List·Memᴰ·not-nil m) };
             placed-at = p;
-            left-is = rw (s .clean, s .free, z, k, l);
+            left-is = λ w.
+                let s = one-stored image ds described d b t w in
+                let k = spaces-same image (put image (freePlace image d) b) fs
+                (λ e m. s .elsewhere e (listed e (List·Memᴰ·tail m)) (λ q. n .0 (Memᴰ·cast (sym q) m))) in
+                let z : d .offset + (areaFree recordSize (areaBytes image d) + length b) ≡ freePlace image d + length b = omega arith in
+                rw (s .clean, s .free, z, k, l);
           }
 
       roomy : (x : Bool) → leb (freePlace image d + length b) (areaEnd d) ≡ x → areaClean recordSize (areaBytes image d) ≡ true
@@ -230,11 +232,11 @@ module _ (ds : List Descriptor) where
       let s = one-stored image ds described area b f w in
       written-clean (same-described s ∙ described) rest d m ∙ same-clean s (f .clean) d m
 
-bound : {A B : Type 0} (o : Option A) (f : A → Option B) (b : B) → bind o f ≡ some b → (a : A) × (o ≡ some a) × (f a ≡ some b)
+pub bound : {A B : Type 0} (o : Option A) (f : A → Option B) (b : B) → bind o f ≡ some b → (a : A) × (o ≡ some a) × (f a ≡ some b)
 bound none f b e = let z : _≡_ {A = ℕ} 0 1 = cc in absurd (omega arith)
 bound (some a) f b e = (a, refl, e)
 
-prepended : (s : Store) (o : Option (List Store)) (l : List Store) → prepend s o ≡ some l → (m : List Store) × (o ≡ some m) × (l ≡ s ∷ m)
+pub prepended : (s : Store) (o : Option (List Store)) (l : List Store) → prepend s o ≡ some l → (m : List Store) × (o ≡ some m) × (l ≡ s ∷ m)
 prepended s none l e = let z : _≡_ {A = ℕ} 0 1 = cc in absurd (omega arith)
 prepended s (some m) l e = (m, refl, cc)
 
@@ -263,10 +265,10 @@ all-placed ds image (b ∷ bs) l d w e =
         → placeAll (spaces y (fileAreas y ds)) bs ≡ some m → Written ds y bs (storeAll y m))
         → Written ds image (b ∷ bs) (storeAll image l)
     go f q m p r ih =
-        let t = first-fitted image ds d b it (fileAreas image ds) (files-distinct image ds d) (λ e m. m) f q in
+        let t = first-fitted image ds d b (fileAreas image ds) (files-distinct image ds d) (λ e m. m) f q in
         let s = one-stored image ds d (t .area) b (t .fits) it in
         let y = put image (freePlace image (t .area)) b in
-        let after : spaces y (fileAreas y ds) ≡ f .left = rw (same-file-areas s) (t .left-is) in
+        let after : spaces y (fileAreas y ds) ≡ f .left = rw (same-file-areas s) (t .left-is it) in
         rw r (at (t .area) (f .place) m (t .placed-at) (t .fits) (t .first)
         (ih y m (same-described s ∙ d) (λ c m. w c (List·Memᴰ·tail m)) (rw after p)))
 

@@ -4,7 +4,7 @@ use mathlib.Core.Path.{_≡_, sym, ap, _∙_}
 use mathlib.Core.Logic.{_≢_, ⊎-elim}
 use mathlib.Core.Bool.{true}
 use mathlib.Core.Option.{some}
-use mathlib.Core.List.{List, [], _∷_, List·Memᴰ, List·Memᴰ·eq-of-singleton, Memᴰ·cast}
+use mathlib.Core.List.{List, [], _∷_, List·Memᴰ, Memᴰ·cast}
 use native.Mathlib.Omega.{arith}
 use lib.ListN.{length}
 use Rattle.format.specs.Bytes.{Bytes}
@@ -25,12 +25,11 @@ use Rattle.calls.specs.declared.Descriptor.{Descriptor}
 use Rattle.calls_laws.specs.Checks.{Passes, passes}
 use Rattle.calls_laws.specs.Records.{volume-sound}
 use Rattle.demand2.specs.Store.{OneStored, one-stored, same-file-areas, same-clean}
-use Rattle.demand2.specs.Places.{all-placed}
 use Rattle.demand2.specs.Octet.{le32-fits, record-octets}
 use Rattle.demand2.specs.Added.{Same, Added, Changed, added-changed, known-ids, same-count, same-contents}
 use Rattle.demand2.specs.Mounted.{agreed-inodes, agreed-blocks, inode-accepted, accepted-kind, few-ids, ids-few, inodes-added, blocks-same}
 use Rattle.demand2.specs.Mounted.{still-passes}
-use Rattle.demand2.specs.NewRecord.{IsInode, inode-made, WrittenOne, written-one, octets-one}
+use Rattle.demand2.specs.NewRecord.{IsInode, inode-made, WrittenOne, one-placed, octets-one}
 
 -- What is asked: a record of the inode counts, a sequence and a place are left, and parent and name are such as an inode may bear.
 pub record Rewrites (image : Bytes) (ds : List Descriptor) (i parent : ℕ) (name : Bytes) : Type 0 where
@@ -133,8 +132,7 @@ module _ (image : Bytes) (ds : List Descriptor) (i parent : ℕ) (name : Bytes) 
   -- where it fits
   went-one : WrittenOne image image′ ds b
   unfolding imageRewritten rewritePlan
-  went-one = rw (imageRewritten, g .placed)
-      (written-one (all-placed ds image (b ∷ []) (g .stores) (p .described) (λ c m. rw (List·Memᴰ·eq-of-singleton m) (made .whole)) (g .placed)))
+  went-one = rw (imageRewritten, g .placed) (one-placed image ds (p .described) b (g .stores) (g .placed))
 
   -- and what becomes of the image
   stored-one : OneStored image image′ ds (went-one .area) b

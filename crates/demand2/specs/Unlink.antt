@@ -1,5 +1,5 @@
 -- Unlink. Document 01: "Unlink writes a deletion record, sequence plus one, no name; what lies below a directory goes with it."
-use Prim.Native.Nat.{ℕ}
+use Prim.Native.Nat.{ℕ, suc}
 use mathlib.Core.Path.{_≡_, refl, sym, ap, _∙_}
 use mathlib.Core.Logic.{_≢_, _⊎_, inl, inr, ⊎-elim}
 use mathlib.Core.Bool.{Bool, true, false, cond, not, _||_}
@@ -44,7 +44,7 @@ use Rattle.demand2.specs.Mounted.{agreed-inodes}
 use Rattle.demand2.specs.Found.{passed-check, lookup-refused, root-there, found-lives, found-once}
 use Rattle.demand2.specs.Found.{resolved, resolve-alike, read-given, read-kept}
 use Rattle.demand2.specs.Deletion.{found-no-root, found-sole, InodeGone, inode-gone}
-use Rattle.demand2.specs.NewRecord.{WrittenOne}
+use Rattle.demand2.specs.NewRecord.{IsInode, WrittenOne}
 use Rattle.demand2.specs.Rewritten.{Rewrites, AfterRewrite, inode-low, rewrite}
 
 -- what an accepted unlink found
@@ -130,6 +130,8 @@ pub record AfterUnlink (image image′ : Bytes) (ds : List Descriptor) (base pat
   pub deleted : inodeOf byBytes (volume image′ ds) inode ≡ some (deletion (volume image ds) inode)
   pub inodes : (j : ℕ) → j ≢ inode → inodeOf byBytes (volume image′ ds) j ≡ inodeOf byBytes (volume image ds) j
   pub contents : (f : ℕ) → fileBlocks byBytes (volume image′ ds) f ≡ fileBlocks byBytes (volume image ds) f
+  -- "a deletion record, sequence plus one, no name"
+  pub is : IsInode (deletion (volume image ds) inode) inode (suc (sequenceOf (inodeOf byBytes (volume image ds) inode))) NONE []
   -- the deletion record, and the clean file area that it went to
   pub went : WrittenOne image image′ ds (deletion (volume image ds) inode)
   pub stored : OneStored image image′ ds (went .area) (deletion (volume image ds) inode)
@@ -265,6 +267,7 @@ module _ (image : Bytes) (ds : List Descriptor) (base path : Bytes) (octets-imag
     deleted = done .here;
     inodes = done .others;
     contents = done .contents;
+    is = done .is;
     went = done .went;
     stored = done .stored;
     same-areas = done .same-areas;

@@ -1,9 +1,10 @@
 -- Ids for new records: the smallest of their range that no accepted record names.
 use Prim.Native.Nat.{ℕ, zero, suc, _+_, _*_, _≤_}
 use mathlib.Core.Path.{_≡_, refl, sym, ap}
-use mathlib.Core.Logic.{_≢_}
+use mathlib.Core.Logic.{_≢_, ⊎-elim}
 use mathlib.Core.Bool.{false, not}
 use mathlib.Core.List.{List, [], _∷_, List·Memᴰ, List·Memᴰ·head, List·Memᴰ·tail, Memᴰ·append-left, Memᴰ·append-right, Memᴰ·cast}
+use mathlib.Core.List.{List·Memᴰ·not-nil, List·Memᴰ·append-cases}
 use native.Mathlib.Omega.{arith}
 use lib.ListN.{length, take, drop, length-append, length-map, length-take, length-drop}
 use Rattle.format.specs.Bytes.{Bytes}
@@ -70,6 +71,33 @@ unnamed-unused v i n = record {
   no-owner = λ r m e. n (Memᴰ·append-right (namedByInodes (v .inodes)) (Memᴰ·cast (sym e) (by-blocks (v .blocks) r m .1)));
   no-previous = λ r m e. n (Memᴰ·append-right (namedByInodes (v .inodes)) (Memᴰ·cast (sym e) (by-blocks (v .blocks) r m .2)));
 }
+
+inodes-used : (rs : List Bytes) (i : ℕ) → ((r : Bytes) → List·Memᴰ r rs → recordId r ≢ i) → ((r : Bytes) → List·Memᴰ r rs → recordLink r ≢ i)
+    → ¬ List·Memᴰ i (namedByInodes rs)
+unfolding namedByInodes
+inodes-used [] i a b m = List·Memᴰ·not-nil m
+inodes-used (s ∷ rs) i a b (List·Memᴰ·head e) = a s (List·Memᴰ·head refl) (sym e)
+inodes-used (s ∷ rs) i a b (List·Memᴰ·tail (List·Memᴰ·head e)) = b s (List·Memᴰ·head refl) (sym e)
+inodes-used (s ∷ rs) i a b (List·Memᴰ·tail (List·Memᴰ·tail m)) =
+    inodes-used rs i (λ r k. a r (List·Memᴰ·tail k)) (λ r k. b r (List·Memᴰ·tail k)) m
+
+blocks-used : (rs : List Bytes) (i : ℕ) → ((r : Bytes) → List·Memᴰ r rs → recordId r ≢ i) → ((r : Bytes) → List·Memᴰ r rs → recordLink r ≢ i)
+    → ((r : Bytes) → List·Memᴰ r rs → blockPrevious r ≢ i) → ¬ List·Memᴰ i (namedByBlocks rs)
+unfolding namedByBlocks
+blocks-used [] i a b c m = List·Memᴰ·not-nil m
+blocks-used (s ∷ rs) i a b c (List·Memᴰ·head e) = a s (List·Memᴰ·head refl) (sym e)
+blocks-used (s ∷ rs) i a b c (List·Memᴰ·tail (List·Memᴰ·head e)) = b s (List·Memᴰ·head refl) (sym e)
+blocks-used (s ∷ rs) i a b c (List·Memᴰ·tail (List·Memᴰ·tail (List·Memᴰ·head e))) = c s (List·Memᴰ·head refl) (sym e)
+blocks-used (s ∷ rs) i a b c (List·Memᴰ·tail (List·Memᴰ·tail (List·Memᴰ·tail m))) =
+    blocks-used rs i (λ r k. a r (List·Memᴰ·tail k)) (λ r k. b r (List·Memᴰ·tail k)) (λ r k. c r (List·Memᴰ·tail k)) m
+
+-- and only what a record names is among the named ids
+pub named-used : (v : Volume Bytes) (i : ℕ) → List·Memᴰ i (namedIds v) → ¬ Unused v i
+unfolding namedIds
+named-used v i m u = ⊎-elim
+    (inodes-used (v .inodes) i (u .no-inode) (u .no-parent))
+    (blocks-used (v .blocks) i (u .no-block) (u .no-owner) (u .no-previous))
+    (List·Memᴰ·append-cases (namedByInodes (v .inodes)) m)
 
 -- ---- a volume names few ids: an area of n bytes has at most n records
 

@@ -3,29 +3,29 @@
 use Prim.Native.Nat.{ℕ, _≤_}
 use mathlib.Core.Path.{_≡_, refl, sym, ap, _∙_}
 use mathlib.Core.Logic.{_⊎_, inl, inr, _≢_, ⊎-elim, _↔_}
-use mathlib.Core.Bool.{true, false, not}
+use mathlib.Core.Bool.{Bool, true, false, cond, not}
 use mathlib.Core.Option.{Option, none, some}
-use mathlib.Core.List.{List, [], _∷_, map, List·Memᴰ, List·Memᴰ·head, List·Memᴰ·tail, List·Memᴰ·cases-cons, List·Memᴰ·not-nil, Memᴰ·cast, Memᴰ·map}
+use mathlib.Core.List.{List, [], _∷_, _++_, map, List·Memᴰ, List·Memᴰ·head, List·Memᴰ·tail, List·Memᴰ·cases-cons, List·Memᴰ·not-nil, Memᴰ·cast, Memᴰ·map}
 use mathlib.Core.List.{Memᴰ·of-map}
 use native.Mathlib.Omega.{arith}
 use lib.ListN.{length}
-use lib.Dec.{eqb, leb, leb→le, le→leb, nltb→le}
+use lib.Dec.{T, eqb, leb, eqb→eq, eqb-refl, leb→le, le→leb, nltb→le}
 use Rattle.format.specs.Bytes.{Bytes, byteAt}
 use Rattle.format.specs.Ids.{rootId}
 use Rattle.format.specs.AreaHeader.{areaId, scratchId}
 use Rattle.format.specs.Record.{recordSize, recordId, recordLink}
 use Rattle.format.specs.Reading.{areaClean}
 use Rattle.format_laws.specs.Crc.{Octets}
-use Rattle.volume.specs.Lists.{all, once}
+use Rattle.volume.specs.Lists.{keep, all, once}
 use Rattle.volume.specs.View.{byBytes}
 use Rattle.volume.specs.Counting.{Volume, volumeOf, inodeOf, blockOf, inodeIds, blockIds}
 use Rattle.volume.specs.Fate.{Fate, live, dead, orphan, isLive, isDead, fateOf, blockDead}
 use Rattle.volume.specs.Contents.{fileBlocks}
 use Rattle.volume.specs.Path.{pathNames}
 use Rattle.volume_laws.specs.Tests.{true→T, T→true, not-is-false, eqb-differ}
-use Rattle.volume_laws.specs.Lists.{all-mem, mem-all, same-refl, keep-shorter}
+use Rattle.volume_laws.specs.Lists.{all-mem, mem-all, not-all, keep-mem, same-refl, keep-shorter}
 use Rattle.volume_laws.specs.Once.{Nodup, once-nodup, once-mem, pigeons}
-use Rattle.volume_laws.specs.Counting.{agree-sub, test-agree, counting-mem, fewer-ids}
+use Rattle.volume_laws.specs.Counting.{agree-sub, test-agree, counting-mem, counting-absent, fewer-ids}
 use Rattle.volume_laws.specs.Sound.{kinds-apart}
 use Rattle.volume_laws.specs.Climb.{fate-discrete, live-not-dead}
 use Rattle.calls.specs.Areas.{areaBytes, fileAreas, scratchAreas}
@@ -34,7 +34,7 @@ use Rattle.calls.specs.Mount.{mountNumber}
 use Rattle.calls.specs.Format.{emptyArea}
 use Rattle.calls.specs.Lookup.{resolve}
 use Rattle.calls.specs.Read.{give, readGiven}
-use Rattle.calls.specs.Collect.{countOf, precedes, sourceOf, recordsElsewhere, copies, copiedRecords, nextCount, collected}
+use Rattle.calls.specs.Collect.{eligible, countOf, precedes, firstLowest, sourceOf, recordsElsewhere, copies, copiedRecords, nextCount, collected}
 use Rattle.calls.specs.Collect.{collectOf, imageCollected}
 use Rattle.calls.specs.declared.Descriptor.{Descriptor}
 use Rattle.calls_laws.specs.Checks.{Passes, passes, mounts, InArea}
@@ -50,7 +50,7 @@ use Rattle.demand2.specs.Mounted.{agreed, accepted-kind, few-ids, ids-few}
 use Rattle.demand2.specs.Found.{root-there, root-lives, resolve-alike, read-alike}
 use Rattle.demand2.specs.Format.{own-ids}
 use Rattle.demand2_collect.specs.Dropped.{InodeDropped, BlockDropped, LeftOut, kept-fate, kept-inode, stays-live, no-new-life, same-lookups, kept-contents}
-use Rattle.demand2_collect.specs.Copies.{fewer-records, fewer-blocks, left-out}
+use Rattle.demand2_collect.specs.Copies.{inode-in, block-in, inode-not-copied, block-not-copied, fewer-records, fewer-blocks, left-out}
 use Rattle.demand2_collect.specs.Image.{CollectGoes, collect-goes, ImageCollected, image-collected}
 
 -- ---- check 2 by members
@@ -91,6 +91,72 @@ sole-area (d ∷ []) n s m h = ap (λ (x : Descriptor). x ∷ []) (h d (List·Me
 sole-area (d ∷ e ∷ l) n s m h =
     absurd (n .0 (List·Memᴰ·head (h d (List·Memᴰ·head refl) ∙ sym (h e (List·Memᴰ·tail (List·Memᴰ·head refl))))))
 
+-- ---- the source
+
+-- "lowest collection count, first among equals, of those as long as scratch": another such area precedes each that comes before
+pub record FirstAmongEquals (image : Bytes) (fs : List Descriptor) (scratch source : Descriptor) : Type 0 where
+  pub before : List Descriptor
+  pub behind : List Descriptor
+  pub split : fs ≡ before ++ (source ∷ behind)
+  pub preceded : (d : Descriptor) → List·Memᴰ d before → d .length ≡ scratch .length
+      → (e : Descriptor) × List·Memᴰ e fs × (e .length ≡ scratch .length) × (precedes (countOf image e) (countOf image d) ≡ true)
+
+module _ (image : Bytes) (t s : Descriptor) where
+  abbrev as-long : Descriptor → Bool
+  as-long d = eqb (d .length) (t .length)
+
+  -- one of es precedes d
+  abbrev Preceded : List Descriptor → Descriptor → Type 0
+  Preceded es d = (e : Descriptor) × List·Memᴰ e es × (precedes (countOf image e) (countOf image d) ≡ true)
+
+  -- those of fs before s are preceded
+  abbrev Passed : List Descriptor → List Descriptor → Type 0
+  Passed es fs = (before behind : List Descriptor) × (fs ≡ before ++ (s ∷ behind))
+      × ((d : Descriptor) → List·Memᴰ d before → T (as-long d) → Preceded es d)
+
+  passed : (es fs : List Descriptor) → firstLowest image es (keep as-long fs) ≡ some s → Passed es fs
+  unfolding firstLowest keep
+  passed es [] q = let z : _≡_ {A = ℕ} 0 1 = cc in absurd (omega arith)
+  passed es (d ∷ fs) q = go (as-long d) refl q (passed es fs)
+    where
+      lower : Descriptor → Bool
+      lower e = not (precedes (countOf image e) (countOf image d))
+
+      later : (T (as-long d) → Preceded es d) → Passed es fs → Passed es (d ∷ fs)
+      later h r = (
+        d ∷ r .0,
+        r .1,
+        ap (λ (l : List Descriptor). d ∷ l) (r .2),
+        λ e m k. ⊎-elim (λ z. rw z (h (rw z at k))) (λ n. r .3 e n k) (List·Memᴰ·cases-cons m),
+      )
+
+      tested : (b : Bool) → all lower es ≡ b → cond b (some d) (firstLowest image es (keep as-long fs)) ≡ some s
+          → (firstLowest image es (keep as-long fs) ≡ some s → Passed es fs) → Passed es (d ∷ fs)
+      tested true a q ih = let z : d ≡ s = cc in
+          ([], fs, ap (λ (x : Descriptor). x ∷ fs) z, λ e m k. absurd (List·Memᴰ·not-nil m))
+      tested false a q ih =
+          let n = not-all lower es (λ u. rw a at u) in
+          later (λ k. (n .0, n .1, not-is-false (precedes (countOf image (n .0)) (countOf image d)) (n .2))) (ih q)
+
+      go : (b : Bool) → as-long d ≡ b → firstLowest image es (cond b (d ∷ keep as-long fs) (keep as-long fs)) ≡ some s
+          → (firstLowest image es (keep as-long fs) ≡ some s → Passed es fs) → Passed es (d ∷ fs)
+      go true e q ih = tested (all lower es) refl q ih
+      go false e q ih = later (λ k. absurd (rw e at k)) (ih q)
+
+  first-of : (fs : List Descriptor) → sourceOf image fs t ≡ some s → FirstAmongEquals image fs t s
+  unfolding sourceOf eligible
+  first-of fs q =
+      let r = passed (keep as-long fs) fs q in
+      record {
+        before = r .0;
+        behind = r .1;
+        split = r .2;
+        preceded = λ d m z.
+            let e = r .3 d m (rw z (eqb-refl (t .length))) in
+            let k = keep-mem as-long fs (e .1) in
+            (e .0, k .0, eqb→eq (e .0 .length) (t .length) (k .1), e .2);
+      }
+
 -- ---- the theorem
 
 -- What an accepted collect leaves: image′ is the image afterwards
@@ -105,6 +171,7 @@ pub record AfterCollect (image image′ : Bytes) (ds : List Descriptor) : Type 0
   pub as-long : source .length ≡ scratch .length
   pub lowest : (d : Descriptor) → List·Memᴰ d (fileAreas image ds) → d .length ≡ scratch .length
       → precedes (countOf image d) (countOf image source) ≡ false
+  pub first : FirstAmongEquals image (fileAreas image ds) scratch source
   -- "Scratch takes the source's id" and keeps its own count; "the counting records that lie in the source are copied ..": header, copies, FF
   pub now-file : List·Memᴰ scratch (fileAreas image′ ds)
   pub takes-id : areaId (areaBytes image′ scratch) ≡ areaId (areaBytes image source)
@@ -148,6 +215,15 @@ pub record AfterCollect (image image′ : Bytes) (ds : List Descriptor) : Type 0
       → (b : Bytes) → List·Memᴰ b (acceptedRecords image ds) → recordLink b ≡ i → recordId b ≡ i
   pub unowned : (i : ℕ) → inodeOf byBytes (volume image ds) i ≢ none → inodeOf byBytes (volume image′ ds) i ≡ none
       → (b : Bytes) → List·Memᴰ b (volume image ds .blocks) → byBytes .owner b ≢ i
+  -- and each such is left out: no record names it "as id, parent or owner, its own records in the source area apart"
+  pub inode-left-out : (i : ℕ) → fateOf byBytes (volume image ds) i ≡ dead
+      → ((b : Bytes) → List·Memᴰ b (recordsElsewhere image (fileAreas image ds) source) → (recordId b ≢ i) × (recordLink b ≢ i))
+      → ((b : Bytes) → List·Memᴰ b (bytesOf (recordsOf image source)) → recordLink b ≡ i → recordId b ≡ i)
+      → inodeOf byBytes (volume image′ ds) i ≡ none
+  -- "A dead block isn't copied if no other file area has a record of its id"
+  pub block-left-out : (i : ℕ) (r : Bytes) → blockOf byBytes (volume image ds) i ≡ some r → blockDead byBytes (volume image ds) r ≡ true
+      → ((b : Bytes) → List·Memᴰ b (recordsElsewhere image (fileAreas image ds) source) → recordId b ≢ i)
+      → blockOf byBytes (volume image′ ds) i ≡ none
   -- a file that was not dead has the blocks that it had, or is broken as it was
   pub contents : (f : ℕ) → fateOf byBytes (volume image ds) f ≢ dead
       → fileBlocks byBytes (volume image′ ds) f ≡ fileBlocks byBytes (volume image ds) f
@@ -332,6 +408,31 @@ module _ (image : Bytes) (ds : List Descriptor) (g : CollectGoes image ds) where
       go none q x = inl (x .none-left ∙ sym q)
       go (some r) q x = inr ((r, q, ap isDead (x .died r q)), x .none-left)
 
+  inode-gone : (i : ℕ) → fateOf byBytes v i ≡ dead
+      → ((b : Bytes) → List·Memᴰ b (recordsElsewhere image (fileAreas image ds) s) → (recordId b ≢ i) × (recordLink b ≢ i))
+      → ((b : Bytes) → List·Memᴰ b (bytesOf (recordsOf image s)) → recordLink b ≡ i → recordId b ≡ i)
+      → inodeOf byBytes w i ≡ none
+  unfolding volume
+  inode-gone i died others own = counting-absent byBytes (w .inodes) i gone
+    where
+      gone : (b : Bytes) → List·Memᴰ b (w .inodes) → recordId b ≢ i
+      gone b m =
+          let k = inode-in (acceptedRecords image′ ds) b m in
+          ⊎-elim (λ n. inode-not-copied v _ _ i died others own b n (k .1)) (λ n. others b n .0) (c .moved .is b (k .0))
+
+  block-gone : (i : ℕ) (r : Bytes) → blockOf byBytes v i ≡ some r → blockDead byBytes v r ≡ true
+      → ((b : Bytes) → List·Memᴰ b (recordsElsewhere image (fileAreas image ds) s) → recordId b ≢ i) → blockOf byBytes w i ≡ none
+  unfolding volume
+  block-gone i r q died others = counting-absent byBytes (w .blocks) i gone
+    where
+      gone : (b : Bytes) → List·Memᴰ b (w .blocks) → recordId b ≢ i
+      gone b m e =
+          let k = block-in (acceptedRecords image′ ds) b m in
+          ⊎-elim (λ n.
+          let y : _≡_ {A = Option Bytes} (some b) (some r) = sym (survive .block-counts b n (k .1)) ∙ ap (blockOf byBytes v) e ∙ q in
+          let u : b ≡ r = cc in
+          block-not-copied v _ _ i others b n (k .1) (rw u died) e) (λ n. others b n e) (c .moved .is b (k .0))
+
   -- ---- the file areas
 
   area-file : (d : Descriptor) → List·Memᴰ d (fileAreas image′ ds) ↔ ((d ≡ t) ⊎ (List·Memᴰ d (fileAreas image ds) × (d ≢ s)))
@@ -358,6 +459,7 @@ module _ (image : Bytes) (ds : List Descriptor) (g : CollectGoes image ds) where
     was-file = from .0;
     as-long = from .1;
     lowest = from .2;
+    first = first-of image t s (fileAreas image ds) (g .source-is);
     now-file = c .now-file;
     takes-id = c .takes-id;
     keeps-count = c .keeps-count;
@@ -380,6 +482,8 @@ module _ (image : Bytes) (ds : List Descriptor) (g : CollectGoes image ds) where
     unnamed = λ i n z b m e. let x = inode-left i n z in
         ⊎-elim (λ k. x .unnamed b k e) (λ k. x .unowned b k e) (accepted-kind image ds b m);
     unowned = not-owned;
+    inode-left-out = inode-gone;
+    block-left-out = block-gone;
     contents = kept-contents byBytes v w left;
     paths = same-paths;
     reads = same-reads;

@@ -2,26 +2,28 @@
 use Prim.Native.Nat.{ℕ}
 use mathlib.Core.Path.{_≡_, refl, sym, ap, _∙_}
 use mathlib.Core.Logic.{_⊎_, inl, inr, _≢_, ⊎-elim}
-use mathlib.Core.Bool.{true, false, not}
+use mathlib.Core.Bool.{true, false, not, _&&_, _||_}
 use mathlib.Core.Option.{Option, none, some}
-use mathlib.Core.List.{List, List·Memᴰ, Memᴰ·cast}
-use lib.Dec.{T-not}
+use mathlib.Core.List.{List, _++_, List·Memᴰ, List·Memᴰ·append-cases, Memᴰ·cast}
+use lib.Dec.{T, eqb, eqb-refl, T-not}
 use Rattle.format.specs.Bytes.{Bytes}
 use Rattle.format.specs.Record.{recordSize, recordId, recordLink}
 use Rattle.format.specs.Reading.{areaRecords}
 use Rattle.volume.specs.View.{byBytes}
 use Rattle.volume.specs.Counting.{Volume, volumeOf, inodeOf, blockOf}
-use Rattle.volume.specs.Fate.{fateOf}
-use Rattle.volume_laws.specs.Tests.{T→true, true→T, not-T→false}
-use Rattle.volume_laws.specs.Lists.{keep-mem, mem-keep}
+use Rattle.volume.specs.Lists.{keep}
+use Rattle.volume.specs.Fate.{dead, fateOf, blockDead}
+use Rattle.volume_laws.specs.Tests.{T→true, true→T, not-T→false, and-T, eqb-differ, T-other}
+use Rattle.volume_laws.specs.Lists.{keep-mem, mem-keep, mem-all}
 use Rattle.volume_laws.specs.Counting.{Agree, agree-sub, counting-mem, counting-none, counting-absent, counting-sub}
 use Rattle.calls.specs.Mount.{bytesOf}
+use Rattle.calls.specs.Collect.{counts, firstPlaces, dropsBlock, namesInode, dropsInode, drops, copies}
 use Rattle.collect_laws.specs.Survivors.{InodeLeft, BlockLeft, Survivors}
 use Rattle.demand2_collect.specs.Dropped.{InodeDropped, BlockDropped, LeftOut}
 
 -- the members of a volume
 module _ (rs : List Bytes) (b : Bytes) where
-  inode-in : List·Memᴰ b (volumeOf byBytes rs .inodes) → List·Memᴰ b rs × (byBytes .isBlock b ≡ false)
+  pub inode-in : List·Memᴰ b (volumeOf byBytes rs .inodes) → List·Memᴰ b rs × (byBytes .isBlock b ≡ false)
   unfolding volumeOf
   inode-in m = let k = keep-mem (λ r. not (byBytes .isBlock r)) rs m in (k .0, not-T→false (T-not (byBytes .isBlock b) (k .1)))
 
@@ -29,13 +31,48 @@ module _ (rs : List Bytes) (b : Bytes) where
   unfolding volumeOf
   in-inodes m e = mem-keep (λ r. not (byBytes .isBlock r)) rs m (rw e tt)
 
-  block-in : List·Memᴰ b (volumeOf byBytes rs .blocks) → List·Memᴰ b rs × (byBytes .isBlock b ≡ true)
+  pub block-in : List·Memᴰ b (volumeOf byBytes rs .blocks) → List·Memᴰ b rs × (byBytes .isBlock b ≡ true)
   unfolding volumeOf
   block-in m = let k = keep-mem (byBytes .isBlock) rs m in (k .0, T→true (k .1))
 
   in-blocks : List·Memᴰ b rs → byBytes .isBlock b ≡ true → List·Memᴰ b (volumeOf byBytes rs .blocks)
   unfolding volumeOf
   in-blocks m e = mem-keep (byBytes .isBlock) rs m (true→T e)
+
+-- ---- what is not copied
+
+module _ (v : Volume Bytes) (source elsewhere : List Bytes) (i : ℕ) where
+  not-dropped : (b : Bytes) → List·Memᴰ b (copies v source elsewhere) → ¬ T (drops v source elsewhere b)
+  unfolding copies
+  not-dropped b m =
+      let k = keep-mem (λ b. counts v b && not (drops v source elsewhere b)) (firstPlaces source) m in
+      T-not (drops v source elsewhere b) (and-T (counts v b) (not (drops v source elsewhere b)) (k .1) .1)
+
+  -- "A dead inode isn't copied if no accepted record .. names its id as id, parent or owner, its own records in the source area apart"
+  pub inode-not-copied : fateOf byBytes v i ≡ dead → ((b : Bytes) → List·Memᴰ b elsewhere → (recordId b ≢ i) × (recordLink b ≢ i))
+      → ((b : Bytes) → List·Memᴰ b source → recordLink b ≡ i → recordId b ≡ i)
+      → (b : Bytes) → List·Memᴰ b (copies v source elsewhere) → byBytes .isBlock b ≡ false → recordId b ≢ i
+  unfolding drops dropsInode namesInode
+  inode-not-copied died none-elsewhere own b m k e = not-dropped b m (rw (drops, k, dropsInode, e, died) (mem-all _ _ unnamed))
+    where
+      unnamed : (c : Bytes) → List·Memᴰ c (keep (λ c. not (eqb (recordId c) i)) source ++ elsewhere)
+          → T (not (eqb (recordId c) i || eqb (recordLink c) i))
+      unnamed c n = ⊎-elim
+          (λ z. let s = keep-mem (λ c. not (eqb (recordId c) i)) source z in
+          let o : recordId c ≢ i = λ q. T-not (eqb (recordId c) i) (s .1) (rw q (eqb-refl i)) in
+          other o (λ q. o (own c (s .0) q)))
+          (λ z. let s = none-elsewhere c z in other (s .0) (s .1))
+          (List·Memᴰ·append-cases (keep (λ c. not (eqb (recordId c) i)) source) n)
+        where
+          other : recordId c ≢ i → recordLink c ≢ i → T (not (eqb (recordId c) i || eqb (recordLink c) i))
+          other a b = rw (eqb-differ (recordId c) i a, eqb-differ (recordLink c) i b) tt
+
+  -- "A dead block isn't copied if no other file area has a record of its id"
+  pub block-not-copied : ((b : Bytes) → List·Memᴰ b elsewhere → recordId b ≢ i)
+      → (b : Bytes) → List·Memᴰ b (copies v source elsewhere) → byBytes .isBlock b ≡ true → blockDead byBytes v b ≡ true → recordId b ≢ i
+  unfolding drops dropsBlock
+  block-not-copied none-elsewhere b m k died e =
+      not-dropped b m (rw (drops, k, dropsBlock, died, e) (mem-all _ elsewhere (λ c n. T-other (recordId c) i (none-elsewhere c n))))
 
 -- rs are the source's records and those elsewhere, ss the copies bs and those elsewhere, in any order
 pub record Moved (rs ss source elsewhere bs : List Bytes) : Type 0 where
