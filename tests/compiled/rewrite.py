@@ -10,6 +10,7 @@ ARITHMETIC = re.compile(r"  (%\S+) = (add|sub|mul) nuw (i\d+) (\S+), (\S+)$")
 DIVISION = re.compile(r"  (%\S+) = (udiv|urem) (i\d+) (\S+), (\S+)$")
 SHIFT = re.compile(r"  (%\S+) = (shl|lshr) (i\d+) (\S+), (\S+)$")
 NARROWING = re.compile(r"  (%\S+) = trunc nuw (i\d+) (\S+) to (i\d+)$")
+ACCESS = re.compile(r"  (?:%\S+ = load [^,]+|store \S+ [^,]+), ptr (%\S+), align (\d+)")
 BOOL = re.compile(r"  (%\S+) = load i8, .*!range !2")
 
 
@@ -39,7 +40,17 @@ def checked(lines):
         needed[name] = tested(name, result, parameters, good, answer)
         return f"@{name}"
 
+    own = set()
     for line in lines:
+        if line.startswith("define"):
+            own = set()
+        elif m := re.match(r"  (%\S+) = alloca ", line):
+            own.add(m[1])
+        # what the function has set aside itself is aligned as it says
+        elif (m := ACCESS.match(line)) and m[2] != "1" and m[1] not in own:
+            name = call(f"tested.align.{m[2]}", "void", "ptr %p", f"  %a = ptrtoint ptr %p to i64\n  %odd = urem i64 %a, {m[2]}\n"
+                        "  %good = icmp eq i64 %odd, 0", ("  ret void", "void"))
+            yield f"  call void {name}(ptr {m[1]})"
         if m := ARITHMETIC.match(line):
             to, how, t, a, b = m.groups()
             pair = f"{{ {t}, i1 }}"
