@@ -13,7 +13,7 @@ fn main() {
     let mut seed = number(arguments.next(), 100_000_000);
     let mut calls = 0;
     while calls < wanted {
-        let seeds = seed..seed + 10_000;
+        let seeds = seed..seed + 2_500;
         match compare(seeds.clone(), &Proved, &Model) {
             Ok(tally) => calls += tally.calls,
             Err(case) => {
