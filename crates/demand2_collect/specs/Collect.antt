@@ -5,8 +5,8 @@ use mathlib.Core.Path.{_≡_, refl, sym, ap, _∙_}
 use mathlib.Core.Logic.{_⊎_, inl, inr, _≢_, ⊎-elim, _↔_}
 use mathlib.Core.Bool.{Bool, true, false, cond, not}
 use mathlib.Core.Option.{Option, none, some}
-use mathlib.Core.List.{List, [], _∷_, _++_, map, List·Memᴰ, List·Memᴰ·head, List·Memᴰ·tail, List·Memᴰ·cases-cons, List·Memᴰ·not-nil, Memᴰ·cast, Memᴰ·map}
-use mathlib.Core.List.{Memᴰ·of-map}
+use mathlib.Core.List.{List, [], _∷_, _++_, map, List·Memᴰ, List·Memᴰ·head, List·Memᴰ·tail, List·Memᴰ·cases-cons, List·Memᴰ·not-nil, Memᴰ·cast}
+use mathlib.Core.List.{Memᴰ·map, Memᴰ·of-map}
 use native.Mathlib.Omega.{arith}
 use lib.ListN.{length}
 use lib.Dec.{T, eqb, leb, eqb→eq, eqb-refl, leb→le, le→leb, nltb→le}
@@ -215,7 +215,7 @@ pub record AfterCollect (image image′ : Bytes) (ds : List Descriptor) : Type 0
       → (b : Bytes) → List·Memᴰ b (acceptedRecords image ds) → recordLink b ≡ i → recordId b ≡ i
   pub unowned : (i : ℕ) → inodeOf byBytes (volume image ds) i ≢ none → inodeOf byBytes (volume image′ ds) i ≡ none
       → (b : Bytes) → List·Memᴰ b (volume image ds .blocks) → byBytes .owner b ≢ i
-  -- and each such is left out: no record names it "as id, parent or owner, its own records in the source area apart"
+  -- and it is left out wherever no accepted record names its id "as id, parent or owner, its own records in the source area apart"
   pub inode-left-out : (i : ℕ) → fateOf byBytes (volume image ds) i ≡ dead
       → ((b : Bytes) → List·Memᴰ b (recordsElsewhere image (fileAreas image ds) source) → (recordId b ≢ i) × (recordLink b ≢ i))
       → ((b : Bytes) → List·Memᴰ b (bytesOf (recordsOf image source)) → recordLink b ≡ i → recordId b ≡ i)
