@@ -27,15 +27,14 @@ fn try_format(image: &mut [u8], areas: &[u32]) -> Result<(), Refusal> {
     }
     let scratch = longest(&descriptors);
     erase_and_head(image, &descriptors[scratch], 0, AreaHeader::SCRATCH);
-    let files = descriptors.iter().enumerate().filter(|(i, _)| *i != scratch);
-    for (id, (_, at)) in files.clone().enumerate() {
+    let mut files = descriptors.clone();
+    files.remove(scratch);
+    for (id, at) in files.iter().enumerate() {
         erase_and_head(image, at, 0, id as u8);
     }
-    for (_, at) in files.take(1) {
-        // "The root record (sequence 0) goes to the first file area."
-        let root = Inode::new(ROOT, 0, NONE, b"").bytes();
-        put(image, at.start + AreaHeader::SIZE, &root);
-    }
+    // "The root record (sequence 0) goes to the first file area."
+    let root = Inode::new(ROOT, 0, NONE, b"").bytes();
+    put(image, files[0].start + AreaHeader::SIZE, &root);
     Ok(())
 }
 
@@ -184,6 +183,7 @@ fn try_append(
     fs.tables_hold(0, pieces.len())?;
     let (mut named, mut plan) = (Named::of(&fs), Plan::new(&fs));
     let mut previous = last;
+    // "all pieces or none": nothing is written before each has its place.
     for piece in pieces {
         let id = named.take(FIRST_BLOCK);
         plan.add(Block::new(id, 0, owner, previous, piece).bytes())?;
