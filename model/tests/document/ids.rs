@@ -152,3 +152,25 @@ fn each_way_of_naming_alone() {
         }
     }
 }
+
+/// Bytes in no area name nothing, also where they read as a record and stand at
+/// the very start of the image.
+#[test]
+fn a_record_in_no_area_names_nothing() {
+    for by in WAYS {
+        let mut image = vec![0xff; 128 + 2 * 4096];
+        let record = match by {
+            By::Parent => Inode::new(1, 0, ROOT, b"d").bytes(),
+            By::Owner => Inode::new(B, 0, ROOT, b"f").bytes(),
+            By::Previous => Block::new(BLOCK, 0, B, NONE, b"b").bytes(),
+        };
+        image[..record.len()].copy_from_slice(&record);
+        let mut flash = Flash::over(image, vec![128, 4096, 128 + 4096, 4096]);
+        flash.head(0, 0, 0, 255);
+        flash.head(1, 0, 0, 0);
+        flash.root(1);
+        flash.inode(1, A, 0, ROOT, b"a");
+        let next = by.first() + u32::from(by != By::Previous);
+        assert_eq!(by.taken(&mut flash, "/x"), next, "{by:?}");
+    }
+}

@@ -133,3 +133,15 @@ fn places_that_collection_frees() {
         assert_eq!(contents(&flash, "/again"), Ok(b"new".to_vec()));
     });
 }
+
+/// An id is no place: a read by the number of a byte of the image finds nothing
+/// there, also where the table is full.
+#[test]
+fn a_place_is_no_id() {
+    for inodes in [2, 63, 64] {
+        let flash = volume(inodes, 256, false);
+        for place in flash.offset(1)..flash.offset(1) + 2000 {
+            assert_eq!(read(&flash, place as u32, 0, 1).0.number, 9, "{place}");
+        }
+    }
+}
