@@ -17,13 +17,13 @@ use prog.Wp.{Heap, Calls, Loops, WpFn, Tables}
 use ghost.Atoms.{Atoms, sem}
 use contract.Monad.{Fun, fact}
 use contract.Running.{givenOf, tables, tablesOf}
-use types.Kit.{Given, ‵, raw, _⊛_, some, given, later, _$_, _∵_, !, qed, by, move, keep, drop, use1, use2, split, join, pick, learn, rewrite, fjoin, suffices, frame, await, done}
+use types.Kit.{Given, ‵, raw, _⊛_, some, given, later, _$_, _∵_, !, qed, by, move, keep, use1, use2, split, join, pick, learn, rewrite, fjoin, suffices, frame, await, done}
 use types.Part.{agg}
 use types.Run.{look, init, forget, stop, from, load, lit, addr, of-opd, and-then, no-more, assigns, land, returns, enter, alloc1, alloc0, params1, pass1, pass0, free1, free0}
 use types.Share.{arr-parts}
 use types.Tokens.{lft-new, lft-end, lent-back}
 use sound.WpLaws.{FmC, fmOf, WpFn-mono}
-use denote.RattleType.{RattleType, owns}
+use denote.RattleType.{RattleType}
 use denote.Laws.{Is, shows}
 use denote.Memory.{pointee, partAt, shares}
 use denote.Array.{Array, array-vals, array-tells, array-lawful}
@@ -126,7 +126,7 @@ module _ {M : Type 1} (𝓤 : URA M) (H : Heap 𝓤) (A : Atoms 𝓤) (W : Given
         assigns ! (agg ! (and-then ! (load ! (from ! (stop !)) (look ! 2 refl)) (and-then ! (lit ! tt) (no-more !)))) (from ! (stop !)) (init ! 0 refl (tt, (tt, (record { fits = lit< tt }, tt)))) $
         rewrite ! 0 (λ (k : ℕ). ‵ (fat fullShare slice l₄ 0 (sliceVal (l₂, 0) k))) (sym long) refl $
         -- the array's local is lent as a slice for a lifetime ν of the call
-        move ! (4 ∷ []) $ use1 W (‵ (partAt row fullShare ys l₂ 0)) (lies-in 𝓤 H A W D.the-row (LL.vals D.the-type D′.the-laws) (LL.tells D.the-type D′.the-laws) (LL.makes D.the-type D′.the-plain 𝓤 H A) mostEntries ys l₂ ys-is) $ use1 W (‵ (arr-parts (shares D.the-row) mostEntries .part fullShare ys l₂ 0)) (array-apart 𝓤 H A W D.the-row fullShare tt mostEntries ys l₂ 0) $ rewrite ! 0 (λ (k : ℕ). ‵ (arr-parts (shares D.the-row) k .part fullShare ys l₂ 0)) (sym long) refl $
+        move ! (4 ∷ []) $ use1 W (‵ (partAt row fullShare ys l₂ 0)) (lies-in 𝓤 H A W D.the-row (LL.vals D.the-type D′.the-laws) mostEntries ys l₂ (LL.makes D.the-type D′.the-plain 𝓤 H A) ys-is) $ use1 W (‵ (arr-parts (shares D.the-row) mostEntries .part fullShare ys l₂ 0)) (array-apart 𝓤 H A W D.the-row fullShare tt mostEntries ys l₂ 0) $ rewrite ! 0 (λ (k : ℕ). ‵ (arr-parts (shares D.the-row) k .part fullShare ys l₂ 0)) (sym long) refl $
         lft-new ! tt (λ ν. move ! (1 ∷ []) $
         use1 W (later (some (λ (δ : GName). ‵ (ShrSlice (named 0) (ν ∷ []) D.the-row .own (lent l₂ δ) (sliceVal (l₂, 0) (length ys) ∷ [])) ⊛ ‵ (flent (ν ∷ []) (arr-parts (shares D.the-row) (length ys) .part fullShare ys l₂ 0))))) (lends-shr-slice 𝓤 H A W D.the-row (named 0) (ν ∷ []) fullShare ys l₂ 0 room) $ await ! tt $ pick ! (λ δ. split ! $
         -- [the slice; the lender's part; ν's token; _4; …; _3; …; …; _1; …; room for _0; …]
@@ -139,7 +139,7 @@ module _ {M : Type 1} (𝓤 : URA M) (H : Heap 𝓤) (A : Atoms 𝓤) (W : Given
         land ! (from ! (stop !)) (init ! 10 refl (LL.lawful R.the-type R′.the-laws 𝓤 H A W .typed r _ is .0)) $
         -- the lifetime is ended, and the array comes back
         move ! (1 ∷ []) $ split ! $ lft-end ! tt $ move ! (0 ∷ 3 ∷ []) $ lent-back ! tt $ rewrite ! 0 (λ (k : ℕ). ‵ (arr-parts (shares D.the-row) k .part fullShare ys l₂ 0)) long refl $ use1 W (‵ (partAt row fullShare ys l₂ 0)) (array-whole 𝓤 H A W D.the-row fullShare mostEntries ys l₂ 0) $
-        use1 W (given (Is row ys (val ys ∷ [])) (‵ (fat fullShare (tyArray D′.mir mostEntries) l₂ 0 (val ys)))) (lies-out 𝓤 H A W D.the-row (LL.vals D.the-type D′.the-laws) (LL.tells D.the-type D′.the-laws) (LL.makes D.the-type D′.the-plain 𝓤 H A) mostEntries ys l₂) $ learn ! (λ _.
+        use1 W (given (Is row ys (val ys ∷ [])) (‵ (fat fullShare (tyArray D′.mir mostEntries) l₂ 0 (val ys)))) (lies-out 𝓤 H A W D.the-row (LL.vals D.the-type D′.the-laws) mostEntries ys l₂ (LL.tells D.the-type D′.the-laws)) $ learn ! (λ _.
         -- [_2; true; the result; _4; …; _3; …; …; _1; …; _0; …]
         returns ! (look ! 10 refl) $ forget ! 0 refl $ forget ! 3 refl $ forget ! 5 refl $ forget ! 8 refl $ forget ! 10 refl $
         move ! (10 ∷ 11 ∷ []) $ free1 ! $ move ! (8 ∷ 9 ∷ []) $ free1 ! $ move ! (0 ∷ 7 ∷ []) $ free1 ! $ move ! (4 ∷ 5 ∷ []) $ free1 ! $ move ! (2 ∷ 3 ∷ []) $ free1 ! $ free0 ! $ keep ! (1 ∷ []) $ by ! (exits r w e)))))))))))))
