@@ -33,7 +33,7 @@ pub fn strange(r: &mut Random, good: &[u32], image: usize) -> Vec<u32> {
     match r.below(16) {
         0 => list[i + 1] = 127,
         1 => list[i + 1] = 65_537,
-        2 => list[i] = (image as u32).wrapping_sub(list[i + 1]) + 1,
+        2 => list[i] = (image as u32).wrapping_sub(list[i + 1]).wrapping_add(1),
         3 => list[i] = u32::MAX - r.below(200) as u32,
         4 => list[i] = list[(i + 2) % list.len()],
         5 => list[i] += 1,

@@ -329,6 +329,22 @@ fn five_by_the_last_piece() {
     }
 }
 
+/// The greatest append in pieces of 40 is 205 blocks.
+#[test]
+fn the_most_pieces_of_an_append() {
+    for (already, number) in [(819, 0), (820, 5), (1023, 5)] {
+        let mut lengths = [4096; 16];
+        lengths[15] = 128;
+        let mut flash = Flash::of(&lengths);
+        flash.root(1);
+        flash.inode(1, A, 0, ROOT, b"a");
+        blocks_up_to(&mut flash, A, 0, already);
+        assert_eq!(append(&mut flash, "/a", &[1; 8192]), number, "{already} blocks");
+        let headers = if number == 0 { 1024 } else { already };
+        assert_eq!(read(&flash, A, 0, 1).0.headers, headers);
+    }
+}
+
 /// One append after another, up to the last place; dead blocks keep theirs
 /// until they are collected.
 #[test]
