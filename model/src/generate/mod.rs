@@ -3,9 +3,11 @@
 mod calls;
 mod images;
 mod large;
+mod lists;
 pub mod made;
 mod paths;
 mod random;
+mod tables;
 
 pub use random::Random;
 
@@ -34,7 +36,7 @@ fn drawn(mut r: Random) -> Case {
     let flash = match r.below(400) {
         0..=148 => images::life(&mut r),
         149..=356 => images::tree(&mut r),
-        357..=364 => images::tables(&mut r),
+        357..=364 => tables::tables(&mut r),
         365..=376 => images::junk(&mut r),
         377..=388 => images::headers(&mut r),
         389..=391 => large::whole(&mut r),
