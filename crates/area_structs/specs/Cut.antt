@@ -1,4 +1,4 @@
--- Every call takes a list cut to nine entries as it takes the whole list: it is the same list, or both are badly described.
+-- Every call takes a list cut to one entry more than is good as it takes the whole list: it is the same list, or both are badly described.
 use Prim.Native.Nat.{ℕ, zero, suc, _≤_, _<_}
 use mathlib.Core.Path.{_≡_, refl, sym, ap, _∙_}
 use mathlib.Core.List.{List, [], _∷_}

@@ -133,7 +133,7 @@ going (d ∷ ds) a es h = go (eqb (d .length) 0) refl (ltb (a .count) mostEntrie
         let g = h .few in
         holds-listed a es h ∙ sym (take-front mostEntries es (d ∷ listed ds) (omega (arith, ltb-false (a .count) mostEntries f)))
 
--- the array form of a list: its entries before its end, and of more than nine the first nine
+-- the array form of a list: its entries before its end, and no more than tell that there are too many
 pub areas-listed : (list : List Descriptor) → areaList (areasOf list .numbers) ≡ take mostEntries (listed list)
 unfolding areasOf
 areas-listed list = going list noAreas [] holds-none

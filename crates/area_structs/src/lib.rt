@@ -10,7 +10,7 @@ use calls::Descriptor;
 use calls::MOST_AREAS;
 
 // One entry more than a good list has: the last tells that there are too many.
-const ENTRIES: usize = MOST_AREAS + 1;
+pub const ENTRIES: usize = MOST_AREAS + 1;
 
 // The numbers of so many entries, two to each.
 pub const NUMBERS: usize = ENTRIES * 2;

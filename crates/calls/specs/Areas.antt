@@ -16,8 +16,9 @@ listed (d ∷ l) = cond (eqb (d .length) 0) [] (d ∷ listed l)
 
 -- From here on a list of descriptors is one that `listed` has cut.
 
+-- T-06: "Raise .. descriptors to 16"
 abbrev pub mostAreas : ℕ
-mostAreas = 8
+mostAreas = 16
 
 abbrev pub shortestArea : ℕ
 shortestArea = 128
@@ -40,7 +41,7 @@ unfoldable pub allDisjoint : List Descriptor → Bool
 allDisjoint [] = true
 allDisjoint (d ∷ l) = all (disjoint d) l && allDisjoint l
 
--- "Good: 1 to 8 entries, .."
+-- "Good: 1 to 8 entries, ..", which T-06 raises to 16
 unfoldable pub goodAreas : ℕ → List Descriptor → Bool
 goodAreas size ds = leb 1 (length ds) && leb (length ds) mostAreas && all (goodArea size) ds && allDisjoint ds
 

@@ -36,12 +36,12 @@ acceptedRecords image ds = recordsIn image (fileAreas image ds)
 unfoldable pub volume : Bytes → List Descriptor → Volume Bytes
 volume image ds = volumeOf byBytes (acceptedRecords image ds)
 
--- "tables of 64 and 256 places"
+-- T-06: "Raise inodes to 256, blocks to 1,024"
 abbrev pub mostInodes : ℕ
-mostInodes = 64
+mostInodes = 256
 
 abbrev pub mostBlocks : ℕ
-mostBlocks = 256
+mostBlocks = 1024
 
 -- no more records than this fit in the largest image: none is shorter than an inode's header
 abbrev pub mostRecords : ℕ

@@ -1,11 +1,11 @@
 // The limits, the numbers of refusal and the answers of the calls, as constants and types; what each call answers is defined in specs/.
 
-// The limits of document 01: areas of a list, places of the tables, the shortest area, the largest image.
-pub const MOST_AREAS: usize = 8;
+// The limits, of document 01 and by T-06: areas of a list, places of the tables, the shortest area, the largest image.
+pub const MOST_AREAS: usize = 16;
 
-pub const MOST_INODES: usize = 64;
+pub const MOST_INODES: usize = 256;
 
-pub const MOST_BLOCKS: usize = 256;
+pub const MOST_BLOCKS: usize = 1024;
 
 pub const SHORTEST_AREA: usize = 128;
 

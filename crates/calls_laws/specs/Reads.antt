@@ -64,7 +64,7 @@ module _ (c : ℕ → Option Bytes) (m : ℕ) (short : (i : ℕ) (r : Bytes) →
 
 -- ---- what a mounted volume's files hold
 
--- 256 blocks of an image's length
+-- the most blocks, of an image's length each
 abbrev pub longestText : ℕ
 longestText = mostBlocks * largestImage
 

@@ -1,5 +1,6 @@
 // A dose table stored and read back: areas described by a list of structs, and a read by a handle whose position moves.
 use area_structs::Areas;
+use area_structs::ENTRIES;
 use area_structs::areas_in;
 use call_entries::append_of;
 use call_entries::create_of;
@@ -57,7 +58,10 @@ fn main() {
         length: 0,
     };
     // what stands behind the end is not looked at
-    let areas = areas_in([first, second, end, first, first, first, first, first, first]);
+    let mut list = [first; ENTRIES];
+    list[1] = second;
+    list[2] = end;
+    let areas = areas_in(list);
     store(&mut image, areas);
     let opened = open_of(&image, areas, b"/", b"dose");
     show(b"open ", opened.number);

@@ -5,17 +5,17 @@ use Prim.Native.Nat.{ℕ, zero, suc, _+_, _-_, _*_, _/_, _%_, _<_}
 use lib.ListN.{length, replicate}
 use Rattle.table_words.specs.Position.{positionOf}
 
--- "which of the 64 places are taken is one 64-bit word": the k lowest binary digits of a word, lowest first, 1 for a taken place
+-- "which .. places are taken is one 64-bit word": the k lowest binary digits of a word, lowest first, 1 for a taken place
 unfoldable pub digits : ℕ → ℕ → List ℕ
 digits zero w = []
 digits (suc k) w = w % 2 ∷ digits k (w / 2)
 
--- the places of several such words, joined: the first word's come first
+-- T-06: "becomes four words. The claims are to be made once for any number of words": the places of all, the first word's first
 unfoldable pub bits : List ℕ → List ℕ
 bits [] = []
 bits (w ∷ ws) = digits 64 w ++ bits ws
 
--- "tables of 64 and 256 places": how many places the words have
+-- how many places the words have
 abbrev pub capacity : List ℕ → ℕ
 capacity ws = length ws * 64
 
