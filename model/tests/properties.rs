@@ -13,6 +13,9 @@ use nffs_model::mount::{mount, Fate, FileSystem};
 
 const CASES: u64 = if cfg!(debug_assertions) { 500 } else { 3000 };
 
+/// The most files of one image whose answers are asked for.
+const ASKED: usize = 8;
+
 /// What can be reached by path: each live inode and its contents, if it is a
 /// file that isn't broken.
 type View = BTreeMap<u32, (Inode, Option<Vec<u8>>)>;
@@ -166,16 +169,21 @@ fn damage_leaves_the_untouched_alone() {
 }
 
 /// Each live file of which no record was touched keeps number, parent, name,
-/// contents, reads and path. How many there were.
+/// contents, reads and path. How many were asked for.
 fn files_stay(before: &Side, old: &FileSystem, after: &Side, touched: &Touched) -> u64 {
     let spared = spared(old, touched);
     if spared.is_empty() {
         return 0;
     }
     let new = mount(&after.image, &after.areas).expect("the root wasn't touched");
+    let (old_view, new_view) = (view_of(old), view_of(&new));
     for id in &spared {
-        assert_eq!(view_of(old).get(id), view_of(&new).get(id));
-        answers_stay(&Model, (before, old), (after, &new), *id);
+        assert_eq!(old_view.get(id), new_view.get(id));
     }
-    spared.len() as u64
+    // Each takes many calls; of a full table some files will do.
+    let asked: Vec<&u32> = spared.iter().step_by(spared.len().div_ceil(ASKED)).collect();
+    for id in &asked {
+        answers_stay(&Model, (before, old), (after, &new), **id);
+    }
+    asked.len() as u64
 }

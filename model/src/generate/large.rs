@@ -36,7 +36,7 @@ pub fn whole(r: &mut Random) -> Flash {
     let Flash { image, areas, .. } = &mut flash;
     crate::format(image, areas);
     crate::create(image, areas, b"", b"/long", 1);
-    for _ in 0..r.below(4) {
+    for _ in 0..r.pick(&[0, 1, 2, 3, 3]) {
         let data = r.bytes(8192);
         crate::append(image, areas, b"", b"/long", &data);
     }
@@ -70,7 +70,7 @@ pub fn named(r: &mut Random) -> Flash {
 }
 
 /// A number near a multiple of 64 in this range.
-pub fn near_a_word(r: &mut Random, low: usize, high: usize) -> u32 {
+fn near_a_word(r: &mut Random, low: usize, high: usize) -> u32 {
     (64 * r.between(low.div_ceil(64), high / 64) + r.below(3) - 1) as u32
 }
 
@@ -87,10 +87,10 @@ fn naming_both(k: u32, sequence: u32) -> Vec<u8> {
 /// Directories one below the other, 8 to 255 of them, with names of one length,
 /// and a file at the bottom where the table has a place.
 pub fn deep(r: &mut Random) -> Flash {
-    let (depth, length) = match r.below(4) {
-        0 => r.pick(&[(64, 1), (127, 1), (128, 2), (INODES - 2, 1), (INODES - 1, 3)]),
-        1 => r.pick(&[(62, 2), (63, 1)]),
-        _ => r.pick(&[(8, 1), (10, 1), (11, 200), (20, 60), (40, 1)]),
+    let (depth, length) = match r.below(3) {
+        0 => r.pick(&[(64, 1), (128, 2), (INODES - 2, 1), (INODES - 1, 3), (INODES - 1, 4)]),
+        1 => r.pick(&[(62, 2), (63, 1), (63, 1)]),
+        _ => r.pick(&[(8, 1), (10, 1), (11, 200), (20, 60), (20, 60), (40, 1)]),
     };
     let whole = 24 + 20 + (depth + 1) * (20 + length);
     let mut flash = place(r, &[whole + 300, whole + 300, 400]);

@@ -121,7 +121,7 @@ fn in_areas(fs: &FileSystem, case: &Case) -> Vec<Made> {
         (Made::WholeVolume, lengths.len() <= 4 && lengths.iter().sum::<usize>() == IMAGE),
         (Made::ThousandsOfNamedIds, named.len() >= 2000),
         (Made::TenDirectoriesDeep, depth >= 10),
-        (Made::SixtyThreeDirectoriesDeep, depth == 63),
+        (Made::SixtyThreeDirectoriesDeep, depth >= 63),
         (Made::DirectoriesDeepAsTheTable, depth == INODES - 1),
         (Made::NineAreas, lengths.len() >= 9),
         (Made::SixteenAreas, lengths.len() == DESCRIPTORS),

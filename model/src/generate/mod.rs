@@ -35,8 +35,8 @@ fn drawn(mut r: Random) -> Case {
     // Large images are few: each takes as long as many small ones.
     let flash = match r.below(400) {
         0..=148 => images::life(&mut r),
-        149..=356 => images::tree(&mut r),
-        357..=364 => tables::tables(&mut r),
+        149..=352 => images::tree(&mut r),
+        353..=364 => tables::tables(&mut r),
         365..=376 => images::junk(&mut r),
         377..=388 => images::headers(&mut r),
         389..=391 => large::whole(&mut r),

@@ -1,7 +1,7 @@
 //! Images whose tables are about full, or whose ids are about a multiple of 64.
 
 use super::images::{place, write_headers};
-use super::large::{near_a_word, side_by_side};
+use super::large::side_by_side;
 use super::random::Random;
 use crate::forge::Flash;
 use crate::layout::{AreaHeader, Block, Inode, FIRST_BLOCK, FIRST_FILE, NONE, ROOT};
@@ -34,18 +34,23 @@ pub fn tables(r: &mut Random) -> Flash {
 /// How many inode ids, the root's among them, and how many block ids.
 fn counts(r: &mut Random) -> (u32, u32) {
     let few = (r.between(2, 4) as u32, r.below(4) as u32);
-    match r.below(8) {
+    match r.below(10) {
         0..=2 => (about(r, INODES), few.1),
         3..=5 => (few.0, about(r, BLOCKS)),
         6 => (about(r, INODES), about(r, BLOCKS)),
-        _ if r.chance(50) => (near_a_word(r, 64, INODES), few.1),
-        _ => (few.0, near_a_word(r, 64, BLOCKS)),
+        7 => (about_a_word(r, INODES), few.1),
+        _ => (few.0, about_a_word(r, BLOCKS)),
     }
 }
 
 /// As many as a table has places, up to two fewer, or one more.
 fn about(r: &mut Random, places: usize) -> u32 {
     r.pick(&[places - 2, places - 1, places - 1, places, places, places + 1]) as u32
+}
+
+/// A multiple of 64 that a table has places for, one fewer or one more.
+fn about_a_word(r: &mut Random, places: usize) -> u32 {
+    (64 * r.between(1, places / 64) + r.pick(&[0, 1, 1, 2]) - 1) as u32
 }
 
 /// The root, the file "a", and others; sometimes a few of them are deleted.
@@ -94,6 +99,7 @@ fn areas_for(r: &mut Random, records: &[Vec<u8>]) -> Flash {
         return place(r, &vec![length.max(128); count]);
     }
     let length = (bytes + AreaHeader::SIZE + more).max(128);
-    let short = r.chance(50);
-    place(r, if short { &[length, length, 128] } else { &[length, length] })
+    let lengths = [length, length, 128];
+    let count = r.between(2, 3);
+    place(r, &lengths[..count])
 }
