@@ -4,7 +4,7 @@ use std::collections::BTreeMap;
 
 use nffs_model::compare::{Answer, Call, Model, Side};
 use nffs_model::damage::{
-    answers_stay, mount_number, overwrite, reads_as_untouched, spared, Touched,
+    answers_stay, mount_number, overwrite, reads_as_untouched, some_of, spared, Touched,
 };
 use nffs_model::file::contents;
 use nffs_model::generate::{self, Random};
@@ -12,9 +12,6 @@ use nffs_model::layout::{is_file, Inode};
 use nffs_model::mount::{mount, Fate, FileSystem};
 
 const CASES: u64 = if cfg!(debug_assertions) { 500 } else { 3000 };
-
-/// The most files of one image whose answers are asked for.
-const ASKED: usize = 8;
 
 /// What can be reached by path: each live inode and its contents, if it is a
 /// file that isn't broken.
@@ -180,10 +177,9 @@ fn files_stay(before: &Side, old: &FileSystem, after: &Side, touched: &Touched) 
     for id in &spared {
         assert_eq!(old_view.get(id), new_view.get(id));
     }
-    // Each takes many calls; of a full table some files will do.
-    let asked: Vec<&u32> = spared.iter().step_by(spared.len().div_ceil(ASKED)).collect();
+    let asked = some_of(&spared);
     for id in &asked {
-        answers_stay(&Model, (before, old), (after, &new), **id);
+        answers_stay(&Model, (before, old), (after, &new), *id);
     }
     asked.len() as u64
 }

@@ -29,8 +29,12 @@ pub fn strange(r: &mut Random, good: &[u32], image: usize) -> Vec<u32> {
     if list.len() < 4 {
         return r.pick(&[vec![], vec![0, 128], vec![0, 0], vec![1, 0], vec![0, image as u32]]);
     }
+    // Only a longer image has room for more entries than are good.
+    if image > 128 * DESCRIPTORS && r.chance(50) {
+        return of_many_entries(r, image);
+    }
     let i = 2 * r.below(list.len() / 2);
-    match r.below(16) {
+    match r.below(12) {
         0 => list[i + 1] = 127,
         1 => list[i + 1] = 65_537,
         2 => list[i] = (image as u32).wrapping_sub(list[i + 1]).wrapping_add(1),
@@ -41,7 +45,7 @@ pub fn strange(r: &mut Random, good: &[u32], image: usize) -> Vec<u32> {
         7 => list.clear(),
         8 => list.truncate(2),
         9 => list[i + 1] = u32::MAX,
-        10..=14 => list = of_many_entries(r, image),
+        10 => list = of_many_entries(r, image),
         _ => list[i + 1] = list[i + 1].wrapping_sub(1),
     }
     list
