@@ -50,7 +50,7 @@ impl Pair {
     fn filled(lengths: &[usize], files: u32, blocks: u32) -> Pair {
         let mut flash = Flash::of(lengths);
         let areas = 1..lengths.len();
-        flash.root(1);
+        assert!(flash.root(1));
         for k in 0..files {
             assert!(areas.clone().any(|area| flash.inode(area, FILE + k, 0, 0, &path(k)[1..])));
         }
@@ -187,6 +187,7 @@ fn the_1024th_and_the_1025th_block() {
 /// The last of several pieces would be the 1,025th block: none is stored. With one piece fewer all places are taken.
 #[test]
 fn pieces_up_to_the_1024th_block_and_past_it() {
+    // the greatest block of areas of 4,096 bytes
     const PIECE: usize = 2024;
     for pieces in 2..=4 {
         let mut pair = Pair::filled(&[4096; 16], 1, 1025 - pieces as u32);
