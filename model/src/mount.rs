@@ -209,11 +209,11 @@ impl FileSystem {
         self.counting(id).and_then(Record::inode)
     }
 
-    /// Follows the counting records of the inode and its parents.
+    /// Follows the counting records of the inode and its parents. A chain that
+    /// goes on for longer than there are records loops.
     pub fn fate(&self, id: u32) -> Fate {
-        let mut seen = BTreeSet::new();
         let mut at = id;
-        loop {
+        for _ in 0..self.counting.len() {
             let Some(inode) = self.inode(at) else { return Fate::Orphan };
             if at == ROOT {
                 return Fate::Live;
@@ -221,11 +221,9 @@ impl FileSystem {
             if inode.is_deletion() {
                 return Fate::Dead;
             }
-            if !seen.insert(at) {
-                return Fate::Orphan;
-            }
             at = inode.parent;
         }
+        Fate::Orphan
     }
 
     /// 5 "tested again ... with the new records counted in".

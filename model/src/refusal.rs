@@ -2,8 +2,8 @@
 
 #[derive(Clone, Copy, Debug, PartialEq, Eq)]
 pub enum Refusal {
-    /// image over 65,536 bytes or descriptors not good, of which 16 may be
-    /// (document 02, T-06)
+    /// image over 65,536 bytes or descriptors not good, which have 16 entries
+    /// at most (document 02, T-06)
     Descriptors = 1,
     /// two file areas have one id
     SharedAreaId = 2,

@@ -81,7 +81,7 @@ impl Maker {
     /// The list of the case, sometimes with a tail that isn't looked at.
     fn start_list(&mut self) {
         let mut list = lists::with_tail(&mut self.r, &self.good);
-        if self.r.chance(3) {
+        if self.r.chance(4) {
             list = lists::strange(&mut self.r, &list, self.side.image.len());
         }
         self.case.areas.clone_from(&list);

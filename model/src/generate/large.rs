@@ -88,7 +88,8 @@ fn naming_both(k: u32, sequence: u32) -> Vec<u8> {
 /// and a file at the bottom where the table has a place.
 pub fn deep(r: &mut Random) -> Flash {
     let (depth, length) = match r.below(3) {
-        0 => r.pick(&[(64, 1), (128, 2), (INODES - 2, 1), (INODES - 1, 3), (INODES - 1, 4)]),
+        0 => r.pick(&[(64, 1), (128, 2), (INODES - 2, 1)]),
+        1 if r.chance(50) => r.pick(&[(INODES - 1, 3), (INODES - 1, 4)]),
         1 => r.pick(&[(62, 2), (63, 1), (63, 1)]),
         _ => r.pick(&[(8, 1), (10, 1), (11, 200), (20, 60), (20, 60), (40, 1)]),
     };

@@ -54,8 +54,8 @@ pub fn strange(r: &mut Random, good: &[u32], image: usize) -> Vec<u32> {
 /// Entries of 128 bytes all over the image, as many as a list may have or about
 /// so many, or any number; sometimes with the end marked among them.
 fn of_many_entries(r: &mut Random, image: usize) -> Vec<u32> {
-    let count =
-        if r.chance(60) { r.between(DESCRIPTORS - 1, DESCRIPTORS + 1) } else { r.below(MOST + 1) };
+    let about = [DESCRIPTORS - 1, DESCRIPTORS, DESCRIPTORS + 1, DESCRIPTORS + 1];
+    let count = if r.chance(75) { r.pick(&about) } else { r.below(MOST + 1) };
     let apart = (image / count.max(1)).max(128);
     let mut list: Vec<u32> = (0..count).flat_map(|k| [(k * apart) as u32, 128]).collect();
     if count > 0 && r.chance(30) {

@@ -131,7 +131,8 @@ fn in_areas(fs: &FileSystem, case: &Case) -> Vec<Made> {
 
 fn in_tables(fs: &FileSystem) -> Vec<Made> {
     let (inodes, blocks) = (fs.inodes().count(), fs.blocks().count());
-    let at_a_word = |count: usize, places: usize| count % 64 == 0 && (1..places).contains(&count);
+    let at_a_word =
+        |count: usize, places: usize| count.is_multiple_of(64) && (1..places).contains(&count);
     holding(&[
         (Made::InodesAtAWord, at_a_word(inodes, INODES)),
         (Made::FullInodeTable, inodes == INODES),

@@ -38,10 +38,10 @@ fn drawn(mut r: Random) -> Case {
         149..=352 => images::tree(&mut r),
         353..=364 => tables::tables(&mut r),
         365..=376 => images::junk(&mut r),
-        377..=388 => images::headers(&mut r),
-        389..=391 => large::whole(&mut r),
-        392..=393 => large::named(&mut r),
-        394..=397 => large::deep(&mut r),
+        377..=387 => images::headers(&mut r),
+        388..=390 => large::whole(&mut r),
+        391..=392 => large::named(&mut r),
+        393..=397 => large::deep(&mut r),
         _ => large::long_blocks(&mut r),
     };
     let mut image = flash.image;

@@ -34,11 +34,11 @@ pub fn tables(r: &mut Random) -> Flash {
 /// How many inode ids, the root's among them, and how many block ids.
 fn counts(r: &mut Random) -> (u32, u32) {
     let few = (r.between(2, 4) as u32, r.below(4) as u32);
-    match r.below(10) {
+    match r.below(12) {
         0..=2 => (about(r, INODES), few.1),
         3..=5 => (few.0, about(r, BLOCKS)),
         6 => (about(r, INODES), about(r, BLOCKS)),
-        7 => (about_a_word(r, INODES), few.1),
+        7..=9 => (about_a_word(r, INODES), few.1),
         _ => (few.0, about_a_word(r, BLOCKS)),
     }
 }
@@ -100,6 +100,6 @@ fn areas_for(r: &mut Random, records: &[Vec<u8>]) -> Flash {
     }
     let length = (bytes + AreaHeader::SIZE + more).max(128);
     let lengths = [length, length, 128];
-    let count = r.between(2, 3);
+    let count = r.pick(&[2, 2, 3]);
     place(r, &lengths[..count])
 }

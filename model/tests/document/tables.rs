@@ -144,7 +144,8 @@ fn versions_take_no_place() {
 #[test]
 fn places_that_collection_frees() {
     let counts = counts().into_iter().filter(|(inodes, blocks)| !too_many(*inodes, *blocks));
-    for ((inodes, blocks), backwards) in counts.zip([false, true].into_iter().cycle()) {
+    let both_ways = counts.flat_map(|counts| [(counts, false), (counts, true)]);
+    for ((inodes, blocks), backwards) in both_ways {
         let mut flash = volume(2, inodes, blocks, backwards);
         assert_eq!(unlink(&mut flash, "/a"), 0);
         assert_eq!(report(&flash).inodes, inodes);
