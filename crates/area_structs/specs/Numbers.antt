@@ -11,8 +11,7 @@ use borrow.Author.Tests.{eqb-false, ltb-true, ltb-false, ne-eqb}
 use Rattle.calls.specs.Areas.{listed}
 use Rattle.area_list.specs.Numbers.{paired, areaList}
 use Rattle.calls.specs.declared.Descriptor.{Descriptor}
-use Rattle.area_structs.specs.declared.Areas.{Areas}
-use Rattle.area_structs.specs.Entries.{mostEntries, pickA, noAreas, added, goOn, areasOf, mostNumbers}
+use Rattle.area_structs.specs.Entries.{mostEntries, mostNumbers, added, goOn, areasOf}
 
 -- entries as numbers, and so many zeros
 unfoldable flat : List Descriptor → List ℕ
@@ -59,27 +58,27 @@ unfolding flat AllLong listed paired
 flat-listed [] n a = zeros-end n
 flat-listed (d ∷ es) n a = rw (ne-eqb (d .length) 0 (a .0), flat-listed es n (a .1))
 
--- the entries es are copied
-record Holds (a : Areas) (es : List Descriptor) : Type 0 where
-  count : a .count ≡ length es
+-- the entries es are copied, k of them
+record Holds (k : ℕ) (xs : List ℕ) (es : List Descriptor) : Type 0 where
+  count : k ≡ length es
   few : length es ≤ mostEntries
   long : AllLong es
   left : ℕ
   room : left + length es * 2 ≡ mostNumbers
-  numbers : a .numbers ≡ flat es ++ zeros left
+  numbers : xs ≡ flat es ++ zeros left
 
-holds-none : Holds noAreas []
+holds-none : Holds 0 (zeros mostNumbers) []
 unfolding flat AllLong
 holds-none = record { count = refl; few = omega arith; long = tt; left = mostNumbers; room = refl; numbers = refl }
 
-holds-added : (a : Areas) (es : List Descriptor) (d : Descriptor) → Holds a es → a .count < mostEntries → d .length ≢ 0 → Holds (added a d) (es ++ (d ∷ []))
-holds-added a es d h c l = go (h .left) (h .room) (h .numbers)
+holds-added : (k : ℕ) (xs : List ℕ) (es : List Descriptor) (d : Descriptor) → Holds k xs es → k < mostEntries → d .length ≢ 0 → Holds (k + 1) (added xs k d) (es ++ (d ∷ []))
+holds-added k xs es d h c l = go (h .left) (h .room) (h .numbers)
   where
-    go : (n : ℕ) → n + length es * 2 ≡ mostNumbers → a .numbers ≡ flat es ++ zeros n → Holds (added a d) (es ++ (d ∷ []))
-    go zero r e = absurd (let k = h .count in omega arith)
-    go (suc zero) r e = absurd (let k = h .count in omega arith)
+    go : (n : ℕ) → n + length es * 2 ≡ mostNumbers → xs ≡ flat es ++ zeros n → Holds (k + 1) (added xs k d) (es ++ (d ∷ []))
+    go zero r e = absurd (let q = h .count in omega arith)
+    go (suc zero) r e = absurd (let q = h .count in omega arith)
     go (suc (suc n)) r e =
-        let k = h .count in
+        let q = h .count in
         let m = length-append es (d ∷ []) in
         record {
           count = omega arith;
@@ -87,18 +86,18 @@ holds-added a es d h c l = go (h .left) (h .room) (h .numbers)
           long = long-snoc es d (h .long) l;
           left = n;
           room = omega arith;
-          numbers = ap (λ (x : List ℕ). set (set x (a .count * 2) (d .offset)) (a .count * 2 + 1) (d .length)) e
-              ∙ ap (λ (x : List ℕ). set x (a .count * 2 + 1) (d .length)) (set-behind (flat es) (0 ∷ zeros n) 0 (d .offset) (a .count * 2) (omega (arith, flat-length es)))
+          numbers = ap (λ (x : List ℕ). added x k d) e
+              ∙ ap (λ (x : List ℕ). set x (k * 2 + 1) (d .length)) (set-behind (flat es) (0 ∷ zeros n) 0 (d .offset) (k * 2) (omega (arith, flat-length es)))
               ∙ second n
               ∙ sym (flat-snoc es d (zeros n));
         }
       where
-        second : (n : ℕ) → set (flat es ++ (d .offset ∷ 0 ∷ zeros n)) (a .count * 2 + 1) (d .length) ≡ flat es ++ (d .offset ∷ d .length ∷ zeros n)
+        second : (n : ℕ) → set (flat es ++ (d .offset ∷ 0 ∷ zeros n)) (k * 2 + 1) (d .length) ≡ flat es ++ (d .offset ∷ d .length ∷ zeros n)
         second n =
             let f : (v : ℕ) → (flat es ++ (d .offset ∷ [])) ++ (v ∷ zeros n) ≡ flat es ++ (d .offset ∷ v ∷ zeros n) = λ v. append-assoc (flat es) (d .offset ∷ []) (v ∷ zeros n) in
-            ap (λ (x : List ℕ). set x (a .count * 2 + 1) (d .length)) (sym (f 0))
-            ∙ set-behind (flat es ++ (d .offset ∷ [])) (zeros n) 0 (d .length) (a .count * 2 + 1)
-            (let k = h .count in omega (arith, flat-length es, length-append (flat es) (d .offset ∷ [])))
+            ap (λ (x : List ℕ). set x (k * 2 + 1) (d .length)) (sym (f 0))
+            ∙ set-behind (flat es ++ (d .offset ∷ [])) (zeros n) 0 (d .length) (k * 2 + 1)
+            (let q = h .count in omega (arith, flat-length es, length-append (flat es) (d .offset ∷ [])))
             ∙ f (d .length)
 
 take-all : (n : ℕ) (es : List Descriptor) → length es ≤ n → take n (es ++ []) ≡ es
@@ -113,27 +112,27 @@ take-front zero (e ∷ es) l h = absurd (omega arith)
 take-front (suc n) [] l h = absurd (omega arith)
 take-front (suc n) (e ∷ es) l h = ap (λ (x : List Descriptor). e ∷ x) (take-front n es l (omega arith))
 
-holds-listed : (a : Areas) (es : List Descriptor) → Holds a es → areaList (a .numbers) ≡ es
-holds-listed a es h = ap areaList (h .numbers) ∙ flat-listed es (h .left) (h .long)
+holds-listed : (k : ℕ) (xs : List ℕ) (es : List Descriptor) → Holds k xs es → areaList xs ≡ es
+holds-listed k xs es h = ap areaList (h .numbers) ∙ flat-listed es (h .left) (h .long)
 
-going : (list : List Descriptor) (a : Areas) (es : List Descriptor) → Holds a es → areaList (goOn list a .numbers) ≡ take mostEntries (es ++ listed list)
+going : (list : List Descriptor) (k : ℕ) (xs : List ℕ) (es : List Descriptor) → Holds k xs es → areaList (goOn list k xs) ≡ take mostEntries (es ++ listed list)
 unfolding goOn listed
-going [] a es h = holds-listed a es h ∙ sym (take-all mostEntries es (h .few))
-going (d ∷ ds) a es h = go (eqb (d .length) 0) refl (ltb (a .count) mostEntries) refl (λ k. going ds (added a d) (es ++ (d ∷ [])) k)
+going [] k xs es h = holds-listed k xs es h ∙ sym (take-all mostEntries es (h .few))
+going (d ∷ ds) k xs es h = go (eqb (d .length) 0) refl (ltb k mostEntries) refl (λ g. going ds (k + 1) (added xs k d) (es ++ (d ∷ [])) g)
   where
-    go : (p : Bool) → eqb (d .length) 0 ≡ p → (q : Bool) → ltb (a .count) mostEntries ≡ q
-        → (Holds (added a d) (es ++ (d ∷ [])) → areaList (goOn ds (added a d) .numbers) ≡ take mostEntries ((es ++ (d ∷ [])) ++ listed ds))
-        → areaList (pickA p a (pickA q (goOn ds (added a d)) a) .numbers) ≡ take mostEntries (es ++ cond p [] (d ∷ listed ds))
-    go true e q f ih = holds-listed a es h ∙ sym (take-all mostEntries es (h .few))
+    go : (p : Bool) → eqb (d .length) 0 ≡ p → (q : Bool) → ltb k mostEntries ≡ q
+        → (Holds (k + 1) (added xs k d) (es ++ (d ∷ [])) → areaList (goOn ds (k + 1) (added xs k d)) ≡ take mostEntries ((es ++ (d ∷ [])) ++ listed ds))
+        → areaList (cond p xs (cond q (goOn ds (k + 1) (added xs k d)) xs)) ≡ take mostEntries (es ++ cond p [] (d ∷ listed ds))
+    go true e q f ih = holds-listed k xs es h ∙ sym (take-all mostEntries es (h .few))
     go false e true f ih =
-        ih (holds-added a es d h (ltb-true (a .count) mostEntries f) (eqb-false (d .length) 0 e))
+        ih (holds-added k xs es d h (ltb-true k mostEntries f) (eqb-false (d .length) 0 e))
         ∙ ap (take mostEntries) (append-assoc es (d ∷ []) (listed ds))
     go false e false f ih =
-        let k = h .count in
+        let c = h .count in
         let g = h .few in
-        holds-listed a es h ∙ sym (take-front mostEntries es (d ∷ listed ds) (omega (arith, ltb-false (a .count) mostEntries f)))
+        holds-listed k xs es h ∙ sym (take-front mostEntries es (d ∷ listed ds) (omega (arith, ltb-false k mostEntries f)))
 
 -- the array form of a list: its entries before its end, and no more than tell that there are too many
 pub areas-listed : (list : List Descriptor) → areaList (areasOf list .numbers) ≡ take mostEntries (listed list)
 unfolding areasOf
-areas-listed list = going list noAreas [] holds-none
+areas-listed list = going list 0 (zeros mostNumbers) [] holds-none

@@ -83,23 +83,28 @@ abbrev pub scratchHere : Bool → ℕ → ℕ → Bool
 scratchHere true n most = false
 scratchHere false n most = eqb n most
 
+-- the id of the next file area, at the place i
+abbrev pub nextFile : Bool → ℕ → ℕ
+nextFile true i = i - 1
+nextFile false i = i
+
 -- the labels of the areas that are left, when scratch has its place or not
 unfoldable pub labels : Bool → ℕ → ℕ → List Descriptor → List Labelled
 labels true most n ds = numbered n ds
 labels false most n ds = labelled most n ds
 
 -- the image x is what the format makes of x₀ in so many areas
-pub record Writing (x₀ : Bytes) (pairs : List ℕ) (most : ℕ) (x : Bytes) (placed : Bool) (next i : ℕ) : Type 0 where
-  pub few : next ≤ i
+pub record Writing (x₀ : Bytes) (pairs : List ℕ) (most : ℕ) (x : Bytes) (placed : Bool) (i : ℕ) : Type 0 where
+  pub behind : placed ≡ true → 0 < i
   pub long : length x ≡ length x₀
-  pub left : blanked x (labels placed most next (paired (drop (i * 2) pairs))) ≡ blanked x₀ (labelled most 0 (paired pairs))
+  pub left : blanked x (labels placed most (nextFile placed i) (paired (drop (i * 2) pairs))) ≡ blanked x₀ (labelled most 0 (paired pairs))
 
 module _ (x₀ : Bytes) (pairs : List ℕ) (most : ℕ) where
-  pub writing-begins : Writing x₀ pairs most x₀ false 0 0
+  pub writing-begins : Writing x₀ pairs most x₀ false 0
   unfolding labels
-  writing-begins = record { few = omega arith; long = refl; left = refl }
+  writing-begins = record { behind = λ e. absurd (false≢true e); long = refl; left = refl }
 
-  module _ (x : Bytes) (placed : Bool) (next i : ℕ) (w : Writing x₀ pairs most x placed next i) (l : Lent x₀ pairs) where
+  module _ (x : Bytes) (placed : Bool) (i : ℕ) (w : Writing x₀ pairs most x placed i) (l : Lent x₀ pairs) where
     abbrev o : ℕ
     o = getD pairs (i * 2) 0
 
@@ -134,34 +139,34 @@ module _ (x₀ : Bytes) (pairs : List ℕ) (most : ℕ) where
 
     -- one area more
     ahead : {id : ℕ} {later : List Labelled} → i * 2 + 1 < length pairs
-        → labels placed most next (areaOf o n ∷ rest) ≡ record { area = areaOf o n; id = id } ∷ later
+        → labels placed most (nextFile placed i) (areaOf o n ∷ rest) ≡ record { area = areaOf o n; id = id } ∷ later
         → blanked (put x o (emptyArea n 0 id)) later ≡ blanked x₀ (labelled most 0 (paired pairs))
     unfolding blanked
     ahead h e = rw (pair-step pairs i h, e) at (w .left)
 
-    pub writing-scratch : i * 2 + 1 < length pairs → scratchHere placed n most ≡ true → Writing x₀ pairs most (put x o (emptyArea n 0 scratchId)) true next (i + 1)
+    pub writing-scratch : i * 2 + 1 < length pairs → scratchHere placed n most ≡ true → Writing x₀ pairs most (put x o (emptyArea n 0 scratchId)) true (i + 1)
     unfolding labels labelled numbered
-    writing-scratch h e = record { few = omega (arith, w .few); long = step scratchId h; left = ahead h (go placed e) }
+    writing-scratch h e = record { behind = λ _. omega arith; long = step scratchId h; left = ahead h (go placed e) }
       where
         go : (p : Bool) → scratchHere p n most ≡ true
-            → labels p most next (areaOf o n ∷ rest) ≡ record { area = areaOf o n; id = scratchId } ∷ labels true most next rest
+            → labels p most (nextFile p i) (areaOf o n ∷ rest) ≡ record { area = areaOf o n; id = scratchId } ∷ labels true most (nextFile true (i + 1)) rest
         go true c = absurd (false≢true c)
-        go false c = rw c
+        go false c = let z : i + 1 - 1 ≡ i = omega arith in rw (c, z)
 
-    pub writing-file : i * 2 + 1 < length pairs → scratchHere placed n most ≡ false → Writing x₀ pairs most (put x o (emptyArea n 0 next)) placed (next + 1) (i + 1)
+    pub writing-file : i * 2 + 1 < length pairs → scratchHere placed n most ≡ false → Writing x₀ pairs most (put x o (emptyArea n 0 (nextFile placed i))) placed (i + 1)
     unfolding labels labelled numbered
-    writing-file h e = record { few = omega (arith, w .few); long = step next h; left = ahead h (go placed e) }
+    writing-file h e = record { behind = λ _. omega arith; long = step (nextFile placed i) h; left = ahead h (go placed (w .behind) e) }
       where
-        go : (p : Bool) → scratchHere p n most ≡ false
-            → labels p most next (areaOf o n ∷ rest) ≡ record { area = areaOf o n; id = next } ∷ labels p most (next + 1) rest
-        go true c = rw (add-one next)
-        go false c = rw (c, add-one next)
+        go : (p : Bool) → (p ≡ true → 0 < i) → scratchHere p n most ≡ false
+            → labels p most (nextFile p i) (areaOf o n ∷ rest) ≡ record { area = areaOf o n; id = nextFile p i } ∷ labels p most (nextFile p (i + 1)) rest
+        go true b c = let z : i + 1 - 1 ≡ i - 1 + 1 = let g = b refl in omega arith in rw (z, add-one (i - 1))
+        go false b c = rw (c, add-one i)
 
     pub writing-ends : length pairs ≤ i * 2 + 1 → x ≡ blanked x₀ (labelled most 0 (paired pairs))
     unfolding blanked labelled numbered labels
     writing-ends h = go placed (rw (paired-end pairs (i * 2) h) at (w .left))
       where
-        go : (p : Bool) → blanked x (labels p most next []) ≡ blanked x₀ (labelled most 0 (paired pairs)) → x ≡ blanked x₀ (labelled most 0 (paired pairs))
+        go : (p : Bool) → blanked x (labels p most (nextFile p i) []) ≡ blanked x₀ (labelled most 0 (paired pairs)) → x ≡ blanked x₀ (labelled most 0 (paired pairs))
         go true e = e
         go false e = e
 

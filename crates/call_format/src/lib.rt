@@ -1,12 +1,12 @@
 // Format: every described area erased and headed, and the root in the first file area. The areas are numbers, offset and length in turn.
 ghost use mathlib.Core.Path.{_≡_};
-ghost use mathlib.Core.Bool.{cond};
-ghost use Prim.Native.Nat.{_≤_};
+ghost use mathlib.Core.Bool.{true, cond};
+ghost use Prim.Native.Nat.{_≤_, _<_};
 ghost use lib.ListN.{length};
 ghost use Rattle.format.specs.AreaHeader.{scratchId};
 ghost use Rattle.area_list.specs.Numbers.{paired, areaList};
 ghost use Rattle.calls.specs.Format.{longestLength, labelled, blanked, rooted, formatted, formatNumber, imageFormatted};
-ghost use Rattle.call_format.specs.Areas.{Lent, scratchHere, firstFile};
+ghost use Rattle.call_format.specs.Areas.{Lent, scratchHere, nextFile, firstFile};
 use area_list::count_good_areas;
 use area_read::HEADER_SIZE;
 use area_read::SCRATCH_ID;
@@ -45,14 +45,19 @@ fn is_scratch(placed: bool, span: u32, most: u32) -> bool
     span == most
 }
 
-// The id of the next area: that of scratch, or the next of the file areas.
-fn next_id(scratch: bool, next: u8) -> u8
-    ensures { λ r. ⌜ r ≡ cond scratch scratchId next ⌝ }
+// The id of the area at the place `i`: that of scratch, or the next of the file areas, which is behind the places once scratch has its own.
+fn next_id(scratch: bool, placed: bool, i: usize) -> u8
+    requires { ⌜ i < 256 ⌝ }
+    requires { ⌜ (placed ≡ true → 0 < i) ⌝ }
+    ensures { λ r. ⌜ r ≡ cond scratch scratchId (nextFile placed i) ⌝ }
 {
     if scratch {
         return SCRATCH_ID;
     }
-    next
+    if placed {
+        return (i - 1) as u8;
+    }
+    i as u8
 }
 
 // Writes all areas: the first of the longest is scratch, the others have ids in order.
@@ -61,18 +66,16 @@ fn write_areas(image: &mut [u8], pairs: &[u32], most: u32)
     ensures { λ _. ⌜ now (image .exit) ≡ blanked (now (image .entry)) (labelled most 0 (paired (now (pairs .entry)))) ⌝ }
 {
     let mut placed = false;
-    let mut next: u8 = 0;
     let mut i = 0;
     while i < pairs.len() / 2 {
         let offset = pairs[i * 2];
         let span = pairs[i * 2 + 1];
         let scratch = is_scratch(placed, span, most);
-        write_area(&mut *image, offset, span, 0, next_id(scratch, next));
+        write_area(&mut *image, offset, span, 0, next_id(scratch, placed, i));
         if scratch {
             placed = true;
             i += 1;
         } else {
-            next += 1;
             i += 1;
         }
     }

@@ -27,7 +27,7 @@ fn describe(count: usize) -> Areas
         numbers[i * 2 + 1] = AREA as u32;
         i += 1;
     }
-    Areas { count, numbers }
+    Areas { numbers }
 }
 
 // What the program reports of its input.

@@ -17,22 +17,23 @@ use prog.Wp.{Heap, Calls, Loops, WpFn, Tables}
 use ghost.Atoms.{Atoms, sem}
 use contract.Monad.{Fun, fact}
 use contract.Running.{givenOf, tables, tablesOf}
-use types.Kit.{Given, ‵, raw, _⊛_, some, later, _$_, _∵_, !, qed, by, move, keep, drop, use1, use2, split, join, pick, rewrite, fjoin, suffices, frame, await, done}
+use types.Kit.{Given, ‵, raw, _⊛_, some, given, later, _$_, _∵_, !, qed, by, move, keep, use1, use2, split, join, pick, learn, rewrite, fjoin, suffices, frame, await, done}
 use types.Part.{agg}
 use types.Run.{look, init, forget, stop, from, load, lit, addr, of-opd, and-then, no-more, assigns, land, returns, enter, alloc1, alloc0, params1, pass1, pass0, free1, free0}
 use types.Share.{arr-parts}
 use types.Tokens.{lft-new, lft-end, lent-back}
 use sound.WpLaws.{FmC, fmOf, WpFn-mono}
-use denote.RattleType.{owns}
+use denote.RattleType.{RattleType}
 use denote.Laws.{Is, shows}
-use denote.Memory.{pointee, shares}
+use denote.Memory.{pointee, partAt, shares}
 use denote.Array.{Array, array-vals, array-tells, array-lawful}
+use denote.ArrayMemory.{array-apart, array-whole}
 use denote.Builtin.{ArrayOf}
 use denote.Lend.{lends-shr-slice}
 use denote.Ref.{RefT}
 use denote.Slice.{sliceTy, sliceVal, ShrSlice, Room}
 use denote.Signature.{plain}
-use denote.Steps.{peeks, heard, nothing}
+use denote.Steps.{only, peeks, heard, nothing}
 use denote.Struct.Laws as LL
 use denote.Triple.Entry.{onEntry}
 use denote.Triple.Spec.{Meets, tripleOf}
@@ -47,7 +48,7 @@ use Rattle.area_list.specs.Numbers.{areaList}
 use Rattle.area_structs.specs.Entries.{mostEntries, areasOf}
 use Rattle.calls.specs.declared.Descriptor.{Descriptor}
 use Rattle.area_structs.specs.declared.Areas.{Areas}
-use Rattle.area_structs.proofs.Local.{val, row-in, row-out}
+use Rattle.area_structs.proofs.Local.{lies-in, lies-out}
 use Rattle.calls.proofs.Descriptor as D
 use Rattle.calls.proofs.Descriptor.Laws as D′
 use Rattle.area_structs.proofs.Areas as R
@@ -63,6 +64,13 @@ use Rattle.area_structs.proofs.areas_in.Code as code
 
 abbrev stayed : Stays (f.ended .signature .params) (f.ended .kept)
 stayed = (stay-dropped (ArrayOf (plain (λ _. D.the-row)) (λ _. tt) mostEntries) yes, tt)
+
+abbrev row : RattleType
+row = Array D.the-row mostEntries
+
+-- the machine value of a list
+abbrev val : List Descriptor → Val
+val ys = only (array-vals (LL.vals D.the-type D′.the-laws) ys)
 
 -- what `areas_of` says of a list
 abbrev Resolved : List Descriptor → Areas → Type 0
@@ -118,7 +126,7 @@ module _ {M : Type 1} (𝓤 : URA M) (H : Heap 𝓤) (A : Atoms 𝓤) (W : Given
         assigns ! (agg ! (and-then ! (load ! (from ! (stop !)) (look ! 2 refl)) (and-then ! (lit ! tt) (no-more !)))) (from ! (stop !)) (init ! 0 refl (tt, (tt, (record { fits = lit< tt }, tt)))) $
         rewrite ! 0 (λ (k : ℕ). ‵ (fat fullShare slice l₄ 0 (sliceVal (l₂, 0) k))) (sym long) refl $
         -- the array's local is lent as a slice for a lifetime ν of the call
-        move ! (4 ∷ []) $ use1 W (‵ (arr-parts (shares D.the-row) mostEntries .part fullShare ys l₂ 0)) (row-in 𝓤 H A W mostEntries ys l₂ ys-is) $ rewrite ! 0 (λ (k : ℕ). ‵ (arr-parts (shares D.the-row) k .part fullShare ys l₂ 0)) (sym long) refl $
+        move ! (4 ∷ []) $ use1 W (‵ (partAt row fullShare ys l₂ 0)) (lies-in 𝓤 H A W D.the-row (LL.vals D.the-type D′.the-laws) mostEntries ys l₂ (LL.makes D.the-type D′.the-plain 𝓤 H A) ys-is) $ use1 W (‵ (arr-parts (shares D.the-row) mostEntries .part fullShare ys l₂ 0)) (array-apart 𝓤 H A W D.the-row fullShare tt mostEntries ys l₂ 0) $ rewrite ! 0 (λ (k : ℕ). ‵ (arr-parts (shares D.the-row) k .part fullShare ys l₂ 0)) (sym long) refl $
         lft-new ! tt (λ ν. move ! (1 ∷ []) $
         use1 W (later (some (λ (δ : GName). ‵ (ShrSlice (named 0) (ν ∷ []) D.the-row .own (lent l₂ δ) (sliceVal (l₂, 0) (length ys) ∷ [])) ⊛ ‵ (flent (ν ∷ []) (arr-parts (shares D.the-row) (length ys) .part fullShare ys l₂ 0))))) (lends-shr-slice 𝓤 H A W D.the-row (named 0) (ν ∷ []) fullShare ys l₂ 0 room) $ await ! tt $ pick ! (λ δ. split ! $
         -- [the slice; the lender's part; ν's token; _4; …; _3; …; …; _1; …; room for _0; …]
@@ -130,10 +138,11 @@ module _ {M : Type 1} (𝓤 : URA M) (H : Heap 𝓤) (A : Atoms 𝓤) (W : Given
         peeks ! R.the-row (Is R.the-row) (shows 𝓤 H A R.the-row) r (w ∷ []) (λ is.
         land ! (from ! (stop !)) (init ! 10 refl (LL.lawful R.the-type R′.the-laws 𝓤 H A W .typed r _ is .0)) $
         -- the lifetime is ended, and the array comes back
-        move ! (1 ∷ []) $ split ! $ lft-end ! tt $ move ! (0 ∷ 3 ∷ []) $ lent-back ! tt $ rewrite ! 0 (λ (k : ℕ). ‵ (arr-parts (shares D.the-row) k .part fullShare ys l₂ 0)) long refl $ use1 W (‵ (fat fullShare (tyArray D′.mir mostEntries) l₂ 0 (val ys))) (row-out 𝓤 H A W mostEntries ys l₂) $
+        move ! (1 ∷ []) $ split ! $ lft-end ! tt $ move ! (0 ∷ 3 ∷ []) $ lent-back ! tt $ rewrite ! 0 (λ (k : ℕ). ‵ (arr-parts (shares D.the-row) k .part fullShare ys l₂ 0)) long refl $ use1 W (‵ (partAt row fullShare ys l₂ 0)) (array-whole 𝓤 H A W D.the-row fullShare mostEntries ys l₂ 0) $
+        use1 W (given (Is row ys (val ys ∷ [])) (‵ (fat fullShare (tyArray D′.mir mostEntries) l₂ 0 (val ys)))) (lies-out 𝓤 H A W D.the-row (LL.vals D.the-type D′.the-laws) mostEntries ys l₂ (LL.tells D.the-type D′.the-laws)) $ learn ! (λ _.
         -- [_2; true; the result; _4; …; _3; …; …; _1; …; _0; …]
         returns ! (look ! 10 refl) $ forget ! 0 refl $ forget ! 3 refl $ forget ! 5 refl $ forget ! 8 refl $ forget ! 10 refl $
-        move ! (10 ∷ 11 ∷ []) $ free1 ! $ move ! (8 ∷ 9 ∷ []) $ free1 ! $ move ! (0 ∷ 7 ∷ []) $ free1 ! $ move ! (4 ∷ 5 ∷ []) $ free1 ! $ move ! (2 ∷ 3 ∷ []) $ free1 ! $ free0 ! $ keep ! (1 ∷ []) $ by ! (exits r w e))))))))))))
+        move ! (10 ∷ 11 ∷ []) $ free1 ! $ move ! (8 ∷ 9 ∷ []) $ free1 ! $ move ! (0 ∷ 7 ∷ []) $ free1 ! $ move ! (4 ∷ 5 ∷ []) $ free1 ! $ move ! (2 ∷ 3 ∷ []) $ free1 ! $ free0 ! $ keep ! (1 ∷ []) $ by ! (exits r w e)))))))))))))
 
 module _ {M : Type 1} (𝓤 : URA M) (H : Heap 𝓤) (A : Atoms 𝓤) (W : Given 𝓤 H A) (mem : Memory → SProp 𝓤) (run : Routine → Fun 𝓤) where
   areas-in-walks : (C : Calls 𝓤 H) (Λ : Loops 𝓤 H) → FmC 𝓤 H (W .laws) C → Triple 𝓤 (C #descriptor-list·areas-of) (AreasOf 𝓤 H A mem run) → Walks 𝓤 H A f.ended stayed (WpFn 𝓤 H C Λ code.function) (f.clauses 𝓤 H A mem run)

@@ -11,10 +11,10 @@ use Rattle.call_format.proofs.write_areas.Statement.{statement}
 use Rattle.call_format.proofs.write_areas.Tie as tie
 
 abbrev Inv-loop : tie.InvT-loop
-Inv-loop image₀ pairs most placed₀ next₀ i₀ image placed next i = Writing image₀ pairs most image placed next i
+Inv-loop image₀ pairs most placed₀ i₀ image placed i = Writing image₀ pairs most image placed i
 
 abbrev μ-loop : tie.MeasureT-loop
-μ-loop image₀ pairs most placed₀ next₀ i₀ image placed next i = length pairs - i
+μ-loop image₀ pairs most placed₀ i₀ image placed i = length pairs - i
 
 abbrev start : tie.At-loop Inv-loop μ-loop → tie.Start Inv-loop μ-loop
 start l = l .before .before .before
@@ -29,7 +29,7 @@ module _ (c : tie.In-loop Inv-loop μ-loop) where
 
   room : (getD (start (c .before) .args .pairs .now) (c .before .loop .i * 2) 0 + getD (start (c .before) .args .pairs .now) (c .before .loop .i * 2 + 1) 0 ≤ length (c .before .loop .image))
       × (areaHeaderSize ≤ getD (start (c .before) .args .pairs .now) (c .before .loop .i * 2 + 1) 0) × (length (c .before .loop .image) ≤ largestImage)
-  room = writing-room _ _ _ _ _ _ _ (c .before .loop .inv) (start (c .before) .pre) here
+  room = writing-room _ _ _ _ _ _ (c .before .loop .inv) (start (c .before) .pre) here
 
 -- the turn, from where the area was written
 abbrev written : tie.After-write-area Inv-loop μ-loop → tie.After-is-scratch Inv-loop μ-loop
@@ -48,14 +48,7 @@ loop-again c =
     let n = turn s in
     let l = n .before in
     rw (w .write-area .ensures, w .before .next-id .ensures, c .if1 .taken)
-    (writing-scratch _ _ _ _ _ _ _ (l .loop .inv) (start l .pre) (here n) (sym (s .is-scratch .ensures) ∙ c .if1 .taken))
-
-add-next : tie.Need-add-next Inv-loop μ-loop
-add-next c =
-    let n = turn (written (c .before .before .before)) in
-    let f = n .before .loop .inv .few in
-    let g = start (n .before) .pre .few in
-    omega (arith, n .loop-test .taken)
+    (writing-scratch _ _ _ _ _ _ (l .loop .inv) (start l .pre) (here n) (sym (s .is-scratch .ensures) ∙ c .if1 .taken))
 
 loop-again-2 : tie.Need-loop-again-2 Inv-loop μ-loop
 loop-again-2 c =
@@ -64,10 +57,10 @@ loop-again-2 c =
     let n = turn s in
     let l = n .before in
     rw (w .write-area .ensures, w .before .next-id .ensures, c .if1 .left)
-    (writing-file _ _ _ _ _ _ _ (l .loop .inv) (start l .pre) (here n) (sym (s .is-scratch .ensures) ∙ c .if1 .left))
+    (writing-file _ _ _ _ _ _ (l .loop .inv) (start l .pre) (here n) (sym (s .is-scratch .ensures) ∙ c .if1 .left))
 
 returns : tie.Need-returns Inv-loop μ-loop
-returns c = writing-ends _ _ _ _ _ _ _ (c .before .loop .inv) (start (c .before) .pre) (omega (arith, c .loop-test .left))
+returns c = writing-ends _ _ _ _ _ _ (c .before .loop .inv) (start (c .before) .pre) (omega (arith, c .loop-test .left))
 
 pub write-areas-spec : {M : Type 1} → statement M
 write-areas-spec =
@@ -89,7 +82,6 @@ write-areas-spec =
     (λ c. omega arith)
     (λ c. omega arith)
     loop-again
-    add-next
     (λ c. omega arith)
     (λ c. omega arith)
     loop-again-2
