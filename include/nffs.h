@@ -6,7 +6,7 @@
  *
  *   image   0 to 65,536 bytes, the flash.
  *   areas   offset and length of each area. The list ends at the first length 0 or at its end; what stands behind is not looked at. Good
- *           are 1 to 8 areas of 128 to 65,536 bytes, inside the image, none overlapping.
+ *           are 1 to 16 areas of 128 to 65,536 bytes, inside the image, none overlapping.
  *   base    what a path without a leading slash is taken below: a good absolute path. Otherwise it is not looked at and may be empty.
  *   path    1 to 1,024 bytes: "/", or names of 1 to 255 bytes parted by single slashes, none at the end, no NUL. Nothing has to stand
  *           behind it.
@@ -34,7 +34,7 @@
 #include <string.h>
 
 /* Of the calls and their declarations here. */
-#define NFFS_VERSION "0.1.0"
+#define NFFS_VERSION "0.2.0"
 
 /* An answer that nobody looks at may be a refusal. */
 #if defined(__cplusplus) && __cplusplus >= 201703L
@@ -67,7 +67,7 @@ enum {
     NFFS_SAME_AREA_ID = 2,        /* two file areas have one id */
     NFFS_NO_FILE_OR_SCRATCH = 3,  /* no file area, or not exactly one scratch area */
     NFFS_SHORT_SCRATCH = 4,       /* scratch shorter than a file area */
-    NFFS_TOO_MANY_IDS = 5,        /* more than 64 inode ids or 256 block ids */
+    NFFS_TOO_MANY_IDS = 5,        /* more than 256 inode ids or 1,024 block ids */
     NFFS_CONFLICT = 6,            /* two records of one id, same sequence, different bytes */
     NFFS_NO_ROOT = 7,             /* no record of the root */
     NFFS_BAD_PATH = 8,            /* bad path or name; over 8,192 bytes to append; creating or unlinking the root */
@@ -85,8 +85,8 @@ enum {
 /* What nffs_lookup finds and nffs_create is told. To nffs_create every number but 0 is a file. */
 enum { NFFS_DIRECTORY = 0, NFFS_FILE = 1 };
 
-/* The most bytes that one nffs_append takes. */
-enum { NFFS_APPEND_MOST = 8192 };
+/* The most areas of a list, and the most bytes that one nffs_append takes. */
+enum { NFFS_MOST_AREAS = 16, NFFS_APPEND_MOST = 8192 };
 
 /* The answers. Where the number is not 0, the others are 0. */
 
@@ -195,7 +195,7 @@ static inline const char *nffs_meaning(uint32_t number) {
     case NFFS_SAME_AREA_ID: return "two file areas have one id";
     case NFFS_NO_FILE_OR_SCRATCH: return "no file area, or not exactly one scratch area";
     case NFFS_SHORT_SCRATCH: return "scratch shorter than a file area";
-    case NFFS_TOO_MANY_IDS: return "more than 64 inode ids or 256 block ids";
+    case NFFS_TOO_MANY_IDS: return "more than 256 inode ids or 1,024 block ids";
     case NFFS_CONFLICT: return "two records of one id, same sequence, different bytes";
     case NFFS_NO_ROOT: return "no record of the root";
     case NFFS_BAD_PATH: return "bad path or name, too much to append, or creating or unlinking the root";

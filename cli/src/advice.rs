@@ -6,7 +6,7 @@ use nffs::Refusal;
 /// program offers for it.
 #[rustfmt::skip]
 const TABLE: [(u32, &str, &str); 17] = [
-    (1, "Give the areas that the volume was formatted with: 1 to 8, of 128 to 65,536 bytes, inside the image, none overlapping. The image has at most 65,536 bytes.",
+    (1, "Give the areas that the volume was formatted with: 1 to 16, of 128 to 65,536 bytes, inside the image, none overlapping. The image has at most 65,536 bytes.",
         "`nffs areas IMAGE` prints the areas whose headers it sees; --at names the place of a volume in a longer file."),
     (2, "Give the areas that the volume was formatted with. If they are these, the header of an area is damaged, by a single bit perhaps, or power was lost during a collection, for which there is no recovery call yet. Nothing can be read or written. Keep the image: the files may all be whole.",
         "`nffs check IMAGE` shows the header of each area."),

@@ -7,15 +7,13 @@ use crate::arguments::{number, usage, Arguments};
 use crate::console::say;
 use crate::failure::Failure;
 use crate::image_file::MOST;
-use nffs::Area;
+use nffs::{Area, MOST_AREAS};
 use std::ffi::OsStr;
 use std::fs::File;
 use std::io::Read;
 use std::os::unix::ffi::OsStrExt;
 use std::path::Path;
 
-/// The most areas of a good list.
-const AREAS_MOST: usize = 8;
 /// The lengths of a good area.
 const LENGTHS: std::ops::RangeInclusive<u32> = 128..=MOST as u32;
 const MAGICS: [u32; 4] = [0xb98a_31e2, 0x7fb0_428c, 0xace0_8253, 0xb185_fc8e];
@@ -104,9 +102,9 @@ pub fn take(arguments: &Arguments, image: &[u8]) -> Result<Vec<Area>, Failure> {
     if many == 0 {
         return Err(none_seen(arguments));
     }
-    if many > AREAS_MOST {
+    if many > MOST_AREAS {
         return Err(Failure::Unfit(format!(
-            "{} area headers are seen in {}, and a volume has at most {AREAS_MOST}: name its own \
+            "{} area headers are seen in {}, and a volume has at most {MOST_AREAS}: name its own \
              with --areas",
             many,
             arguments.image.display()
@@ -185,14 +183,14 @@ fn parse(text: &str) -> Result<Vec<Area>, Failure> {
     };
     // there a list ends for the calls; so it does for what is shown
     areas.truncate(areas.iter().position(|a| a.length == 0).unwrap_or(areas.len()));
-    if areas.len() > AREAS_MOST {
+    if areas.len() > MOST_AREAS {
         return Err(too_many());
     }
     Ok(areas)
 }
 
 fn row(length: u32, count: u32) -> Result<Vec<Area>, Failure> {
-    if count as usize > AREAS_MOST {
+    if count as usize > MOST_AREAS {
         return Err(too_many());
     }
     (0..count)
@@ -217,5 +215,5 @@ fn number_of(text: &str) -> Result<u32, Failure> {
 }
 
 fn too_many() -> Failure {
-    usage(format!("--areas: more than {AREAS_MOST} areas"))
+    usage(format!("--areas: more than {MOST_AREAS} areas"))
 }

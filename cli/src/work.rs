@@ -4,10 +4,10 @@ use crate::areas::header;
 use crate::arguments::Arguments;
 use crate::console::{count, Progress};
 use crate::failure::Failure;
-use nffs::{Area, Kind, Refusal};
+use nffs::{Area, Kind, Refusal, MOST_AREAS};
 
 /// No volume is collected oftener for one call: so often each area's count has gone round.
-const COLLECTIONS_MOST: u32 = 4096;
+const COLLECTIONS_MOST: u32 = 256 * MOST_AREAS as u32;
 
 /// Collections of one volume, as long as they can give something. They give nothing more once
 /// every area has been collected since records went the last time.

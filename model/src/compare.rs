@@ -9,7 +9,7 @@ use crate::generate::made::{self, Made};
 pub use crate::shrink::shrink;
 use crate::{generate, Create, Handle, Lookup, Open, Read, Report};
 
-/// The calls of document 01.
+/// The calls of documents 01 and 02.
 pub trait Engine {
     fn format(&self, image: &mut [u8], areas: &[u32]) -> u32;
     fn report(&self, image: &[u8], areas: &[u32]) -> Report;
@@ -268,15 +268,22 @@ pub struct Tally {
 
 impl Tally {
     fn begin(&mut self, case: &Case) {
-        made::in_image(case).into_iter().for_each(|made| self.met(made));
+        let met = [made::in_list(&case.areas), made::in_image(case)].concat();
+        met.into_iter().for_each(|made| self.met(made));
     }
 
-    fn count(&mut self, call: &Call, answer: &Answer) {
+    /// `side` is what the call left.
+    fn count(&mut self, call: &Call, answer: &Answer, side: &Side) {
         if call.is_call() {
             self.calls += 1;
             *self.answers.entry((call.name(), answer[0])).or_default() += 1;
-            made::in_call(call, answer).into_iter().for_each(|made| self.met(made));
         }
+        let met = match call {
+            Call::Areas(list) => made::in_list(list),
+            Call::Damage { .. } | Call::Handle { .. } => Vec::new(),
+            _ => made::in_call(call, answer, side),
+        };
+        met.into_iter().for_each(|made| self.met(made));
     }
 
     fn met(&mut self, made: Made) {
@@ -302,7 +309,7 @@ pub fn run(
     let (mut a, mut b) = (Side::new(case), Side::new(case));
     for (call, step) in case.calls.iter().enumerate() {
         let answers = (a.perform(left, step), b.perform(right, step));
-        tally.count(step, &answers.0);
+        tally.count(step, &answers.0, &a);
         if let Some(what) = difference(&answers, &a, &b) {
             return Some(Difference { call, what });
         }

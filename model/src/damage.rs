@@ -103,6 +103,12 @@ pub fn spared(fs: &FileSystem, touched: &Touched) -> Vec<u32> {
     live.filter(|id| is_file(*id) && is_spared(*id)).collect()
 }
 
+/// Some of these files, spread over them: each takes many calls to ask about,
+/// and of a full table there are hundreds.
+pub fn some_of(files: &[u32]) -> Vec<u32> {
+    files.iter().copied().step_by(files.len().div_ceil(8).max(1)).collect()
+}
+
 /// Base and path in each way to spell a live inode's path: absolute, or below
 /// a base of some of its names. Those over the limits are left out.
 fn spellings(fs: &FileSystem, id: u32) -> Vec<(Vec<u8>, Vec<u8>)> {

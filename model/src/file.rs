@@ -1,5 +1,7 @@
 //! "A live file's contents", open and read.
 
+use std::collections::{BTreeMap, BTreeSet};
+
 use crate::layout::{is_file, Block, NONE};
 use crate::lookup::find;
 use crate::mount::{mount, Fate, FileSystem};
@@ -18,15 +20,14 @@ pub fn contents(fs: &FileSystem, id: u32) -> Result<Vec<Block>, Refusal> {
 /// "one chain by "previous", one block named by none of them, ending in NONE,
 /// using all of them", in file order.
 fn chain(blocks: &[&Block]) -> Option<Vec<Block>> {
-    let unnamed: Vec<&&Block> = blocks
-        .iter()
-        .filter(|block| blocks.iter().all(|other| other.previous != block.id))
-        .collect();
+    let by_id: BTreeMap<u32, &Block> = blocks.iter().map(|block| (block.id, *block)).collect();
+    let named: BTreeSet<u32> = blocks.iter().map(|block| block.previous).collect();
+    let unnamed: Vec<&&Block> = blocks.iter().filter(|block| !named.contains(&block.id)).collect();
     let [last] = unnamed[..] else { return None };
     let mut chain = vec![(*last).clone()];
     while chain.len() < blocks.len() {
         let previous = chain[chain.len() - 1].previous;
-        let block = blocks.iter().find(|block| block.id == previous)?;
+        let block = by_id.get(&previous)?;
         chain.push((*block).clone());
     }
     chain.reverse();
@@ -65,7 +66,12 @@ fn size(blocks: &[Block]) -> usize {
 /// "those from the last block back to the one holding the first byte given":
 /// all blocks that end after the position.
 fn headers(blocks: &[Block], position: usize) -> usize {
-    (0..blocks.len()).filter(|i| size(&blocks[..=*i]) > position).count()
+    let mut end = 0;
+    let ends_after = |block: &&Block| {
+        end += block.data.len();
+        end > position
+    };
+    blocks.iter().filter(ends_after).count()
 }
 
 /// "A read gives as many bytes as the buffer and the file allow, in the front

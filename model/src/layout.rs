@@ -114,10 +114,11 @@ impl Inode {
         with_check(bytes, &self.name)
     }
 
-    /// The inode at the front of `rest`, of which only "header and body lie
-    /// inside the area, magic and check are right" is known.
+    /// The inode at the front of `rest`, where its magic is, of which only
+    /// "header and body lie inside the area" and that the check is right is
+    /// known.
     fn parse(rest: &[u8]) -> Option<Inode> {
-        if rest.len() < Self::HEADER || u32_at(rest, 0) != Self::MAGIC {
+        if rest.len() < Self::HEADER {
             return None;
         }
         let end = Self::HEADER + usize::from(rest[17]);
@@ -181,7 +182,7 @@ impl Block {
     }
 
     fn parse(rest: &[u8]) -> Option<Block> {
-        if rest.len() < Self::HEADER || u32_at(rest, 0) != Self::MAGIC {
+        if rest.len() < Self::HEADER {
             return None;
         }
         let end = Self::HEADER + usize::from(u16_at(rest, 20));
@@ -232,13 +233,19 @@ pub enum Record {
 impl Record {
     /// "Acceptable record at a place": the one that starts at the front of
     /// `rest`, which reaches to the end of the area.
+    #[inline]
     pub fn acceptable(rest: &[u8]) -> Option<Record> {
         Record::parse(rest).filter(Record::fields_are_acceptable)
     }
 
     /// "header and body lie inside the area, magic and check are right".
+    #[inline]
     pub fn parse(rest: &[u8]) -> Option<Record> {
-        Inode::parse(rest).map(Record::Inode).or_else(|| Block::parse(rest).map(Record::Block))
+        match u32::from_le_bytes(*rest.first_chunk()?) {
+            Inode::MAGIC => Inode::parse(rest).map(Record::Inode),
+            Block::MAGIC => Block::parse(rest).map(Record::Block),
+            _ => None,
+        }
     }
 
     fn fields_are_acceptable(&self) -> bool {

@@ -10,14 +10,14 @@ use crate::Report;
 
 /// "An image: 0 to 65,536 bytes".
 pub const IMAGE: usize = 65_536;
-/// "1 to 8 entries".
-pub const DESCRIPTORS: usize = 8;
+/// "descriptors to 16" (document 02, T-06).
+pub const DESCRIPTORS: usize = 16;
 /// "each length 128 to 65,536".
 pub const SHORTEST_AREA: u64 = 128;
 pub const LONGEST_AREA: u64 = 65_536;
-/// "tables of 64 and 256 places".
-pub const INODES: usize = 64;
-pub const BLOCKS: usize = 256;
+/// "Raise inodes to 256, blocks to 1,024" (document 02, T-06).
+pub const INODES: usize = 256;
+pub const BLOCKS: usize = 1024;
 
 /// A good descriptor: the bytes of the image that it describes.
 pub type Descriptor = Range<usize>;
@@ -32,8 +32,8 @@ fn entries(areas: &[u32]) -> Vec<(u64, u64)> {
         .collect()
 }
 
-/// Check 1: "Good: 1 to 8 entries, each length 128 to 65,536, each wholly
-/// inside the image, no two overlapping."
+/// Check 1: 1 to 16 entries (document 02, T-06), "each length 128 to 65,536,
+/// each wholly inside the image, no two overlapping."
 pub fn descriptors(image: &[u8], areas: &[u32]) -> Result<Vec<Descriptor>, Refusal> {
     let entries = entries(areas);
     let count = (1..=DESCRIPTORS).contains(&entries.len());
@@ -147,7 +147,7 @@ fn counting(file_areas: &[FileArea]) -> Result<BTreeMap<u32, Record>, Refusal> {
     Ok(greatest(file_areas))
 }
 
-/// Check 5, also for a write, "with the new records counted in".
+/// Check 5 with the limits of document 02, T-06; also for a write, "with the new records counted in".
 fn tables_hold(ids: &BTreeSet<u32>, new_inodes: usize, new_blocks: usize) -> Result<(), Refusal> {
     let blocks = ids.iter().filter(|id| is_block(**id)).count();
     let inodes = ids.len() - blocks;
@@ -209,11 +209,11 @@ impl FileSystem {
         self.counting(id).and_then(Record::inode)
     }
 
-    /// Follows the counting records of the inode and its parents.
+    /// Follows the counting records of the inode and its parents. A chain that
+    /// goes on for longer than there are records loops.
     pub fn fate(&self, id: u32) -> Fate {
-        let mut seen = BTreeSet::new();
         let mut at = id;
-        loop {
+        for _ in 0..self.counting.len() {
             let Some(inode) = self.inode(at) else { return Fate::Orphan };
             if at == ROOT {
                 return Fate::Live;
@@ -221,11 +221,9 @@ impl FileSystem {
             if inode.is_deletion() {
                 return Fate::Dead;
             }
-            if !seen.insert(at) {
-                return Fate::Orphan;
-            }
             at = inode.parent;
         }
+        Fate::Orphan
     }
 
     /// 5 "tested again ... with the new records counted in".

@@ -2,7 +2,8 @@
 
 #[derive(Clone, Copy, Debug, PartialEq, Eq)]
 pub enum Refusal {
-    /// image over 65,536 bytes or descriptors not good
+    /// image over 65,536 bytes or descriptors not good, which have 16 entries
+    /// at most (document 02, T-06)
     Descriptors = 1,
     /// two file areas have one id
     SharedAreaId = 2,
@@ -10,7 +11,8 @@ pub enum Refusal {
     Areas = 3,
     /// scratch shorter than a file area
     ShortScratch = 4,
-    /// more than 64 inode ids or 256 block ids in accepted records
+    /// more than 256 inode ids or 1,024 block ids in accepted records (document
+    /// 02, T-06)
     Tables = 5,
     /// two records of one id, same sequence, different bytes
     Clash = 6,

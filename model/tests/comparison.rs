@@ -17,7 +17,7 @@ fn tally(seeds: std::ops::Range<u64>) -> Tally {
     }
 }
 
-/// The numbers that document 01 allows each call.
+/// The numbers that the documents allow each call.
 const ANSWERS: [(&str, &[u32]); 10] = [
     ("Format", &[0, 1, 3]),
     ("Report", &[0, 1, 2, 3, 4, 5, 6, 7]),

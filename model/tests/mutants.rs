@@ -30,7 +30,7 @@ enum Impostor {
     RefusedAnswerKeepsId,
     FormatErasesEverything,
     WalkBeforeEight,
-    NinthEntryIgnored,
+    SeventeenthEntryIgnored,
 }
 
 struct Wrapped(Impostor);
@@ -52,8 +52,8 @@ impl Engine for Wrapped {
     }
 
     fn report(&self, image: &[u8], areas: &[u32]) -> Report {
-        let ninth = self.is(Impostor::NinthEntryIgnored);
-        let areas = if ninth { &areas[..areas.len().min(16)] } else { areas };
+        let ignored = self.is(Impostor::SeventeenthEntryIgnored);
+        let areas = if ignored { &areas[..areas.len().min(2 * 16)] } else { areas };
         let report = MODEL.report(image, areas);
         if self.is(Impostor::NoDamageReported) {
             return Report { stretches: 0, skipped: 0, ..report };
@@ -154,7 +154,7 @@ fn impostors_at_the_call() {
         Impostor::RefusedAnswerKeepsId,
         Impostor::FormatErasesEverything,
         Impostor::WalkBeforeEight,
-        Impostor::NinthEntryIgnored,
+        Impostor::SeventeenthEntryIgnored,
     ] {
         found(&format!("{impostor:?}"), &Wrapped(impostor));
     }

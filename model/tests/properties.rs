@@ -4,7 +4,7 @@ use std::collections::BTreeMap;
 
 use nffs_model::compare::{Answer, Call, Model, Side};
 use nffs_model::damage::{
-    answers_stay, mount_number, overwrite, reads_as_untouched, spared, Touched,
+    answers_stay, mount_number, overwrite, reads_as_untouched, some_of, spared, Touched,
 };
 use nffs_model::file::contents;
 use nffs_model::generate::{self, Random};
@@ -166,16 +166,20 @@ fn damage_leaves_the_untouched_alone() {
 }
 
 /// Each live file of which no record was touched keeps number, parent, name,
-/// contents, reads and path. How many there were.
+/// contents, reads and path. How many were asked for.
 fn files_stay(before: &Side, old: &FileSystem, after: &Side, touched: &Touched) -> u64 {
     let spared = spared(old, touched);
     if spared.is_empty() {
         return 0;
     }
     let new = mount(&after.image, &after.areas).expect("the root wasn't touched");
+    let (old_view, new_view) = (view_of(old), view_of(&new));
     for id in &spared {
-        assert_eq!(view_of(old).get(id), view_of(&new).get(id));
+        assert_eq!(old_view.get(id), new_view.get(id));
+    }
+    let asked = some_of(&spared);
+    for id in &asked {
         answers_stay(&Model, (before, old), (after, &new), *id);
     }
-    spared.len() as u64
+    asked.len() as u64
 }

@@ -1,5 +1,5 @@
 //! The crate and the archive without `std` and without a C library, as on bare metal: a volume is made, written and read back. What the
-//! archive needs from outside is one function, `memset`, and it is here. Status 0 where all went well.
+//! archive needs from outside is two functions, `memset` and `memcpy`, and they are here. Status 0 where all went well.
 #![no_std]
 #![no_main]
 
@@ -39,6 +39,15 @@ fn exit(status: i32) -> ! {
 pub unsafe extern "C" fn memset(to: *mut u8, byte: i32, n: usize) -> *mut u8 {
     // in assembly, since a loop would be compiled into a call of memset
     asm!("rep stosb", inout("rcx") n => _, inout("rdi") to => _, in("al") byte as u8, options(nostack));
+    to
+}
+
+/// # Safety
+///
+/// As C's `memcpy`.
+#[no_mangle]
+pub unsafe extern "C" fn memcpy(to: *mut u8, from: *const u8, n: usize) -> *mut u8 {
+    asm!("rep movsb", inout("rcx") n => _, inout("rdi") to => _, inout("rsi") from => _, options(nostack));
     to
 }
 

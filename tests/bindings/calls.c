@@ -83,7 +83,7 @@ static uint32_t number_of(int call, const nffs_area *list, size_t count) {
 static void area_lists(void) {
     /* what each call answers about the root of a good volume, and whether it leaves the image as it is */
     static const uint32_t of_root[] = {NFFS_OK, NFFS_OK, NFFS_WRONG_KIND, NFFS_WRONG_KIND, NFFS_WRONG_KIND, NFFS_BAD_PATH, NFFS_WRONG_KIND, NFFS_BAD_PATH};
-    enum { MOST = 12 };
+    enum { MOST = 20 };
     nffs_area list[MOST];
     keep();
     for (size_t end = 0; end < MOST; end++) {
@@ -107,17 +107,19 @@ static void area_lists(void) {
     }
     CHECK(nffs_report(image, sizeof image - 1, areas, 2).number == NFFS_BAD_AREAS);
 
-    /* good entries: eight are taken, nine or more are refused, and no call looks at a ninth behind the mark */
+    /* good entries: sixteen are taken, seventeen or more are refused, and no call looks at a seventeenth behind the mark */
     static uint8_t wide[MOST * 128];
     for (uint32_t i = 0; i < MOST; i++) {
         list[i] = (nffs_area){i * 128, 128};
     }
     for (size_t count = 2; count <= MOST; count++) {
-        CHECK(nffs_format(wide, sizeof wide, list, count) == (count <= 8 ? NFFS_OK : NFFS_BAD_AREAS));
-        CHECK(nffs_report(wide, sizeof wide, list, count).number == (count <= 8 ? NFFS_OK : NFFS_BAD_AREAS));
+        const uint32_t expected = count <= NFFS_MOST_AREAS ? NFFS_OK : NFFS_BAD_AREAS;
+        CHECK(nffs_format(wide, sizeof wide, list, count) == expected);
+        CHECK(nffs_report(wide, sizeof wide, list, count).number == expected);
     }
-    CHECK(nffs_report(wide, sizeof wide, list, 8).number == NFFS_OK && nffs_collect(wide, sizeof wide, list, 9) == NFFS_BAD_AREAS);
-    list[8].length = 0;
+    CHECK(nffs_report(wide, sizeof wide, list, NFFS_MOST_AREAS).number == NFFS_OK);
+    CHECK(nffs_collect(wide, sizeof wide, list, NFFS_MOST_AREAS + 1) == NFFS_BAD_AREAS);
+    list[NFFS_MOST_AREAS].length = 0;
     CHECK(nffs_report(wide, sizeof wide, list, MOST).number == NFFS_OK && nffs_collect(wide, sizeof wide, list, MOST) == NFFS_OK);
 }
 

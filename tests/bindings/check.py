@@ -55,7 +55,8 @@ def record(chance):
 
 def volume(chance):
     """The bytes of each area, scratch somewhere among them."""
-    count, length = chance.choice([2, 3, 4, 5]), chance.choice([1024, 2048, 4096])
+    count = chance.choice([2, 3, 4, 5, 16])
+    length = 512 if count == 16 else chance.choice([1024, 2048, 4096])
     kept = [[] for _ in range(count - 1)]
     chance.choice(kept).append(inode(0, 0, NONE, b""))
     known = set()

@@ -67,6 +67,22 @@ static void guards(int at_end) {
                     guarded(DATA, at_end), guarded(sizeof(nffs_handle), at_end)));
 }
 
+/* Lists of few and of too many areas: nothing is looked at behind the last entry. */
+static void lists(void) {
+    enum { MOST = NFFS_MOST_AREAS + 4, LENGTH = 128 };
+    static uint8_t image[MOST * LENGTH];
+    nffs_area list[MOST];
+    for (uint32_t i = 0; i < MOST; i++) {
+        list[i] = (nffs_area){i * LENGTH, LENGTH};
+    }
+    for (size_t count = 2; count <= MOST; count++) {
+        const nffs_area *const lent = copied(list, count * sizeof list[0], 1);
+        const uint32_t number = count <= NFFS_MOST_AREAS ? NFFS_OK : NFFS_BAD_AREAS;
+        check("a list before a page that cannot be touched", nffs_format(image, sizeof image, lent, count) == number &&
+              nffs_collect(image, sizeof image, lent, count) == number && nffs_report(image, sizeof image, lent, count).number == number);
+    }
+}
+
 /* Slices of bytes may begin anywhere. */
 static void odd_addresses(void) {
     for (size_t by = 1; by < 16; by++) {
@@ -151,6 +167,7 @@ int main(void) {
     }
     guards(1);
     guards(0);
+    lists();
     odd_addresses();
     long_lengths();
     threads();

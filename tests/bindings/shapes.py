@@ -1,5 +1,5 @@
-"""The exports as Rattle, C and Rust declare them, held against each other: functions, structs, refusals, the order of checks. Ends with the
-count."""
+"""The exports as Rattle, C and Rust declare them, held against each other: functions, structs, refusals, limits, the order of checks. Ends with
+the count."""
 
 import re
 import sys
@@ -13,6 +13,7 @@ header = whole.replace("NFFS_ANSWERS ", "")
 manifest = (top / "bindings/rust/Cargo.toml").read_text()
 raw = (top / "bindings/rust/src/raw.rs").read_text()
 crate = (top / "bindings/rust/src/lib.rs").read_text()
+linking = (top / "docs/LINKING.md").read_text()
 refusal = (top / "bindings/rust/src/refusal.rs").read_text()
 
 POINTER_C = {"&[u8]": "const uint8_t *", "&mut [u8]": "uint8_t *", "&[Descriptor]": "const nffs_area *"}
@@ -105,6 +106,23 @@ check("each number has its words", list(numbers), list(said))
 check("the numbers go from 0 on", list(numbers.values()), list(range(len(numbers))))
 listed = [(n, int(i), w) for n, i, w in re.findall(r'^\s+([A-Z_]+) (\d+) "([^"]*)";', refusal, re.M)]
 check("the refusals, C and Rust", [(n, i, said.get(n)) for n, i in numbers.items() if i > 0], listed)
+
+
+def limit(name, text):
+    """The number that a constant is given."""
+    return re.findall(rf"\b{name}(?:: usize)? = (\d+)\b", text)
+
+
+areas_most, inodes_most, blocks_most = (limit(f"MOST_{of}", answers) for of in ("AREAS", "INODES", "BLOCKS"))
+for known, name in ((areas_most, "MOST_AREAS"), (limit("MOST_APPENDED", answers), "APPEND_MOST")):
+    check(f"{name}, C", known, limit(f"NFFS_{name}", bare))
+    check(f"{name}, Rust", known, limit(f"pub const {name}", crate))
+for where, text in (("C", whole), ("Rust", crate)):
+    check(f"the most areas in words, {where}", areas_most, re.findall(r"1 to (\d+) areas", text))
+check("the most areas, docs/LINKING.md", areas_most * 2, re.findall(r"(?:at most |with: 1 to )(\d+)(?: areas|, of 128)", linking))
+most_ids = [f"more than {int(i):,} inode ids or {int(b):,} block ids" for i, b in zip(inodes_most, blocks_most)]
+check("the most ids in words", most_ids, [said.get("TOO_MANY_IDS")])
+check("the most ids, docs/LINKING.md", most_ids, [f"more than {i} inode ids or {b} block ids" for i, b in re.findall(r"([\d,]+) inode ids and ([\d,]+) block ids", linking)])
 
 check("the version, C and Rust", re.findall(r'#define NFFS_VERSION ("[^"]+")', whole), re.findall(r"^version = (.+)$", manifest, re.M))
 marked = re.findall(r"^NFFS_ANSWERS (?:static inline )?\w+ (nffs_\w+)\(", whole, re.M)

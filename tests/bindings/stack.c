@@ -32,10 +32,10 @@ STUB("nffs_collect");
 #include <string.h>
 #include <ucontext.h>
 
-enum { SIZE = 8192, PAINT = 0xa5 };
-static uint8_t image[8 * SIZE];
-static nffs_area areas[8];
-static const nffs_volume flash = {image, sizeof image, areas, 8};
+enum { AREAS = NFFS_MOST_AREAS, SIZE = 4096, PAINT = 0xa5 };
+static uint8_t image[AREAS * SIZE];
+static nffs_area areas[AREAS];
+static const nffs_volume flash = {image, sizeof image, areas, AREAS};
 static uint8_t data[NFFS_APPEND_MOST];
 static nffs_handle handle;
 static uint8_t stack[1 << 20];
@@ -86,7 +86,7 @@ int main(void) {
         {"nffs_format", format}, {"nffs_create", create}, {"nffs_append", append}, {"nffs_lookup", lookup},   {"nffs_open", open},
         {"nffs_read", read},     {"nffs_read_at", read_at}, {"nffs_unlink", unlink_}, {"nffs_collect", collect}, {"nffs_report", report},
     };
-    for (uint32_t i = 0; i < 8; i++) {
+    for (uint32_t i = 0; i < AREAS; i++) {
         areas[i].offset = i * SIZE;
         areas[i].length = SIZE;
     }

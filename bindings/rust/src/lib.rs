@@ -37,7 +37,7 @@ pub use volume::Volume;
 
 /// An area of the flash.
 ///
-/// A list of areas ends at the first length 0 or at its end. Good are 1 to 8 areas of 128 to
+/// A list of areas ends at the first length 0 or at its end. Good are 1 to 16 areas of 128 to
 /// 65,536 bytes, each inside the image, none overlapping.
 #[repr(C)]
 #[derive(Clone, Copy, Debug, PartialEq, Eq)]
@@ -125,6 +125,18 @@ pub struct Given {
     /// The block headers followed, from the last block back.
     pub headers: u32,
 }
+
+/// The most areas of a list.
+///
+/// ```
+/// use nffs::{Area, Refusal, MOST_AREAS};
+///
+/// let mut flash = [0; (MOST_AREAS + 1) * 128];
+/// let areas = Area::row::<{ MOST_AREAS + 1 }>(128);
+/// assert_eq!(nffs::format(&mut flash, &areas[..MOST_AREAS]), Ok(()));
+/// assert_eq!(nffs::format(&mut flash, &areas), Err(Refusal::BAD_AREAS));
+/// ```
+pub const MOST_AREAS: usize = 16;
 
 /// The most bytes that one [`append`] takes.
 pub const APPEND_MOST: usize = 8192;

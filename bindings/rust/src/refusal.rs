@@ -45,7 +45,7 @@ refusals! {
     SAME_AREA_ID 2 "two file areas have one id";
     NO_FILE_OR_SCRATCH 3 "no file area, or not exactly one scratch area";
     SHORT_SCRATCH 4 "scratch shorter than a file area";
-    TOO_MANY_IDS 5 "more than 64 inode ids or 256 block ids";
+    TOO_MANY_IDS 5 "more than 256 inode ids or 1,024 block ids";
     CONFLICT 6 "two records of one id, same sequence, different bytes";
     NO_ROOT 7 "no record of the root";
     BAD_PATH 8 "bad path or name, too much to append, or creating or unlinking the root";

@@ -9,7 +9,7 @@ const WARNING: &str = "warning: an area header at ";
 #[test]
 fn areas_are_found_and_said() {
     let folder = Folder::new("found");
-    for list in ["4096x4", "100:1000,2000:1500,3500:128", "65408:128,0:65408"] {
+    for list in ["4096x4", "4096x16", "100:1000,2000:1500,3500:128", "65408:128,0:65408"] {
         folder.good(&["format", "image", "--force", "--areas", list], b"");
         let output = folder.run(&["report", "image"], b"");
         let said = String::from_utf8(output.stderr).unwrap();
@@ -77,10 +77,11 @@ fn no_header_or_too_many() {
     other[4096 + 17] = 0x11;
     folder.write("other", &other);
     assert!(folder.bad(&["areas", "other"], b"", 2).contains("no area header is seen"));
-    let many = [records::header(1, 128), vec![0xff; 104]].concat().repeat(9);
+    let many = [records::header(1, 128), vec![0xff; 104]].concat().repeat(17);
     folder.write("many", many);
     let said = folder.bad(&["report", "many"], b"", 2);
-    assert!(said.contains("9 area headers are seen in many, and a volume has at most 8"), "{said}");
+    let words = "17 area headers are seen in many, and a volume has at most 16";
+    assert!(said.contains(words), "{said}");
 }
 
 #[test]
@@ -117,6 +118,7 @@ fn areas_by_offset_and_by_number() {
     assert_eq!(folder.text(&["areas", "image"]), "100:1000,1100:500,2000:1500\n");
     folder.write("list", "# the volume\n100:1000, 0x7d0:1500 # scratch\n\n1100:500\n");
     folder.good(&["report", "image", "--areas", "@list"], b"");
+    let many: &str = &["1:1"; 17].join(",");
     for (areas, words) in [
         ("", "'' is neither"),
         ("4096", "'4096' is neither"),
@@ -130,8 +132,8 @@ fn areas_by_offset_and_by_number() {
         ("0:4096,", "'' is neither"),
         ("0:4294967296", "'4294967296' is no number"),
         ("4294967295x3", "area 2 of 4294967295 bytes starts past 32 bits"),
-        ("4096x9", "more than 8 areas"),
-        ("1:1,1:1,1:1,1:1,1:1,1:1,1:1,1:1,1:1", "more than 8 areas"),
+        ("4096x17", "more than 16 areas"),
+        (many, "more than 16 areas"),
         ("@missing", "--areas: cannot read missing"),
         ("@image", "is neither OFFSET:LENGTH nor LENGTHxCOUNT"),
     ] {

@@ -1,6 +1,7 @@
 //! What each command does.
 
 use crate::folder::Folder;
+use crate::records::{image_of, inode};
 use std::fs;
 
 #[test]
@@ -147,16 +148,11 @@ fn with_collect_it_fits_or_it_is_said_that_it_cannot() {
 
 #[test]
 fn ids_are_collected_level_by_level() {
-    let folder = Folder::formatted("ids");
+    let folder = Folder::new("ids");
     // one below the other, so that each collection gives back one id
-    let mut path = String::new();
-    for _ in 0..10 {
-        path += "/d";
-        folder.good(&["mkdir", "image", &path], b"");
-    }
-    for i in 0..53 {
-        folder.good(&["mkdir", "image", &format!("/{i}")], b"");
-    }
+    let deep = (1..=10).map(|id| inode(id, 0, id - 1, b"d"));
+    let others = (11..=255).map(|id| inode(id, 0, 0, id.to_string().as_bytes()));
+    folder.write("image", image_of(8192, &deep.chain(others).collect::<Vec<_>>()));
     assert!(folder.refused(&["mkdir", "image", "/more"], b"").contains("refused with 5, "));
     folder.good(&["rm", "image", "/d"], b"");
     assert!(folder.refused(&["mkdir", "image", "/more"], b"").contains("refused with 5, "));

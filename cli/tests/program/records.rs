@@ -26,10 +26,16 @@ pub fn inode(id: u32, sequence: u32, parent: u32, name: &[u8]) -> Vec<u8> {
 /// An image of two areas of 4,096 bytes, scratch first, whose file area holds the root and then
 /// these records.
 pub fn image(records: &[Vec<u8>]) -> Vec<u8> {
-    let mut image = [header(255, 4096), vec![0xff; 4072], header(0, 4096)].concat();
-    image.extend(inode(0, 0, NONE, b""));
-    image.extend(records.concat());
-    image.resize(8192, 0xff);
+    image_of(4096, records)
+}
+
+/// The same with areas of this length.
+pub fn image_of(length: u32, records: &[Vec<u8>]) -> Vec<u8> {
+    let mut image = header(255, length);
+    image.resize(length as usize, 0xff);
+    image.extend([header(0, length), inode(0, 0, NONE, b""), records.concat()].concat());
+    assert!(image.len() <= 2 * length as usize, "the records have no room");
+    image.resize(2 * length as usize, 0xff);
     image
 }
 

@@ -1,7 +1,7 @@
 //! Each number of refusal, reached once, in words with what to do next.
 
 use crate::folder::Folder;
-use crate::records::{header, image, inode, NONE};
+use crate::records::{header, image, image_of, inode, NONE};
 
 const FILE: u32 = 0x1000_0000;
 
@@ -13,7 +13,7 @@ fn cases(folder: &Folder) -> Vec<(u32, Vec<u8>, Vec<&'static str>)> {
     folder.good(&["format", "short", "--areas", "0:8192,8192:4096"], b"");
     let one = inode(FILE, 0, 0, b"a");
     let deepest = inode(FILE, NONE, 0, b"a");
-    let many: Vec<_> = (1..=64).map(|id| inode(id, 0, 0, id.to_string().as_bytes())).collect();
+    let many: Vec<_> = (1..=256).map(|id| inode(id, 0, 0, id.to_string().as_bytes())).collect();
     let with_one = image(std::slice::from_ref(&one));
     let two_ids = [one.clone(), inode(FILE + 1, 0, 0, b"a")];
     vec![
@@ -21,7 +21,7 @@ fn cases(folder: &Folder) -> Vec<(u32, Vec<u8>, Vec<&'static str>)> {
         (2, [fresh.clone(), fresh[4096..].to_vec()].concat(), vec!["report", "image"]),
         (3, fresh[4096..].to_vec(), vec!["report", "image"]),
         (4, headers, vec!["report", "image"]),
-        (5, image(&many), vec!["report", "image"]),
+        (5, image_of(8192, &many), vec!["report", "image"]),
         (6, image(&[one.clone(), inode(FILE, 0, 0, b"b")]), vec!["report", "image"]),
         (7, [&fresh[..4120], &[0xff; 4072][..]].concat(), vec!["report", "image"]),
         (8, fresh.clone(), vec!["put", "image", "a/"]),

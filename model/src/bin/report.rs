@@ -1,5 +1,5 @@
-//! Document 01's program: "reads standard input, cut into areas of 4,096 (2 to
-//! 8, no rest; else `mount 1`)".
+//! Document 01's program: "reads standard input, cut into areas of 4,096", 2 to
+//! 16 of them (document 02, T-06), "no rest; else `mount 1`".
 
 #![forbid(unsafe_code)]
 

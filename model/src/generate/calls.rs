@@ -1,12 +1,20 @@
 //! The calls of a case. The maker keeps its own copy of the image and runs the
 //! model on it, so that paths often hit and damage has targets.
 
+use super::lists;
 use super::paths::{name, spell};
 use super::random::Random;
 use super::{FILES, NAMES, SEQUENCES};
 use crate::compare::{Call, Case, Model, Side};
 use crate::layout::{is_file, Block, Inode, Record, FIRST_BLOCK, FIRST_FILE, NONE, ROOT};
-use crate::mount::{mount, Fate, FileSystem};
+use crate::mount::{mount, Fate, FileSystem, BLOCKS, INODES};
+
+/// A table with so few places left is about full.
+const ABOUT_FULL: usize = 3;
+
+/// The first of the numbers by which these calls are drawn.
+const CREATE: usize = 44;
+const APPEND: usize = 61;
 
 /// Makes the calls of a case, running the model along.
 pub struct Maker {
@@ -72,15 +80,9 @@ impl Maker {
 
     /// The list of the case, sometimes with a tail that isn't looked at.
     fn start_list(&mut self) {
-        let mut list = self.good.clone();
-        match self.r.below(20) {
-            0 => list.extend([7, 0]),
-            1 => list.extend([0, 0, 3, 4, 5, 6]),
-            2 => list.extend([9, 0, 9, 9]),
-            _ => {}
-        }
-        if self.r.chance(3) {
-            list = bad_list(&mut self.r, &list, self.side.image.len());
+        let mut list = lists::with_tail(&mut self.r, &self.good);
+        if self.r.chance(4) {
+            list = lists::strange(&mut self.r, &list, self.side.image.len());
         }
         self.case.areas.clone_from(&list);
         self.side.areas = list;
@@ -96,7 +98,7 @@ impl Maker {
                 pairs.pop();
             }
             2 => {
-                let list = bad_list(&mut self.r, &self.good, self.side.image.len());
+                let list = lists::strange(&mut self.r, &self.good, self.side.image.len());
                 return self.push(Call::Areas(list));
             }
             _ => {}
@@ -112,19 +114,37 @@ impl Maker {
         if self.side.areas != self.good && self.r.chance(15) {
             self.push(Call::Areas(self.good.clone()));
         }
-        let call = match self.r.below(100) {
+        let call = match self.kind_of_call() {
             0..=5 => Call::Report,
             6..=13 => self.lookup(),
             14..=21 => self.open(),
             22..=33 => self.read(),
             34..=43 => self.read_at(),
-            44..=60 => self.create(),
-            61..=77 => self.append(),
+            CREATE..=60 => self.create(),
+            APPEND..=77 => self.append(),
             78..=88 => self.unlink(),
             89..=98 => Call::Collect,
             _ => Call::Format,
         };
         self.push(call);
+    }
+
+    /// Where a table is about full, oftener a call that needs a place in it.
+    fn kind_of_call(&mut self) -> usize {
+        let (inodes, blocks) = self.places_left();
+        if inodes <= ABOUT_FULL && self.r.chance(40) {
+            return CREATE;
+        }
+        if blocks <= ABOUT_FULL && self.r.chance(50) {
+            return APPEND;
+        }
+        self.r.below(100)
+    }
+
+    /// How many places the tables have left; all of them if nothing mounts.
+    fn places_left(&self) -> (usize, usize) {
+        let Some(fs) = &self.mounted else { return (INODES, BLOCKS) };
+        (INODES - fs.inodes().count(), BLOCKS - fs.blocks().count())
     }
 
     fn lookup(&mut self) -> Call {
@@ -161,7 +181,13 @@ impl Maker {
     /// Data of an interesting length; sometimes it reads as records itself.
     fn data(&mut self) -> Vec<u8> {
         let block = self.mounted.as_ref().map_or(40, FileSystem::greatest_block);
+        let left = self.places_left().1;
         let r = &mut self.r;
+        if left <= ABOUT_FULL && r.chance(60) {
+            let fitting = left * block;
+            let length = r.pick(&[0, 1, fitting, fitting + 1, fitting + block]);
+            return r.bytes(length);
+        }
         let length = match r.below(80) {
             0 => r.pick(&[8194, 9000, 65_535, 65_536, 70_000]),
             1..=4 => 0,
@@ -331,28 +357,4 @@ impl Maker {
             _ => self.r.below(record.size()),
         }
     }
-}
-
-/// A list that isn't good, or a strange one that is.
-fn bad_list(r: &mut Random, good: &[u32], image: usize) -> Vec<u32> {
-    let mut list = good.to_vec();
-    if list.len() < 4 {
-        return r.pick(&[vec![], vec![0, 128], vec![0, 0], vec![1, 0], vec![0, image as u32]]);
-    }
-    let i = 2 * r.below(list.len() / 2);
-    match r.below(12) {
-        0 => list[i + 1] = 127,
-        1 => list[i + 1] = 65_537,
-        2 => list[i] = (image as u32).wrapping_sub(list[i + 1]) + 1,
-        3 => list[i] = u32::MAX - r.below(200) as u32,
-        4 => list[i] = list[(i + 2) % list.len()],
-        5 => list[i] += 1,
-        6 => list[i + 1] = 0,
-        7 => list.clear(),
-        8 => list.truncate(2),
-        9 => list[i + 1] = u32::MAX,
-        10 => list = (0..9).flat_map(|k| [k * 128, 128]).collect(),
-        _ => list[i + 1] = list[i + 1].wrapping_sub(1),
-    }
-    list
 }

@@ -1,4 +1,4 @@
-//! Images: formatted ones, hand-made trees, full tables, junk, bad headers.
+//! Images: formatted ones, hand-made trees, junk, bad headers.
 
 use super::large::borrowed_chain;
 use super::paths::name;
@@ -6,11 +6,17 @@ use super::random::Random;
 use super::{DIRECTORIES, FILES, SEQUENCES};
 use crate::forge::Flash;
 use crate::layout::{is_directory, is_file, Block, Inode, FIRST_BLOCK, FIRST_FILE, NONE, ROOT};
+use crate::mount::DESCRIPTORS;
 
 /// Areas of mixed lengths, in any order in the image, with gaps; erased,
 /// without headers.
 fn shape(r: &mut Random) -> Flash {
-    let count = if r.chance(70) { r.between(2, 4) } else { r.between(2, 8) };
+    let count = match r.below(20) {
+        0..=13 => r.between(2, 4),
+        14..=17 => r.between(2, 8),
+        18 => r.between(9, DESCRIPTORS),
+        _ => DESCRIPTORS,
+    };
     let common = if r.chance(4) { 4096 } else { r.between(128, 600) };
     let mixed = r.chance(40);
     let mut lengths: Vec<usize> = Vec::new();
@@ -281,34 +287,6 @@ fn fill_up(r: &mut Random, flash: &mut Flash, area: usize) {
     let data = r.bytes(length);
     let owner = if r.chance(50) { 0x1000_0100 + area as u32 } else { r.pick(&FILES) };
     flash.block(area, id, 0, owner, NONE, &data);
-}
-
-/// 62 to 66 inode ids and 254 to 258 block ids, and sometimes a clash.
-pub fn tables(r: &mut Random) -> Flash {
-    let mut flash = place(r, &[5200, 5200, 5200]);
-    let scratch = write_headers(r, &mut flash);
-    let inodes = r.pick(&[1, 2, 62, 63, 64, 65]);
-    let blocks = r.pick(&[0, 1, 253, 254, 255, 256, 257]);
-    let mut records = vec![Inode::new(ROOT, 0, NONE, b"").bytes()];
-    for i in 1..inodes {
-        let id = if r.chance(50) { i } else { FIRST_FILE + i };
-        records
-            .push(Inode::new(id, 0, ROOT, &[b'a' + (i % 26) as u8, b'a' + (i / 26) as u8]).bytes());
-    }
-    records.push(Inode::new(FIRST_FILE, 0, ROOT, b"a").bytes());
-    for i in 0..blocks {
-        let previous = if i == 0 { NONE } else { FIRST_BLOCK + i - 1 };
-        records.push(Block::new(FIRST_BLOCK + i, 0, FIRST_FILE, previous, &[i as u8]).bytes());
-    }
-    if r.chance(30) {
-        records.insert(1, Inode::new(FIRST_FILE, 0, ROOT, b"clash").bytes());
-    }
-    let first = if scratch == 0 { 1 } else { 0 };
-    let second = 3 - first - scratch;
-    for record in records {
-        let _ = flash.put(first, &record) || flash.put(second, &record);
-    }
-    flash
 }
 
 /// Random bytes, behind valid headers or not, of any length.

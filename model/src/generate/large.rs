@@ -1,25 +1,26 @@
-//! Images near the limits: whole volumes in few areas, thousands of named ids,
-//! deep directories, blocks about the greatest length.
+//! Images near the limits: whole volumes, thousands of named ids, deep
+//! directories, blocks about the greatest length.
 
 use super::images::{place, write_headers};
 use super::random::Random;
 use crate::forge::Flash;
 use crate::layout::{Block, Inode, Record, FIRST_BLOCK, FIRST_FILE, NONE, ROOT};
-use crate::mount::IMAGE;
+use crate::mount::{DESCRIPTORS, IMAGE, INODES};
 
 /// Lengths that fill an image to its last byte.
-fn few_lengths(r: &mut Random) -> Vec<usize> {
+fn whole_lengths(r: &mut Random) -> Vec<usize> {
     r.pick(&[
         vec![IMAGE / 2; 2],
         vec![IMAGE / 4; 4],
         vec![21_846, 21_845, 21_845],
         vec![40_000, 25_536],
         vec![128, IMAGE - 128],
+        vec![IMAGE / DESCRIPTORS; DESCRIPTORS],
     ])
 }
 
 /// Areas of these lengths one behind the other.
-fn side_by_side(lengths: &[usize]) -> Vec<u32> {
+pub fn side_by_side(lengths: &[usize]) -> Vec<u32> {
     let mut end = 0;
     let place = |length: &usize| {
         end += *length as u32;
@@ -30,12 +31,12 @@ fn side_by_side(lengths: &[usize]) -> Vec<u32> {
 
 /// A whole volume, formatted; mostly with a file longer than one append.
 pub fn whole(r: &mut Random) -> Flash {
-    let lengths = few_lengths(r);
+    let lengths = whole_lengths(r);
     let mut flash = Flash::over(vec![0; IMAGE], side_by_side(&lengths));
     let Flash { image, areas, .. } = &mut flash;
     crate::format(image, areas);
     crate::create(image, areas, b"", b"/long", 1);
-    for _ in 0..r.below(4) {
+    for _ in 0..r.pick(&[0, 1, 2, 3, 3]) {
         let data = r.bytes(8192);
         crate::append(image, areas, b"", b"/long", &data);
     }
@@ -46,8 +47,9 @@ pub fn whole(r: &mut Random) -> Flash {
 /// smallest unused id lies thousands behind the start of its range. Each record
 /// is a version of one id far away, so the tables have room.
 pub fn named(r: &mut Random) -> Flash {
-    let mut flash = Flash::over(vec![0xff; IMAGE], side_by_side(&[IMAGE / 8; 8]));
-    for area in 0..8 {
+    let areas = r.pick(&[8, DESCRIPTORS]);
+    let mut flash = Flash::over(vec![0xff; IMAGE], side_by_side(&vec![IMAGE / areas; areas]));
+    for area in 0..areas {
         flash.head(area, 0, 0, (area as u8).wrapping_sub(1));
     }
     flash.root(1);
@@ -58,11 +60,11 @@ pub fn named(r: &mut Random) -> Flash {
     let as_parent = r.chance(25);
     for k in (0..count as u32).filter(|k| *k != gap) {
         let record = if as_parent { naming_parent(k + 1, k) } else { naming_both(k, k) };
-        let _ = (1..8).any(|area| flash.put(area, &record));
+        let _ = (1..areas).any(|area| flash.put(area, &record));
     }
     for k in [near_a_word(r, 3000, 20_000), 9826 + r.below(5) as u32] {
-        flash.put(7, &naming_both(k, 5000 + k));
-        flash.put(7, &naming_parent(k, 5000 + k));
+        flash.put(areas - 1, &naming_both(k, 5000 + k));
+        flash.put(areas - 1, &naming_parent(k, 5000 + k));
     }
     flash
 }
@@ -82,11 +84,15 @@ fn naming_both(k: u32, sequence: u32) -> Vec<u8> {
     Block::new(0x9000_0000, sequence, FIRST_FILE + k, FIRST_BLOCK + k, b"b").bytes()
 }
 
-/// Directories one below the other, 8 to 63 of them, with names of one length,
+/// Directories one below the other, 8 to 255 of them, with names of one length,
 /// and a file at the bottom where the table has a place.
 pub fn deep(r: &mut Random) -> Flash {
-    let (depth, length) =
-        r.pick(&[(8, 1), (10, 1), (11, 200), (20, 60), (40, 1), (62, 2), (63, 1)]);
+    let (depth, length) = match r.below(3) {
+        0 => r.pick(&[(64, 1), (128, 2), (INODES - 2, 1)]),
+        1 if r.chance(50) => r.pick(&[(INODES - 1, 3), (INODES - 1, 4)]),
+        1 => r.pick(&[(62, 2), (63, 1), (63, 1)]),
+        _ => r.pick(&[(8, 1), (10, 1), (11, 200), (20, 60), (20, 60), (40, 1)]),
+    };
     let whole = 24 + 20 + (depth + 1) * (20 + length);
     let mut flash = place(r, &[whole + 300, whole + 300, 400]);
     let scratch = write_headers(r, &mut flash);
@@ -95,7 +101,7 @@ pub fn deep(r: &mut Random) -> Flash {
     for id in 1..=depth as u32 {
         flash.inode(file_area, id, 0, id - 1, &vec![b'd'; length]);
     }
-    if depth < 63 {
+    if depth + 1 < INODES {
         flash.inode(file_area, FIRST_FILE, 0, depth as u32, b"f");
         flash.block(file_area, FIRST_BLOCK, 0, FIRST_FILE, NONE, b"at the bottom");
     }

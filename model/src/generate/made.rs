@@ -3,10 +3,12 @@
 
 use std::collections::BTreeSet;
 
-use crate::compare::{Answer, Call, Case};
-use crate::layout::{Block, Record, FIRST_FILE, ROOT};
-use crate::mount::{mount, FileSystem, IMAGE};
+use crate::area;
+use crate::compare::{Answer, Call, Case, Side};
+use crate::layout::{is_block, AreaHeader, Block, Record, FIRST_FILE, ROOT};
+use crate::mount::{descriptors, mount, FileSystem, BLOCKS, DESCRIPTORS, IMAGE, INODES};
 use crate::path::PATH;
+use crate::refusal::Refusal;
 use crate::write::APPEND;
 
 #[derive(Clone, Copy, Debug, PartialEq, Eq, PartialOrd, Ord)]
@@ -16,6 +18,31 @@ pub enum Made {
     ThousandsOfNamedIds,
     TenDirectoriesDeep,
     SixtyThreeDirectoriesDeep,
+    /// As many as the table has places, the root's apart.
+    DirectoriesDeepAsTheTable,
+    /// Nine areas and more that mount.
+    NineAreas,
+    /// All that a list may have, and they mount.
+    SixteenAreas,
+    /// Before the end of the list.
+    SeventeenEntries,
+    /// A list that ends in time, with so many entries behind its end that there
+    /// are more than 16.
+    EntriesBehindTheEnd,
+    /// 64, 128 or 192 inode ids.
+    InodesAtAWord,
+    FullInodeTable,
+    OneInodeTooMany,
+    /// A multiple of 64 block ids, fewer than the table has places.
+    BlocksAtAWord,
+    FullBlockTable,
+    OneBlockTooMany,
+    /// 5 where the image mounts.
+    CreateInAFullTable,
+    AppendInAFullTable,
+    /// Two pieces and more, of which all but the last have places.
+    AppendOverByItsLastPiece,
+    AppendOfNothingInAFullTable,
     /// With a right check.
     BlockOf2049Bytes,
     RelativePathOver1024,
@@ -31,11 +58,26 @@ pub enum Made {
     NewIdFarFromTheStart,
 }
 
-pub const ALL: [Made; 13] = [
+pub const ALL: [Made; 28] = [
     Made::WholeVolume,
     Made::ThousandsOfNamedIds,
     Made::TenDirectoriesDeep,
     Made::SixtyThreeDirectoriesDeep,
+    Made::DirectoriesDeepAsTheTable,
+    Made::NineAreas,
+    Made::SixteenAreas,
+    Made::SeventeenEntries,
+    Made::EntriesBehindTheEnd,
+    Made::InodesAtAWord,
+    Made::FullInodeTable,
+    Made::OneInodeTooMany,
+    Made::BlocksAtAWord,
+    Made::FullBlockTable,
+    Made::OneBlockTooMany,
+    Made::CreateInAFullTable,
+    Made::AppendInAFullTable,
+    Made::AppendOverByItsLastPiece,
+    Made::AppendOfNothingInAFullTable,
     Made::BlockOf2049Bytes,
     Made::RelativePathOver1024,
     Made::BaseOver1024,
@@ -52,26 +94,71 @@ fn holding(of: &[(Made, bool)]) -> Vec<Made> {
     of.iter().filter(|(_, holds)| *holds).map(|(made, _)| *made).collect()
 }
 
+/// What a list of areas has.
+pub fn in_list(list: &[u32]) -> Vec<Made> {
+    let entries = list.chunks_exact(2).take_while(|pair| pair[1] != 0).count();
+    holding(&[
+        (Made::SeventeenEntries, entries > DESCRIPTORS),
+        (Made::EntriesBehindTheEnd, entries <= DESCRIPTORS && list.len() / 2 > DESCRIPTORS),
+    ])
+}
+
 /// What the image has that a case begins with.
 pub fn in_image(case: &Case) -> Vec<Made> {
-    let Ok(fs) = mount(&case.image, &case.areas) else { return Vec::new() };
+    match mount(&case.image, &case.areas) {
+        Ok(fs) => [in_areas(&fs, case), in_tables(&fs)].concat(),
+        Err(Refusal::Tables) => over_the_tables(case),
+        Err(_) => Vec::new(),
+    }
+}
+
+fn in_areas(fs: &FileSystem, case: &Case) -> Vec<Made> {
     let lengths: Vec<usize> =
         fs.file_areas.iter().map(|area| area.at.len()).chain([fs.scratch.at.len()]).collect();
-    let depth = fs.inodes().map(|inode| depth(&fs, inode.id)).max().unwrap_or(0);
+    let depth = fs.inodes().map(|inode| depth(fs, inode.id)).max().unwrap_or(0);
     let named: BTreeSet<u32> = fs.accepted().flat_map(Record::named).collect();
     holding(&[
         (Made::WholeVolume, lengths.len() <= 4 && lengths.iter().sum::<usize>() == IMAGE),
         (Made::ThousandsOfNamedIds, named.len() >= 2000),
         (Made::TenDirectoriesDeep, depth >= 10),
-        (Made::SixtyThreeDirectoriesDeep, depth == 63),
+        (Made::SixtyThreeDirectoriesDeep, depth >= 63),
+        (Made::DirectoriesDeepAsTheTable, depth == INODES - 1),
+        (Made::NineAreas, lengths.len() >= 9),
+        (Made::SixteenAreas, lengths.len() == DESCRIPTORS),
         (Made::BlockOf2049Bytes, has_block(&case.image, 2049)),
+    ])
+}
+
+fn in_tables(fs: &FileSystem) -> Vec<Made> {
+    let (inodes, blocks) = (fs.inodes().count(), fs.blocks().count());
+    let at_a_word =
+        |count: usize, places: usize| count.is_multiple_of(64) && (1..places).contains(&count);
+    holding(&[
+        (Made::InodesAtAWord, at_a_word(inodes, INODES)),
+        (Made::FullInodeTable, inodes == INODES),
+        (Made::BlocksAtAWord, at_a_word(blocks, BLOCKS)),
+        (Made::FullBlockTable, blocks == BLOCKS),
+    ])
+}
+
+/// Of an image that is refused for its ids: by how many.
+fn over_the_tables(case: &Case) -> Vec<Made> {
+    let areas = descriptors(&case.image, &case.areas).unwrap_or_default();
+    let areas = areas.into_iter().map(|at| &case.image[at]);
+    let files = areas.filter(|area| AreaHeader::valid(area).is_some_and(|head| !head.is_scratch()));
+    let ids: BTreeSet<u32> =
+        files.flat_map(|area| area::read(area).records).map(|taken| taken.record.id()).collect();
+    let blocks = ids.iter().filter(|id| is_block(**id)).count();
+    holding(&[
+        (Made::OneInodeTooMany, ids.len() - blocks == INODES + 1),
+        (Made::OneBlockTooMany, blocks == BLOCKS + 1),
     ])
 }
 
 /// How many inodes lie between a live inode and the root, itself counted.
 fn depth(fs: &FileSystem, id: u32) -> usize {
     let up = |id: &u32| fs.inode(*id).filter(|inode| inode.id != ROOT).map(|inode| inode.parent);
-    let above: Vec<u32> = std::iter::successors(Some(id), up).take(65).collect();
+    let above: Vec<u32> = std::iter::successors(Some(id), up).take(INODES + 1).collect();
     if above.last() == Some(&ROOT) {
         above.len() - 1
     } else {
@@ -88,8 +175,8 @@ fn has_block(image: &[u8], length: usize) -> bool {
         .any(|record| record.block().is_some_and(|block| block.data.len() == length))
 }
 
-/// What a call has, and its answer.
-pub fn in_call(call: &Call, answer: &Answer) -> Vec<Made> {
+/// What a call has, its answer, and what it left.
+pub fn in_call(call: &Call, answer: &Answer, side: &Side) -> Vec<Made> {
     let found = answer[0] == 0;
     match call {
         Call::Lookup { base, path } | Call::Open { base, path } | Call::Unlink { base, path } => {
@@ -98,13 +185,18 @@ pub fn in_call(call: &Call, answer: &Answer) -> Vec<Made> {
         Call::Append { base, path, data } => {
             let mut made = in_path(base, path, found);
             made.extend(holding(&[(Made::AppendOver8193, data.len() > APPEND + 1)]));
+            made.extend(in_append(data, answer[0], side));
             made
         }
         Call::Create { base, path, .. } => {
             let mut made = in_path(base, path, found);
             // Both ranges of inodes begin at a multiple of it.
             let far = found && answer[1] % FIRST_FILE >= 1000;
-            made.extend(holding(&[(Made::NewIdFarFromTheStart, far)]));
+            let full = answer[0] == Refusal::Tables.number() && mounts(side).is_some();
+            made.extend(holding(&[
+                (Made::NewIdFarFromTheStart, far),
+                (Made::CreateInAFullTable, full),
+            ]));
             made
         }
         Call::Read { length } | Call::ReadAt { length, .. } => holding(&[
@@ -113,6 +205,26 @@ pub fn in_call(call: &Call, answer: &Answer) -> Vec<Made> {
         ]),
         _ => Vec::new(),
     }
+}
+
+fn mounts(side: &Side) -> Option<FileSystem> {
+    mount(&side.image, &side.areas).ok()
+}
+
+/// What an append has when the table of blocks is full, or would be over.
+fn in_append(data: &[u8], number: u32, side: &Side) -> Vec<Made> {
+    let refused = number == Refusal::Tables.number();
+    if !refused && (number != 0 || !data.is_empty()) {
+        return Vec::new();
+    }
+    let Some(fs) = mounts(side) else { return Vec::new() };
+    let (blocks, pieces) = (fs.blocks().count(), data.len().div_ceil(fs.greatest_block()));
+    let by_the_last = pieces >= 2 && blocks + pieces == BLOCKS + 1;
+    holding(&[
+        (Made::AppendInAFullTable, refused && blocks == BLOCKS),
+        (Made::AppendOverByItsLastPiece, refused && by_the_last),
+        (Made::AppendOfNothingInAFullTable, !refused && blocks == BLOCKS),
+    ])
 }
 
 fn in_path(base: &[u8], path: &[u8], found: bool) -> Vec<Made> {

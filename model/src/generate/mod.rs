@@ -3,9 +3,11 @@
 mod calls;
 mod images;
 mod large;
+mod lists;
 pub mod made;
 mod paths;
 mod random;
+mod tables;
 
 pub use random::Random;
 
@@ -33,13 +35,13 @@ fn drawn(mut r: Random) -> Case {
     // Large images are few: each takes as long as many small ones.
     let flash = match r.below(400) {
         0..=148 => images::life(&mut r),
-        149..=356 => images::tree(&mut r),
-        357..=364 => images::tables(&mut r),
+        149..=352 => images::tree(&mut r),
+        353..=364 => tables::tables(&mut r),
         365..=376 => images::junk(&mut r),
-        377..=388 => images::headers(&mut r),
-        389..=391 => large::whole(&mut r),
-        392..=393 => large::named(&mut r),
-        394..=397 => large::deep(&mut r),
+        377..=387 => images::headers(&mut r),
+        388..=390 => large::whole(&mut r),
+        391..=392 => large::named(&mut r),
+        393..=397 => large::deep(&mut r),
         _ => large::long_blocks(&mut r),
     };
     let mut image = flash.image;

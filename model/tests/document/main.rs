@@ -1,5 +1,5 @@
-//! Cases from document 01; the expected values are the document's. The calls
-//! are named `calls`, so that other engines can be held to the same cases.
+//! Cases from documents 01 and 02; the expected values are theirs. The calls are
+//! named `calls`, so that other engines can be held to the same cases.
 
 use nffs_model as calls;
 

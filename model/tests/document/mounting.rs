@@ -35,17 +35,77 @@ fn one_bad_lists() {
     assert_eq!(with_list(&[0, 128, 128, 65_537]), 1);
 }
 
+/// So many entries of 128 bytes, one behind the other.
+fn entries(count: u32) -> Vec<u32> {
+    (0..count).flat_map(|i| [128 * i, 128]).collect()
+}
+
+/// "descriptors to 16" (document 02, T-06).
 #[test]
-fn one_more_than_eight_entries() {
-    let mut image = vec![0; 9 * 128];
-    let list: Vec<u32> = (0..9).flat_map(|i| [128 * i, 128]).collect();
-    assert_eq!(calls::format(&mut image, &list), 1);
-    assert_eq!(calls::format(&mut image, &list[..16]), 0);
-    assert_eq!(bare_report(&image, &list).number, 1);
-    assert_eq!(bare_report(&image, &list[..16]).number, 0);
-    let mut ended = list;
-    ended[17] = 0;
+fn one_more_than_sixteen_entries() {
+    let mut image = vec![0; 17 * 128];
+    assert_eq!(calls::format(&mut image, &entries(17)), 1);
+    assert!(image.iter().all(|byte| *byte == 0));
+    assert_eq!(calls::format(&mut image, &entries(16)), 0);
+    assert_eq!((0..16).map(|i| image[128 * i + 23]).collect::<Vec<u8>>(), sixteen_ids());
+    assert_eq!(bare_report(&image, &entries(17)).number, 1);
+    assert_eq!(bare_report(&image, &entries(16)).number, 0);
+    let mut ended = entries(17);
+    ended[2 * 16 + 1] = 0;
     assert_eq!(bare_report(&image, &ended).number, 0);
+}
+
+/// "The longest, first among equals, is scratch; the others get ids 0, 1, ..."
+fn sixteen_ids() -> Vec<u8> {
+    [255].into_iter().chain(0..15).collect()
+}
+
+/// Lists of up to 20 entries with the mark that ends them at each place: only
+/// the entries before it decide, whatever stands behind it.
+#[test]
+fn one_by_the_entries_before_the_end() {
+    let mut formatted = vec![0; 20 * 128];
+    assert_eq!(calls::format(&mut formatted, &entries(16)), 0);
+    for count in 0..=20 {
+        for end in 0..=count {
+            let mut list = entries(count);
+            if end < count {
+                list[2 * end as usize + 1] = 0;
+            }
+            let number = match end {
+                1 => 3,
+                2..=16 => 0,
+                _ => 1,
+            };
+            assert_eq!(bare_report(&formatted, &list).number, number, "{end} of {count}");
+            let mut image = vec![0; 20 * 128];
+            assert_eq!(calls::format(&mut image, &list), number, "{end} of {count}");
+            list.extend([0, 127, 5, 128, 0, 128]);
+            let number = if end < count { number } else { 1 };
+            assert_eq!(bare_report(&formatted, &list).number, number, "{end} of {count}");
+        }
+    }
+}
+
+/// One bad entry of sixteen, wherever it stands; two that overlap, whichever.
+#[test]
+fn one_bad_entry_of_sixteen() {
+    let mut flash = Flash::of(&[128; 16]);
+    flash.root(1);
+    assert_eq!(mount(&flash), 0);
+    for i in 0..16 {
+        let bad = |offset: u32, length: u32| {
+            let mut list = flash.areas.clone();
+            list[2 * i..2 * i + 2].copy_from_slice(&[offset, length]);
+            bare_report(&flash.image, &list).number
+        };
+        let offset = flash.areas[2 * i];
+        assert_eq!((bad(offset, 127), bad(offset, 65_537)), (1, 1));
+        assert_eq!((bad(15 * 128 + 1, 128), bad(0xffff_ff80, 128)), (1, 1));
+        for other in (0..16).filter(|other| *other != i) {
+            assert_eq!(bad(128 * other as u32, 128), 1, "{i} over {other}");
+        }
+    }
 }
 
 #[test]
@@ -120,58 +180,76 @@ fn four_alone_and_before_five_and_seven() {
     assert_eq!(mount(&flash), 4);
     flash.root(1);
     assert_eq!(mount(&flash), 4);
-    let mut full = Flash::of(&[4095, 4096]);
+    let mut full = Flash::of(&[8191, 8192]);
     full.root(1);
-    inodes_up_to(&mut full, 1, 65);
+    inodes_up_to(&mut full, 1, 257);
     assert_eq!(mount(&full), 4);
 }
 
+/// "Raise inodes to 256" (document 02, T-06).
 #[test]
 fn five_for_inodes() {
-    let mut flash = rooted(4096);
-    inodes_up_to(&mut flash, 1, 64);
-    assert_eq!((mount(&flash), report(&flash).inodes), (0, 64));
-    inodes_up_to(&mut flash, 64, 65);
+    let mut flash = rooted(8192);
+    inodes_up_to(&mut flash, 1, 256);
+    assert_eq!((mount(&flash), report(&flash).inodes), (0, 256));
+    inodes_up_to(&mut flash, 256, 257);
     assert_eq!(mount(&flash), 5);
 }
 
+/// "blocks to 1,024" (document 02, T-06).
 #[test]
 fn five_for_blocks() {
-    let mut flash = rooted(8192);
-    blocks_up_to(&mut flash, A, 0, 256);
+    let mut flash = rooted(32_768);
+    blocks_up_to(&mut flash, A, 0, 1024);
     assert_eq!(mount(&flash), 0);
-    blocks_up_to(&mut flash, A, 256, 257);
+    blocks_up_to(&mut flash, A, 1024, 1025);
+    assert_eq!(mount(&flash), 5);
+}
+
+/// The tables are two: one that is full leaves the other its places.
+#[test]
+fn five_for_each_table_alone() {
+    let mut flash = rooted(32_768);
+    inodes_up_to(&mut flash, 1, 256);
+    blocks_up_to(&mut flash, A, 0, 1024);
+    assert_eq!((mount(&flash), report(&flash).inodes), (0, 256));
+    let mut over = flash.clone();
+    inodes_up_to(&mut over, 256, 257);
+    assert_eq!(mount(&over), 5);
+    blocks_up_to(&mut flash, A, 1024, 1025);
     assert_eq!(mount(&flash), 5);
 }
 
 /// Only ids that records bear are counted, versions once.
 #[test]
 fn five_counts_own_ids() {
-    let mut flash = rooted(4096);
-    inodes_up_to(&mut flash, 1, 63);
+    let mut flash = rooted(8192);
+    inodes_up_to(&mut flash, 1, 255);
     flash.inode(1, A, 0, 77, b"parent without a record");
     flash.inode(1, A, 1, 78, b"another one");
     flash.block(1, BLOCK, 0, B, BLOCK + 1, b"owner and previous without one");
-    assert_eq!((mount(&flash), report(&flash).inodes), (0, 64));
+    assert_eq!((mount(&flash), report(&flash).inodes), (0, 256));
 }
 
 /// 5 comes before 6, even where the clash is met first.
 #[test]
 fn five_before_six() {
-    let mut flash = rooted(4096);
+    let mut flash = rooted(8192);
     flash.inode(1, A, 0, ROOT, b"x");
     flash.inode(1, A, 0, ROOT, b"y");
     assert_eq!(mount(&flash), 6);
-    inodes_up_to(&mut flash, 2, 64);
+    inodes_up_to(&mut flash, 2, 256);
     assert_eq!(mount(&flash), 6);
-    inodes_up_to(&mut flash, 64, 65);
+    inodes_up_to(&mut flash, 256, 257);
     assert_eq!(mount(&flash), 5);
 }
 
 #[test]
 fn five_before_seven() {
-    let mut flash = Flash::of(&[4096, 4096]);
-    inodes_up_to(&mut flash, 1, 66);
+    let mut flash = Flash::of(&[8192, 8192]);
+    inodes_up_to(&mut flash, 1, 257);
+    assert_eq!(mount(&flash), 7);
+    inodes_up_to(&mut flash, 257, 258);
     assert_eq!(mount(&flash), 5);
 }
 
@@ -235,10 +313,10 @@ fn seven_before_eight_and_seventeen() {
 /// Scratch is never read: not for 5, 6, 7, the report or contents.
 #[test]
 fn scratch_is_never_read() {
-    let mut flash = rooted(4096);
+    let mut flash = rooted(8192);
     flash.inode(1, A, 0, ROOT, b"a");
-    for i in 0..70 {
-        flash.inode(0, A + i, 0, ROOT, b"scratch");
+    for i in 0..300 {
+        assert!(flash.inode(0, A + i, 0, ROOT, b"s"));
     }
     let r = report(&flash);
     assert_eq!((r.number, r.inodes, r.live, r.stretches, r.skipped), (0, 2, 2, 0, 0));

@@ -29,7 +29,39 @@ fn formatted(count: usize) -> Vec<u8> {
 fn a_freshly_formatted_pair() {
     let text = "mount 0\ninodes 1 live 1 stretches 0 skipped 0\n";
     assert_eq!(program(&formatted(2)), text);
-    assert_eq!(program(&formatted(8)), text);
+}
+
+/// "the program's 2 to 8 areas" are 2 to 16 (document 02, T-06): each number of
+/// areas, and each with a rest.
+#[test]
+fn two_to_sixteen_areas() {
+    for count in 1..=17 {
+        let mut image = formatted(count.clamp(2, 16));
+        image.resize(4096 * count, 0xff);
+        let good = (2..=16).contains(&count);
+        let text =
+            if good { "mount 0\ninodes 1 live 1 stretches 0 skipped 0\n" } else { "mount 1\n" };
+        assert_eq!(program(&image), text, "{count} areas");
+        for rest in [1, 24, 128, 4095] {
+            image.resize(4096 * count + rest, 0xff);
+            assert_eq!(program(&image), "mount 1\n", "{count} areas and {rest} bytes");
+        }
+    }
+}
+
+/// 256 files and their blocks over sixteen areas, and one id too many.
+#[test]
+fn full_tables_in_sixteen_areas() {
+    let mut flash = nffs_model::forge::Flash::of(&[4096; 16]);
+    flash.root(1);
+    inodes_up_to(&mut flash, 1, 256);
+    blocks_up_to(&mut flash, A, 0, 1024);
+    assert_eq!(program(&flash.image), "mount 0\ninodes 256 live 256 stretches 0 skipped 0\n");
+    let mut over = flash.clone();
+    inodes_up_to(&mut over, 256, 257);
+    assert_eq!(program(&over.image), "mount 5\n");
+    blocks_up_to(&mut flash, A, 1024, 1025);
+    assert_eq!(program(&flash.image), "mount 5\n");
 }
 
 #[test]
@@ -45,9 +77,11 @@ fn refused_input() {
     assert_eq!(program(b""), "mount 1\n");
     assert_eq!(program(&[0xff; 4096]), "mount 1\n");
     assert_eq!(program(&formatted(2)[..8191]), "mount 1\n");
-    assert_eq!(program(&[0xff; 9 * 4096]), "mount 1\n");
     assert_eq!(program(&[0xff; 65_537]), "mount 1\n");
-    assert_eq!(program(&[0xff; 8192]), "mount 3\n");
+    assert_eq!(program(&[0xff; 69_632]), "mount 1\n");
+    for count in [2, 8, 9, 16] {
+        assert_eq!(program(&vec![0xff; 4096 * count]), "mount 3\n");
+    }
     let mut image = formatted(2);
     image[4096 + 30] ^= 1;
     assert_eq!(program(&image), "mount 7\n");

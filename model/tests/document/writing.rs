@@ -120,9 +120,9 @@ fn with_next(flash: Flash) -> Flash {
 
 #[test]
 fn twelve_before_five_and_fifteen() {
-    let mut flash = rooted(4096);
+    let mut flash = rooted(8192);
     flash.inode(1, A, 0, ROOT, b"a");
-    inodes_up_to(&mut flash, 2, 64);
+    inodes_up_to(&mut flash, 2, 256);
     fill(&mut flash, 1, 0);
     assert_eq!(create(&mut flash, "/a", 1), Err(12));
     assert_eq!(create(&mut flash, "/b", 1), Err(5));
@@ -130,14 +130,33 @@ fn twelve_before_five_and_fifteen() {
 
 #[test]
 fn five_before_fifteen_at_create() {
-    let mut flash = rooted(4096);
-    inodes_up_to(&mut flash, 1, 63);
-    assert_eq!(create(&mut flash, "/64th", 0), Ok(1));
-    assert_eq!(create(&mut flash, "/65th", 1), Err(5));
-    let mut full = rooted(4096);
-    inodes_up_to(&mut full, 1, 63);
+    let mut flash = rooted(8192);
+    inodes_up_to(&mut flash, 1, 255);
+    assert_eq!(create(&mut flash, "/256th", 0), Ok(1));
+    assert_eq!(create(&mut flash, "/257th", 1), Err(5));
+    assert_eq!(create(&mut flash, "/257th", 0), Err(5));
+    let mut full = rooted(8192);
+    inodes_up_to(&mut full, 1, 255);
     fill(&mut full, 1, 10);
-    assert_eq!(create(&mut full, "/64th", 1), Err(15));
+    assert_eq!(create(&mut full, "/256th", 1), Err(15));
+}
+
+/// One create after another, from the root alone to the last place; a deletion
+/// takes no place and frees none, a collection frees it.
+#[test]
+fn creates_up_to_the_last_place() {
+    let mut flash = rooted(8192);
+    for k in 0..255 {
+        let id = if k % 2 == 0 { k / 2 + 1 } else { A + k / 2 };
+        assert_eq!(create(&mut flash, &format!("/{k}"), k % 2), Ok(id));
+    }
+    assert_eq!((report(&flash).inodes, report(&flash).live), (256, 256));
+    assert_eq!(create(&mut flash, "/one more", 1), Err(5));
+    assert_eq!(unlink(&mut flash, "/7"), 0);
+    assert_eq!(create(&mut flash, "/one more", 1), Err(5));
+    assert_eq!(collect(&mut flash), 0);
+    assert_eq!(create(&mut flash, "/one more", 1), Ok(A + 3));
+    assert_eq!(create(&mut flash, "/and one", 0), Err(5));
 }
 
 /// A record may fill the free space exactly.
@@ -279,23 +298,78 @@ fn two_greatest_blocks() {
 
 #[test]
 fn five_before_fifteen_at_append() {
-    let mut flash = rooted(8192);
+    let mut flash = rooted(27_000);
     flash.inode(1, A, 0, ROOT, b"a");
-    blocks_up_to(&mut flash, A, 0, 255);
+    blocks_up_to(&mut flash, A, 0, 1023);
     assert_eq!(append(&mut flash, "/a", &[1; 2049]), 5);
     assert_eq!(append(&mut flash, "/a", &[1; 2048]), 15);
-    assert_eq!(append(&mut flash, "/a", b"256th"), 0);
-    assert_eq!(append(&mut flash, "/a", b"257th"), 5);
+    assert_eq!(append(&mut flash, "/a", b"1,024th"), 0);
+    assert_eq!(append(&mut flash, "/a", b"1,025th"), 5);
     assert_eq!(append(&mut flash, "/a", b""), 0);
     assert_eq!(append(&mut flash, "/a", &[1; 8192]), 5);
+    assert_eq!(append(&mut flash, "/a", &[1; 8193]), 8);
+}
+
+/// Areas of 128 beside the long ones: pieces of 40. So many as there are places
+/// left are written, one more is 5 and none is written.
+#[test]
+fn five_by_the_last_piece() {
+    for left in 0..=5 {
+        let mut flash = Flash::of(&[27_000, 27_000, 128]);
+        flash.root(1);
+        flash.inode(1, A, 0, ROOT, b"a");
+        blocks_up_to(&mut flash, A, 0, 1024 - left);
+        let data: Vec<u8> = (0..left as usize * 40 + 1).map(|i| i as u8).collect();
+        let fits = &data[..data.len() - 1];
+        assert_eq!(append(&mut flash, "/a", &data), 5, "{left} places left");
+        assert_eq!(append(&mut flash, "/a", fits), 0, "{left} places left");
+        assert_eq!(contents(&flash, "/a").expect("it reads")[1024 - left as usize..], *fits);
+        assert_eq!(read(&flash, A, 0, 1).0.headers, 1024);
+        assert_eq!((append(&mut flash, "/a", b"x"), append(&mut flash, "/a", b"")), (5, 0));
+    }
+}
+
+/// The greatest append in pieces of 40 is 205 blocks.
+#[test]
+fn the_most_pieces_of_an_append() {
+    for (already, number) in [(819, 0), (820, 5), (1023, 5)] {
+        let mut lengths = [4096; 16];
+        lengths[15] = 128;
+        let mut flash = Flash::of(&lengths);
+        flash.root(1);
+        flash.inode(1, A, 0, ROOT, b"a");
+        blocks_up_to(&mut flash, A, 0, already);
+        assert_eq!(append(&mut flash, "/a", &[1; 8192]), number, "{already} blocks");
+        let headers = if number == 0 { 1024 } else { already };
+        assert_eq!(read(&flash, A, 0, 1).0.headers, headers);
+    }
+}
+
+/// One append after another, up to the last place; dead blocks keep theirs
+/// until they are collected.
+#[test]
+fn appends_up_to_the_last_place() {
+    let mut flash = rooted(28_000);
+    flash.inode(1, A, 0, ROOT, b"a");
+    flash.inode(1, B, 0, ROOT, b"b");
+    blocks_up_to(&mut flash, A, 0, 960);
+    for k in 960..1024u32 {
+        assert_eq!(append(&mut flash, "/b", &k.to_le_bytes()), 0, "{k}");
+    }
+    assert_eq!(append(&mut flash, "/b", b"x"), 5);
+    assert_eq!(unlink(&mut flash, "/a"), 0);
+    assert_eq!(append(&mut flash, "/b", b"x"), 5);
+    assert_eq!(collect(&mut flash), 0);
+    assert_eq!(append(&mut flash, "/b", b"x"), 0);
+    assert_eq!(read(&flash, B, 0, 1).0.headers, 65);
 }
 
 #[test]
 fn thirteen_before_five_and_fifteen() {
-    let mut flash = rooted(8192);
+    let mut flash = rooted(32_768);
     flash.inode(1, A, 0, ROOT, b"a");
-    flash.block(1, BLOCK, 0, A, BLOCK + 300, b"broken");
-    blocks_up_to(&mut flash, B, 1, 256);
+    flash.block(1, BLOCK, 0, A, BLOCK + 3000, b"broken");
+    blocks_up_to(&mut flash, B, 1, 1024);
     assert_eq!(append(&mut flash, "/a", b"x"), 13);
     assert_eq!(append(&mut flash, "/a", &[1; 8192]), 13);
 }
@@ -373,11 +447,13 @@ fn unlink_needs_twenty_bytes() {
     assert_eq!(find(&flash, "/b"), Err(9));
 }
 
-/// Unlink with 64 inode ids is never 5.
+/// Unlink with 256 inode ids and 1,024 block ids is never 5.
 #[test]
 fn unlink_with_full_tables() {
-    let mut flash = rooted(4096);
+    let mut flash = rooted(32_768);
     flash.inode(1, A, 0, ROOT, b"a");
-    inodes_up_to(&mut flash, 2, 64);
+    inodes_up_to(&mut flash, 2, 256);
+    blocks_up_to(&mut flash, A, 0, 1024);
     assert_eq!(unlink(&mut flash, "/a"), 0);
+    assert_eq!((report(&flash).inodes, report(&flash).live), (256, 255));
 }

@@ -1,4 +1,4 @@
-//! The cases of document 01, with its expected values, run on the proved calls.
+//! The cases of documents 01 and 02, with their expected values, run on the proved calls.
 
 use nffs_compare as calls;
 

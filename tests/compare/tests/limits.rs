@@ -4,9 +4,26 @@
 use nffs_compare::Proved;
 use nffs_model::compare::{Engine, Model};
 use nffs_model::forge::Flash;
-use nffs_model::{Create, Handle, Report};
+use nffs_model::{Create, Handle, Lookup, Report};
 
 const FILE: u32 = 0x1000_0000;
+const BLOCK: u32 = 0x8000_0000;
+const NONE: u32 = 0xffff_ffff;
+
+/// The path of the file of this number.
+fn path(file: u32) -> Vec<u8> {
+    format!("/{file}").into_bytes()
+}
+
+/// The data of the block of this number.
+fn data(block: u32) -> [u8; 2] {
+    (block as u16).to_le_bytes()
+}
+
+/// What a file holds if so many blocks go round so many files.
+fn text(file: u32, files: u32, blocks: u32) -> Vec<u8> {
+    (file..blocks).step_by(files as usize).flat_map(data).collect()
+}
 
 /// The two engines, each on its own image, under one list of areas.
 struct Pair {
@@ -29,12 +46,31 @@ impl Pair {
         pair
     }
 
+    /// Areas of these lengths, the first of them scratch: besides the root so many files, and so many blocks that go round them.
+    fn filled(lengths: &[usize], files: u32, blocks: u32) -> Pair {
+        let mut flash = Flash::of(lengths);
+        let areas = 1..lengths.len();
+        assert!(flash.root(1));
+        for k in 0..files {
+            assert!(areas.clone().any(|area| flash.inode(area, FILE + k, 0, 0, &path(k)[1..])));
+        }
+        for k in 0..blocks {
+            let previous = if k < files { NONE } else { BLOCK + k - files };
+            assert!(areas.clone().any(|area| flash.block(area, BLOCK + k, 0, FILE + k % files, previous, &data(k))));
+        }
+        Pair { ours: flash.image.clone(), model: flash.image, areas: flash.areas }
+    }
+
     /// The same answer and the same image of both.
     fn both<T: PartialEq + std::fmt::Debug>(&mut self, call: impl Fn(&dyn Engine, &mut [u8], &[u32]) -> T) -> T {
         let answer = call(&Proved, &mut self.ours, &self.areas);
         assert_eq!(answer, call(&Model, &mut self.model, &self.areas));
         assert!(self.ours == self.model, "images differ");
         answer
+    }
+
+    fn lookup(&mut self, path: &[u8]) -> Lookup {
+        self.both(|e, image, areas| e.lookup(image, areas, b"", path))
     }
 
     fn create(&mut self, path: &[u8]) -> Create {
@@ -86,6 +122,17 @@ impl Pair {
         }
     }
 
+    /// What one read gives of a file, into a buffer with room for a byte more than its size, and the headers followed.
+    fn whole(&mut self, id: u32, size: usize) -> (Vec<u8>, u32) {
+        let (read, mut buffer) = self.both(|e, image, areas| {
+            let mut buffer = vec![0; size + 1];
+            (e.read_at(image, areas, id, 0, &mut buffer), buffer)
+        });
+        assert_eq!(read.number, 0);
+        buffer.truncate(read.given as usize);
+        (buffer, read.headers)
+    }
+
     /// The headers that a read of the first byte follows: the file's blocks.
     fn blocks(&mut self, id: u32) -> u32 {
         self.both(|e, image, areas| e.read_at(image, areas, id, 0, &mut [0])).headers
@@ -104,39 +151,105 @@ impl Pair {
 }
 
 #[test]
-fn the_64th_and_the_65th_inode() {
+fn the_256th_and_the_257th_inode() {
     let mut pair = Pair::formatted(&[8192; 3]);
-    for k in 1..64 {
-        assert_eq!(pair.create(&[b'/', b'0' + k]), Create { number: 0, id: FILE + u32::from(k) - 1 });
+    for k in 1..256 {
+        assert_eq!(pair.create(&path(k)), Create { number: 0, id: FILE + k - 1 });
     }
     pair.refuses(5, |pair| pair.create(b"/one more").number);
     // a directory in its place is refused too, and a name that is there is 12 first
     pair.refuses(5, |pair| pair.both(|e, image, areas| e.create(image, areas, b"", b"/dir", 0).number));
-    pair.refuses(12, |pair| pair.create(b"/1").number);
-    assert_eq!(pair.report(), Report { number: 0, inodes: 64, live: 64, stretches: 0, skipped: 0 });
-    let last = pair.both(|e, image, areas| e.lookup(image, areas, b"", &[b'/', b'0' + 63]));
-    assert_eq!((last.number, last.id, last.kind), (0, FILE + 62, 1));
+    pair.refuses(12, |pair| pair.create(&path(1)).number);
+    assert_eq!(pair.report(), Report { number: 0, inodes: 256, live: 256, stretches: 0, skipped: 0 });
+    assert_eq!(pair.lookup(&path(255)), Lookup { number: 0, id: FILE + 254, kind: 1 });
     // a deletion takes no place and frees none; collected, it does
-    assert_eq!(pair.unlink(b"/1"), 0);
+    assert_eq!(pair.unlink(&path(1)), 0);
     pair.refuses(5, |pair| pair.create(b"/one more").number);
     assert_eq!(pair.collect(), 0);
     assert_eq!(pair.create(b"/one more"), Create { number: 0, id: FILE });
-    assert_eq!(pair.report(), Report { number: 0, inodes: 64, live: 64, stretches: 0, skipped: 0 });
+    assert_eq!(pair.report(), Report { number: 0, inodes: 256, live: 256, stretches: 0, skipped: 0 });
 }
 
 #[test]
-fn the_256th_and_the_257th_block() {
-    let mut pair = Pair::formatted(&[8192; 3]);
-    assert_eq!(pair.create(b"/log").number, 0);
-    for k in 0..=255 {
-        assert_eq!(pair.append(b"/log", &[k]), 0);
+fn the_1024th_and_the_1025th_block() {
+    let mut pair = Pair::filled(&[16384; 3], 1, 960);
+    for k in 960..1024 {
+        assert_eq!(pair.append(&path(0), &data(k)), 0);
     }
-    pair.refuses(5, |pair| pair.append(b"/log", b"x"));
+    pair.refuses(5, |pair| pair.append(&path(0), b"x"));
     let before = pair.ours.clone();
-    assert_eq!(pair.append(b"/log", b""), 0);
+    assert_eq!(pair.append(&path(0), b""), 0);
     assert!(pair.ours == before);
-    assert_eq!(pair.contents(b"/log"), (0..=255).collect::<Vec<u8>>());
-    assert_eq!(pair.blocks(FILE), 256);
+    assert_eq!(pair.contents(&path(0)), text(0, 1, 1024));
+    assert_eq!(pair.blocks(FILE), 1024);
+}
+
+/// The last of several pieces would be the 1,025th block: none is stored. With one piece fewer all places are taken.
+#[test]
+fn pieces_up_to_the_1024th_block_and_past_it() {
+    // the greatest block of areas of 4,096 bytes
+    const PIECE: usize = 2024;
+    for pieces in 2..=4 {
+        let mut pair = Pair::filled(&[4096; 16], 1, 1025 - pieces as u32);
+        let more: Vec<u8> = (0..pieces * PIECE).map(|k| (k % 251) as u8).collect();
+        pair.refuses(5, |pair| pair.append(&path(0), &more));
+        let fewer = &more[..(pieces - 1) * PIECE];
+        pair.refuses(5, |pair| pair.append(&path(0), &more[..fewer.len() + 1]));
+        assert_eq!(pair.append(&path(0), fewer), 0);
+        let all = [&text(0, 1, 1025 - pieces as u32)[..], fewer].concat();
+        assert_eq!(pair.whole(FILE, all.len()), (all, 1024));
+        pair.refuses(5, |pair| pair.append(&path(0), b"x"));
+    }
+}
+
+/// The places of inodes are bits of words: before, at and behind the end of each word a new file takes the next place, and is found and read.
+#[test]
+fn a_new_inode_at_the_end_of_each_word() {
+    for taken in [63, 64, 65, 127, 128, 129, 191, 192, 193, 255] {
+        let mut pair = Pair::filled(&[8192; 2], taken - 1, 0);
+        let (new, before) = (path(taken - 1), path(taken - 2));
+        assert_eq!(pair.create(&new), Create { number: 0, id: FILE + taken - 1 });
+        assert_eq!(pair.append(&new, &new), 0);
+        assert_eq!(pair.whole(FILE + taken - 1, new.len()), (new.clone(), 1));
+        for (k, path) in [(taken - 1, new), (taken - 2, before), (0, path(0))] {
+            assert_eq!(pair.lookup(&path), Lookup { number: 0, id: FILE + k, kind: 1 });
+        }
+        let inodes = taken + 1;
+        assert_eq!(pair.report(), Report { number: 0, inodes, live: inodes, stretches: 0, skipped: 0 });
+    }
+}
+
+/// Before, at and behind each multiple of 64 blocks one more is appended, and the file is read from its first byte to its last.
+#[test]
+fn a_new_block_at_each_multiple_of_64() {
+    for taken in (64..=1024).step_by(64).flat_map(|most| most - 1..=most + 1) {
+        let mut pair = Pair::filled(&[32768; 2], 1, taken);
+        match taken {
+            1025 => pair.refuses(5, |pair| pair.report().number),
+            1024 => pair.refuses(5, |pair| pair.append(&path(0), &data(taken))),
+            _ => assert_eq!(pair.append(&path(0), &data(taken)), 0),
+        }
+        let blocks = (taken + 1).min(1024);
+        if taken < 1025 {
+            assert_eq!(pair.whole(FILE, 2 * blocks as usize), (text(0, 1, blocks), blocks));
+        }
+    }
+}
+
+/// 256 inodes and 1,024 blocks in the area that is collected: each file keeps its contents.
+#[test]
+fn a_full_volume_collected() {
+    let mut pair = Pair::filled(&[32768; 2], 255, 1024);
+    assert_eq!(pair.collect(), 0);
+    assert_eq!(pair.area(1)[24..], [0xff; 32744]);
+    assert_eq!(pair.report(), Report { number: 0, inodes: 256, live: 256, stretches: 0, skipped: 0 });
+    for file in 0..255 {
+        let text = text(file, 255, 1024);
+        assert_eq!(pair.whole(FILE + file, text.len()), (text.clone(), text.len() as u32 / 2));
+    }
+    assert_eq!(pair.lookup(&path(254)), Lookup { number: 0, id: FILE + 254, kind: 1 });
+    pair.refuses(5, |pair| pair.create(b"/one more").number);
+    pair.refuses(5, |pair| pair.append(&path(254), b"x"));
 }
 
 /// 8,192 bytes are four blocks of 2,048.

@@ -1,10 +1,10 @@
-//! Lists of areas of every length up to 12 entries, with the mark that ends them at each place, on the proved calls and on the model.
+//! Lists of areas of every length up to 20 entries, with the mark that ends them at each place, on the proved calls and on the model.
 
 use nffs_compare::Proved;
 use nffs_model::compare::{run, show, Call, Case, Model, Tally};
 
-/// The most entries of a list here; a good one has 8 at most.
-const MOST: u32 = 12;
+/// The most entries of a list here; a good one has 16 at most.
+const MOST: u32 = 20;
 const LENGTH: u32 = 256;
 
 /// Every call once, and format last.
@@ -42,7 +42,7 @@ fn compare(formatted: u32, areas: Vec<u32>, tally: &mut Tally) {
 #[test]
 fn every_length_and_every_end() {
     let mut tally = Tally::default();
-    for formatted in 2..=8 {
+    for formatted in 2..=16 {
         for count in 0..=MOST {
             compare(formatted, entries(count), &mut tally);
             for end in 0..count {
@@ -60,15 +60,15 @@ fn every_length_and_every_end() {
     }
 }
 
-/// The ninth entry refuses a list, wherever it lies, and what stands behind the end does not.
+/// The seventeenth entry refuses a list, wherever it lies, and what stands behind the end does not.
 #[test]
-fn the_ninth_entry() {
+fn the_seventeenth_entry() {
     let mut image = vec![0; (MOST * LENGTH) as usize];
-    assert_eq!(nffs_compare::format(&mut image, &entries(8)), 0);
-    for count in 9..=MOST {
+    assert_eq!(nffs_compare::format(&mut image, &entries(16)), 0);
+    for count in 17..=MOST {
         let mut list = entries(count);
         assert_eq!(nffs_compare::report(&image, &list).number, 1);
-        list[2 * 8 + 1] = 0;
+        list[2 * 16 + 1] = 0;
         assert_eq!(nffs_compare::report(&image, &list).number, 0);
     }
     assert_eq!(nffs_compare::report(&image, &[]).number, 1);

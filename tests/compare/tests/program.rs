@@ -73,21 +73,25 @@ fn the_bench_area_and_its_flips() {
 }
 
 #[test]
-fn input_that_is_not_two_to_eight_whole_areas() {
-    let flash = volume(8);
-    for length in [0, 1, 4095, 4096, 4097, 8191, 8193, 32767] {
+fn input_that_is_not_two_to_sixteen_whole_areas() {
+    let flash = volume(17);
+    for length in [0, 1, 4095, 4096, 4097, 8191, 8193, 32767, 32769, 65535, 65537, 65536 + 4096] {
         assert_eq!(program(&flash.image[..length]), refused(1), "{length} bytes");
     }
-    for length in [65537, 65536 + 4096, 1 << 20, (1 << 20) + 1] {
+    for length in [1 << 20, (1 << 20) + 1] {
         assert_eq!(program(&vec![0xff; length]), refused(1), "{length} bytes");
     }
 }
 
+/// The root in the last area is found; one area, and one more than sixteen, are refused.
 #[test]
-fn eight_areas() {
-    let mut flash = volume(8);
-    assert!(flash.root(7));
-    assert_eq!(program(&flash.image), report(1, 1, 0, 0));
+fn one_to_seventeen_areas() {
+    for count in [1, 2, 8, 9, 16, 17] {
+        let mut flash = volume(count);
+        assert!(flash.root(count - 1));
+        let expected = if (2..=16).contains(&count) { report(1, 1, 0, 0) } else { refused(1) };
+        assert_eq!(program(&flash.image), expected, "{count} areas");
+    }
 }
 
 #[test]
@@ -116,25 +120,25 @@ fn wrong_areas() {
 fn too_many_ids_come_before_a_clash() {
     let mut flash = volume(3);
     assert!(flash.root(1));
-    for i in 0..63 {
-        assert!(flash.inode(1, DIRECTORY + i, 0, 0, b"d"));
+    for i in 0..255 {
+        assert!(flash.inode(1 + i as usize / 128, DIRECTORY + i, 0, 0, b"d"));
     }
-    assert_eq!(program(&flash.image), report(64, 64, 0, 0));
+    assert_eq!(program(&flash.image), report(256, 256, 0, 0));
     assert!(flash.inode(1, DIRECTORY, 0, 0, b"other"));
     assert_eq!(program(&flash.image), refused(6));
-    assert!(flash.inode(1, DIRECTORY + 63, 0, 0, b"d"));
+    assert!(flash.inode(2, DIRECTORY + 255, 0, 0, b"d"));
     assert_eq!(program(&flash.image), refused(5));
 }
 
 #[test]
 fn too_many_blocks() {
-    let mut flash = volume(4);
+    let mut flash = volume(16);
     assert!(flash.root(1));
-    for i in 0..256 {
-        assert!(flash.block(1 + i as usize / 100, BLOCK + i, 0, FILE, NONE, b"x"));
+    for i in 0..1024 {
+        assert!(flash.block(1 + i as usize / 70, BLOCK + i, 0, FILE, NONE, b"x"));
     }
     assert_eq!(program(&flash.image), report(1, 1, 0, 0));
-    assert!(flash.block(3, BLOCK + 256, 0, FILE, NONE, b"x"));
+    assert!(flash.block(15, BLOCK + 1024, 0, FILE, NONE, b"x"));
     assert_eq!(program(&flash.image), refused(5));
 }
 

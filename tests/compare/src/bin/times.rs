@@ -7,47 +7,79 @@ use nffs_compare::Proved;
 use nffs_model::compare::{Engine, Model};
 use nffs_model::forge::Flash;
 
-/// A name, and a volume of 65,536 bytes: seven file areas and a scratch area of 8,192 bytes each.
-fn volumes() -> Vec<(&'static str, Flash)> {
-    let fresh = || {
-        let mut flash = Flash::of(&[8192; 8]);
-        for area in 0..7 {
-            flash.head(area, 0, 0, area as u8);
-        }
-        flash.head(7, 0, 0, 255);
-        flash.root(0);
-        flash
-    };
+const FILE: u32 = 0x1000_0000;
+const BLOCK: u32 = 0x8000_0000;
+const NONE: u32 = 0xffff_ffff;
 
-    // files of four or five blocks; nearly every byte is taken, and each table has room for a few more
-    let mut full = fresh();
-    for k in 0..60u8 {
-        let name = [&[b'n'; 80][..], &[b'0' + k]].concat();
-        assert!((0..7).any(|area| full.inode(area, 0x1000_0000 + u32::from(k), 0, 0, &name)));
+/// A volume of 65,536 bytes: seven file areas and a scratch area of 8,192 bytes each.
+fn fresh() -> Flash {
+    let mut flash = Flash::of(&[8192; 8]);
+    for area in 0..7 {
+        flash.head(area, 0, 0, area as u8);
     }
-    let data = [0xa5; 170];
-    for k in 0..250 {
-        let previous = if k < 60 { 0xffff_ffff } else { 0x8000_0000 + k - 60 };
-        assert!((0..7).any(|area| full.block(area, 0x8000_0000 + k, 0, 0x1000_0000 + k % 60, previous, &data)));
-    }
+    flash.head(7, 0, 0, 255);
+    flash.root(0);
+    flash
+}
 
-    let mut short = fresh();
+/// With so many files and blocks of this data, which go round the files.
+fn filled(names: &[Vec<u8>], blocks: u32, data: &[u8]) -> Flash {
+    let mut flash = fresh();
+    let files = names.len() as u32;
+    for (name, id) in names.iter().zip(FILE..) {
+        assert!((0..7).any(|area| flash.inode(area, id, 0, 0, name)));
+    }
+    for k in 0..blocks {
+        let previous = if k < files { NONE } else { BLOCK + k - files };
+        assert!((0..7).any(|area| flash.block(area, BLOCK + k, 0, FILE + k % files, previous, data)));
+    }
+    flash
+}
+
+/// Nearly every byte is taken, by no more inodes and blocks than version 0.1.0 takes.
+fn full() -> Flash {
+    let names: Vec<_> = (0..60).map(|k| [&[b'n'; 80][..], &[b'0' + k]].concat()).collect();
+    filled(&names, 250, &[0xa5; 170])
+}
+
+/// Each table has one place left, which a create or an append takes; version 0.1.0 refuses it with 5.
+fn full_tables() -> Flash {
+    let others = (1..254).map(|k: u32| k.to_string().into_bytes());
+    let names: Vec<_> = [first_file()[1..].to_vec()].into_iter().chain(others).collect();
+    filled(&names, 1023, &[0xa5; 20])
+}
+
+fn most_records() -> Flash {
+    let mut flash = fresh();
     for sequence in 0.. {
-        if !(0..7).any(|area| short.delete(area, 0x1000_0000 + sequence % 63, sequence)) {
+        if !(0..7).any(|area| flash.delete(area, FILE + sequence % 63, sequence)) {
             break;
         }
     }
-
-    let mut damaged = fresh();
-    for area in 0..7 {
-        let at = damaged.offset(area) + 64;
-        let end = damaged.offset(area) + damaged.length(area);
-        damaged.image[at..end].fill(0);
-    }
-    vec![("fresh", fresh()), ("nearly full", full), ("the most records", short), ("all damaged", damaged)]
+    flash
 }
 
-/// The path of the first file of the nearly full volume.
+fn all_damaged() -> Flash {
+    let mut flash = fresh();
+    for area in 0..7 {
+        let at = flash.offset(area) + 64;
+        let end = flash.offset(area) + flash.length(area);
+        flash.image[at..end].fill(0);
+    }
+    flash
+}
+
+fn volumes() -> [(&'static str, Flash); 5] {
+    [
+        ("fresh", fresh()),
+        ("nearly full", full()),
+        ("nearly full tables", full_tables()),
+        ("the most records", most_records()),
+        ("all damaged", all_damaged()),
+    ]
+}
+
+/// The path of the first file of the nearly full volumes.
 fn first_file() -> Vec<u8> {
     [&b"/"[..], &[b'n'; 80], b"0"].concat()
 }
@@ -60,7 +92,7 @@ const CALLS: [Call; 10] = [
     ("report", |e, image, areas| e.report(image, areas).number),
     ("lookup", |e, image, areas| e.lookup(image, areas, b"", &first_file()).number),
     ("open", |e, image, areas| e.open(image, areas, b"", &first_file()).number),
-    ("read", |e, image, areas| e.read_at(image, areas, 0x1000_0000, 0, &mut [0; 4096]).number),
+    ("read", |e, image, areas| e.read_at(image, areas, FILE, 0, &mut [0; 4096]).number),
     ("create", |e, image, areas| e.create(image, areas, b"", b"/new", 1).number),
     ("append", |e, image, areas| e.append(image, areas, b"", &first_file(), &[7; 100])),
     ("append 2,000", |e, image, areas| e.append(image, areas, b"", &first_file(), &[7; 2000])),
@@ -88,7 +120,8 @@ fn main() {
         for call in CALLS {
             let (ours, number) = shortest(&Proved, &flash, call);
             let (model, expected) = shortest(&Model, &flash, call);
-            assert_eq!(number, expected, "{name}, {}", call.0);
+            // an archive of version 0.1.0 is timed too
+            assert!(number == expected || number == 5, "{name}, {}: {number}, the model {expected}", call.0);
             println!("| {name} | {} | {number} | {ours:.0} | {model:.0} | {:.2} |", call.0, ours / model);
         }
     }
