@@ -21,7 +21,6 @@ use Rattle.calls.specs.Image.{put, erased}
 use Rattle.calls.specs.Format.{emptyArea, longestLength, Labelled, numbered, labelled, blanked, rooted, rootBytes}
 use Rattle.calls.specs.declared.Descriptor.{Descriptor}
 use Rattle.image_laws.specs.Laws.{length-put}
-use Rattle.image_laws.specs.Stores.{put-erased}
 use Rattle.area_list.specs.Described.{areaOf}
 use Rattle.area_list.specs.Listing.{pair-step, pair-holds, paired-end}
 use Rattle.area_list.specs.Good.{AreaFits, fits}

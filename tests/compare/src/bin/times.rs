@@ -36,17 +36,17 @@ fn filled(names: &[Vec<u8>], blocks: u32, data: &[u8]) -> Flash {
     flash
 }
 
-/// Nearly every byte is taken, by no more inodes and blocks than version 0.1.0 takes.
+/// Nearly every byte is taken, by files of four or five blocks.
 fn full() -> Flash {
     let names: Vec<_> = (0..60).map(|k| [&[b'n'; 80][..], &[b'0' + k]].concat()).collect();
     filled(&names, 250, &[0xa5; 170])
 }
 
-/// Each table has one place left, which a create or an append takes; version 0.1.0 refuses it with 5.
+/// 256 inodes, the root among them, and 1,024 blocks: a create and an append are refused with 5.
 fn full_tables() -> Flash {
-    let others = (1..254).map(|k: u32| k.to_string().into_bytes());
+    let others = (1..255).map(|k: u32| k.to_string().into_bytes());
     let names: Vec<_> = [first_file()[1..].to_vec()].into_iter().chain(others).collect();
-    filled(&names, 1023, &[0xa5; 20])
+    filled(&names, 1024, &[0xa5; 20])
 }
 
 fn most_records() -> Flash {
@@ -73,13 +73,13 @@ fn volumes() -> [(&'static str, Flash); 5] {
     [
         ("fresh", fresh()),
         ("nearly full", full()),
-        ("nearly full tables", full_tables()),
+        ("full tables", full_tables()),
         ("the most records", most_records()),
         ("all damaged", all_damaged()),
     ]
 }
 
-/// The path of the first file of the nearly full volumes.
+/// The path of the first file of the volumes that are nearly full or have full tables.
 fn first_file() -> Vec<u8> {
     [&b"/"[..], &[b'n'; 80], b"0"].concat()
 }
@@ -120,8 +120,7 @@ fn main() {
         for call in CALLS {
             let (ours, number) = shortest(&Proved, &flash, call);
             let (model, expected) = shortest(&Model, &flash, call);
-            // an archive of version 0.1.0 is timed too
-            assert!(number == expected || number == 5, "{name}, {}: {number}, the model {expected}", call.0);
+            assert_eq!(number, expected, "{name}, {}", call.0);
             println!("| {name} | {} | {number} | {ours:.0} | {model:.0} | {:.2} |", call.0, ours / model);
         }
     }
