@@ -45,7 +45,7 @@ fn is_scratch(placed: bool, span: u32, most: u32) -> bool
     span == most
 }
 
-// The id of the area at the place `i`: that of scratch, or the next of the file areas, which is behind the places once scratch has its own.
+// The id of the area at the place `i`: that of scratch, or the next of the file areas, which is the place, and one less behind scratch.
 fn next_id(scratch: bool, placed: bool, i: usize) -> u8
     requires { ⌜ i < 256 ⌝ }
     requires { ⌜ (placed ≡ true → 0 < i) ⌝ }

@@ -41,7 +41,7 @@ unfoldable pub allDisjoint : List Descriptor → Bool
 allDisjoint [] = true
 allDisjoint (d ∷ l) = all (disjoint d) l && allDisjoint l
 
--- "Good: 1 to 8 entries, ..", which T-06 raises to 16
+-- Good: 1 to 16 entries (T-06), ..
 unfoldable pub goodAreas : ℕ → List Descriptor → Bool
 goodAreas size ds = leb 1 (length ds) && leb (length ds) mostAreas && all (goodArea size) ds && allDisjoint ds
 

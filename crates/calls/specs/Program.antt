@@ -1,5 +1,5 @@
--- The program. Document 01, "Measured on the bench": "standard input, cut into areas of 4,096 (2 to 8, no rest; else `mount 1`)"; T-06 makes
--- it 2 to 16.
+-- The program. Document 01, "Measured on the bench", and T-06: "standard input, cut into areas of 4,096", 2 to 16 of them, "no rest; else
+-- `mount 1`".
 use Prim.Native.Nat.{ℕ, zero, suc, _+_, _/_, _%_}
 use mathlib.Core.List.{List, [], _∷_}
 use mathlib.Core.Bool.{Bool, cond, _&&_}

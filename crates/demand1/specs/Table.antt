@@ -54,7 +54,7 @@ abbrev pub NoOverlap : List Descriptor → Type 0
 NoOverlap [] = Unit {0}
 NoOverlap (d ∷ l) = ((e : Descriptor) → List·Memᴰ e l → (i : ℕ) → InArea d i → ¬ InArea e i) × NoOverlap l
 
--- "Good: 1 to 8 entries, each length 128 to 65,536, each wholly inside the image, no two overlapping"; T-06: "descriptors to 16"
+-- Good: 1 to 16 entries (T-06: "descriptors to 16"), "each length 128 to 65,536, each wholly inside the image, no two overlapping"
 pub record GoodList (size : ℕ) (ds : List Descriptor) : Type 0 where
   pub entries : (1 ≤ length ds) × (length ds ≤ mostAreas)
   pub each : (d : Descriptor) → List·Memᴰ d ds → (shortestArea ≤ d .length) × (d .length ≤ largestImage) × (areaEnd d ≤ size)
@@ -74,7 +74,7 @@ mountRows image ds =
     ∷ (3 given-when ((length (fileAreas image ds) ≡ 0) ⊎ (length (scratchAreas image ds) ≢ 1)))
     -- "scratch shorter than a file area"
     ∷ (4 given-when ((s f : Descriptor) × List·Memᴰ s (scratchAreas image ds) × List·Memᴰ f (fileAreas image ds) × (s .length < f .length)))
-    -- "more than 64 inode ids or 256 block ids in accepted records"; T-06: "inodes to 256, blocks to 1,024"
+    -- more than 256 inode ids or 1,024 block ids (T-06) "in accepted records"
     ∷ (5 given-when ((mostInodes < length (inodeIds byBytes (volume image ds))) ⊎ (mostBlocks < length (blockIds byBytes (volume image ds)))))
     -- "two records of one id, same sequence, different bytes"
     ∷ (6 given-when ((r s : Bytes) × List·Memᴰ r (acceptedRecords image ds) × List·Memᴰ s (acceptedRecords image ds) × (recordId r ≡ recordId s)

@@ -16,12 +16,13 @@ use record_read::ROOT;
 use table_fill::gather;
 use table_rows::Spot;
 use table_rows::find;
+use table_words::BITS;
 use table_words::taken;
 
-// The words that say which rows are taken, 64 in each.
-const INODE_WORDS: usize = MOST_INODES / 64;
+// The words that say which rows are taken.
+const INODE_WORDS: usize = MOST_INODES / BITS;
 
-const BLOCK_WORDS: usize = MOST_BLOCKS / 64;
+const BLOCK_WORDS: usize = MOST_BLOCKS / BITS;
 
 // The answer of checks 5 to 7: the number of refusal, or 0 with the numbers of rows.
 pub struct Filled {

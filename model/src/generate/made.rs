@@ -17,6 +17,7 @@ pub enum Made {
     WholeVolume,
     ThousandsOfNamedIds,
     TenDirectoriesDeep,
+    /// 63 and more.
     SixtyThreeDirectoriesDeep,
     /// As many as the table has places, the root's apart.
     DirectoriesDeepAsTheTable,

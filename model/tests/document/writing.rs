@@ -139,6 +139,10 @@ fn five_before_fifteen_at_create() {
     inodes_up_to(&mut full, 1, 255);
     fill(&mut full, 1, 10);
     assert_eq!(create(&mut full, "/256th", 1), Err(15));
+    let mut both = rooted(8192);
+    inodes_up_to(&mut both, 1, 256);
+    fill(&mut both, 1, 10);
+    assert_eq!(create(&mut both, "/257th", 1), Err(5));
 }
 
 /// One create after another, from the root alone to the last place; a deletion

@@ -202,7 +202,8 @@ fn pieces_up_to_the_1024th_block_and_past_it() {
     }
 }
 
-/// The places of inodes are bits of words: before, at and behind the end of each word a new file takes the next place, and is found and read.
+/// The places of inodes are bits of words: before, at and behind the end of each word a new file takes the next place, and is found and read
+/// (behind the last word: `the_256th_and_the_257th_inode`).
 #[test]
 fn a_new_inode_at_the_end_of_each_word() {
     for taken in [63, 64, 65, 127, 128, 129, 191, 192, 193, 255] {
@@ -219,7 +220,8 @@ fn a_new_inode_at_the_end_of_each_word() {
     }
 }
 
-/// Before, at and behind each multiple of 64 blocks one more is appended, and the file is read from its first byte to its last.
+/// Before, at and behind each multiple of 64 blocks one more is appended, and the file is read from its first byte to its last; at 1,024 it is
+/// refused, and 1,025 do not mount.
 #[test]
 fn a_new_block_at_each_multiple_of_64() {
     for taken in (64..=1024).step_by(64).flat_map(|most| most - 1..=most + 1) {

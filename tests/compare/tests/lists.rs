@@ -60,7 +60,7 @@ fn every_length_and_every_end() {
     }
 }
 
-/// The seventeenth entry refuses a list, wherever it lies, and what stands behind the end does not.
+/// The seventeenth entry refuses a list; behind the end it does not.
 #[test]
 fn the_seventeenth_entry() {
     let mut image = vec![0; (MOST * LENGTH) as usize];

@@ -1,4 +1,4 @@
-//! Document 01's program, run on images on its standard input and compared with what that document says it prints.
+//! Document 01's program, with the areas of T-06, run on images on its standard input and compared with what the documents say it prints.
 
 use std::fs::File;
 use std::io::Write;
