@@ -53,6 +53,7 @@ fn show_marks(image: &[u8]) {
     }
 }
 
+// The longest list fills the image.
 fn main() {
     let image = [0u8; ENTRIES * AREA];
     show_lengths(&image);
