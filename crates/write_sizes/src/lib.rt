@@ -7,6 +7,7 @@ ghost use Rattle.format.specs.BlockSize.{greatestBlock};
 ghost use Rattle.calls.specs.Areas.{shortestArea};
 ghost use Rattle.calls.specs.Append.{mostAppended};
 ghost use Rattle.write_sizes.specs.Cut.{shortestOf};
+use area_read::HEADER_SIZE;
 use calls::MOST_APPENDED;
 use record_read::BlockHeader;
 use record_read::LONGEST_DATA;
@@ -47,12 +48,12 @@ pub fn greatest_block(shortest: u32) -> usize
 {
     smaller(
         LONGEST_DATA as usize,
-        (shortest / 2) as usize - BlockHeader::SIZE,
+        (shortest as usize - HEADER_SIZE) / 2 - BlockHeader::SIZE,
     )
 }
 
 // No greatest block size is less, however short the areas; that the rule gives no less is a law (`least-block`).
-const LEAST_BLOCK: usize = 40;
+const LEAST_BLOCK: usize = 28;
 
 // The most pieces of one append.
 pub const MOST_PIECES: usize = (MOST_APPENDED + (LEAST_BLOCK - 1)) / LEAST_BLOCK;
