@@ -30,7 +30,7 @@ use Rattle.calls.specs.Append.{mostAppended, piecesOf, orNone, blockRecords, ne
 use Rattle.calls.specs.declared.Descriptor.{Descriptor}
 use Rattle.area_pass.specs.Bridge.{placedVolume, volume-places}
 use Rattle.path_walk.specs.Resolved.{refusalOf}
-use Rattle.write_pieces.specs.Cut.{pieces, shortest-described}
+use Rattle.write_sizes.specs.Cut.{pieces, shortest-described}
 use Rattle.write_pieces.specs.Plan.{records-count}
 use Rattle.mount_state.specs.State.{startsIn, spansIn, blockIdsIn, blockIdsAt, Safe, Holds}
 use Rattle.mount_state.specs.declared.Mounted.{Mounted}

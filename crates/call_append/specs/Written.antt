@@ -9,7 +9,7 @@ use lib.ListN.{length}
 use Rattle.format.specs.Bytes.{Bytes}
 use Rattle.format.specs.Record.{longestData}
 use Rattle.format.specs.BlockSize.{greatestBlock}
-use Rattle.format_laws.specs.BlockSize.{block-bounds}
+use Rattle.format_laws.specs.BlockSize.{two-greatest}
 use Rattle.calls.specs.Areas.{shortestArea}
 use Rattle.calls.specs.Mount.{mostBlocks}
 use Rattle.calls.specs.Storing.{Space, placeAll, storeAll, noPlace, storedOr}
@@ -18,7 +18,7 @@ use Rattle.table_rows.specs.Parts.{part-long}
 use Rattle.area_pass.specs.Rows.{spansAt}
 use Rattle.mount_state.specs.State.{spansIn, Safe}
 use Rattle.mount_state.specs.declared.Mounted.{Mounted}
-use Rattle.write_pieces.specs.Cut.{pieces, mostPieces, shortestOf, shortest-long}
+use Rattle.write_sizes.specs.Cut.{pieces, mostPieces, shortestOf, shortest-long}
 use Rattle.write_pieces.specs.Plan.{idsFor, placesFor, storesOf, storesAt, blocks-placed, ids-count, Planned}
 use Rattle.write_pieces.specs.Laws.{Ready}
 use Rattle.call_append.specs.declared.Chain.{Chain}
@@ -39,7 +39,7 @@ module _ {image : Bytes} {m : Mounted} {t : List ℕ} (s : Safe image m t) where
   shortest-bound = shortest-long shortestArea (spansIn m t) some-span (λ i h. s .fit .long i (omega (arith, s .fit .pairs)))
 
   pub size-bounds : (1 ≤ sizeFor m t) × (sizeFor m t ≤ longestData)
-  size-bounds = block-bounds (shortestOf (spansIn m t)) shortest-bound
+  size-bounds = let g = two-greatest (shortestOf (spansIn m t)) shortest-bound in (g .some-bytes, g .at-most)
 
 -- ---- what is planned and written
 

@@ -38,13 +38,13 @@ use mount_state::BLOCK_SPOTS;
 use mount_state::Mounted;
 use path_find::find_path;
 use path_walk::Resolved;
-use write_pieces::MOST_PIECES;
-use write_pieces::greatest_block;
-use write_pieces::piece_count;
 use write_pieces::plan_ids;
 use write_pieces::plan_places;
-use write_pieces::shortest;
 use write_pieces::store_pieces;
+use write_sizes::MOST_PIECES;
+use write_sizes::greatest_block;
+use write_sizes::piece_count;
+use write_sizes::shortest;
 
 // The blocks that an append adds to the chain of a file: the block before the first, how long they are and how many.
 pub struct Chain {

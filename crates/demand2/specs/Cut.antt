@@ -8,7 +8,7 @@ use lib.ListN.{length, take, drop, length-take, length-drop, take-append-drop}
 use Rattle.format.specs.Bytes.{Bytes}
 use Rattle.format.specs.Record.{longestData}
 use Rattle.format.specs.BlockSize.{greatestBlock}
-use Rattle.format_laws.specs.BlockSize.{block-bounds}
+use Rattle.format_laws.specs.BlockSize.{TwoGreatest, two-greatest}
 use Rattle.format_laws.specs.Crc.{Octets}
 use Rattle.volume_laws.specs.Tests.{or-is-false, eqb-false}
 use Rattle.calls.specs.Areas.{fileAreas, shortestArea}
@@ -84,21 +84,21 @@ shortest-least (d ∷ e ∷ fs) n h =
 
 -- writers' blocks hold some bytes, and no more than a block may
 module _ (image : Bytes) (ds : List Descriptor) (p : Passes image ds) where
-  block-size : (1 ≤ greatestBlock (shortestLength (fileAreas image ds))) × (greatestBlock (shortestLength (fileAreas image ds)) ≤ longestData)
+  block-size : TwoGreatest (shortestLength (fileAreas image ds))
   unfolding wrongAreas
   block-size =
       let n = or-is-false _ _ (p .areas) .0 in
-      block-bounds (shortestLength (fileAreas image ds)) (shortest-least (fileAreas image ds) (eqb-false _ 0 n)
+      two-greatest (shortestLength (fileAreas image ds)) (shortest-least (fileAreas image ds) (eqb-false _ 0 n)
       (λ d m. area-lengths image ds (p .described) d (file-listed image ds d m) .0))
 
   pub pieces-joined : (text : Bytes) → joinedBytes (piecesOf (fileAreas image ds) text) ≡ text
   unfolding piecesOf
-  pieces-joined text = cut-joined (greatestBlock (shortestLength (fileAreas image ds))) (block-size .0) (length text) text (omega arith)
+  pieces-joined text = cut-joined (greatestBlock (shortestLength (fileAreas image ds))) (block-size .some-bytes) (length text) text (omega arith)
 
   pub pieces-sized : (text : Bytes) → Sized (greatestBlock (shortestLength (fileAreas image ds))) (piecesOf (fileAreas image ds) text)
   unfolding piecesOf
-  pieces-sized text = cut-sized (greatestBlock (shortestLength (fileAreas image ds))) (block-size .0) (length text) text
+  pieces-sized text = cut-sized (greatestBlock (shortestLength (fileAreas image ds))) (block-size .some-bytes) (length text) text
 
   pub pieces-good : (text : Bytes) → Octets text → (q : Bytes) → List·Memᴰ q (piecesOf (fileAreas image ds) text) → GoodPiece q
   unfolding piecesOf
-  pieces-good text = cut-pieces (greatestBlock (shortestLength (fileAreas image ds))) (block-size .0) (block-size .1) (length text) text
+  pieces-good text = cut-pieces (greatestBlock (shortestLength (fileAreas image ds))) (block-size .some-bytes) (block-size .at-most) (length text) text

@@ -1,15 +1,18 @@
 -- What the demands say of some small volumes: each field is an instance of the field of a theorem that its comment names, or of a sentence of
--- document 01, by computation. An edit of a definition that brings stale data back makes one of them false (tests/definitions), and with it the
--- theorem.
+-- document 01, by computation. An edit of a definition that brings stale data back, or breaks a promise, makes one of them false
+-- (tests/definitions), and with it the theorem.
+use Prim.Native.Nat.{_+_, _*_}
 use mathlib.Core.Path.{_≡_, refl}
+use mathlib.Core.Bool.{true}
 use mathlib.Core.List.{List, [], _∷_}
 use mathlib.Core.Option.{some}
 use lib.ListN.{replicate}
+use lib.Dec.{leb}
 use Rattle.format.specs.Bytes.{Bytes, le16, le32}
 use Rattle.format.specs.Crc.{crcBit, crcByte, crcOver, check}
 use Rattle.format.specs.Ids.{isDirectoryId, isFileId, isInodeId, isBlockId}
-use Rattle.format.specs.Record.{recordSize, nameGood, inodeRule, previousRule, blockRule, inodeRules, blockRules, checkRight, wellFormed, acceptable}
-use Rattle.format.specs.AreaHeader.{magicsRight, validHeader, isScratch, isFileArea}
+use Rattle.format.specs.Record.{block, recordSize, nameGood, inodeRule, previousRule, blockRule, inodeRules, blockRules, checkRight, wellFormed, acceptable}
+use Rattle.format.specs.AreaHeader.{areaHeaderSize, magicsRight, validHeader, isScratch, isFileArea}
 use Rattle.format.specs.Encoding.{inodeFront, blockFront, sealed, inodeBytes, blockBytes, areaHeader}
 use Rattle.format.specs.Reading.{skip, parts, placed, erasedEnd, freeSize, damagedBytes, damaged, areaParts, areaRecords, areaDamage, areaFree}
 use Rattle.format.specs.Reading.{areaClean}
@@ -75,6 +78,8 @@ pub record Cases : Type 0 where
   pub collect-of-used-scratch : resolve (imageCollected usedScratch two) two [] (slash a) ≡ resolve usedScratch two [] (slash a)
   -- AfterCollect.paths: where versions clash, which of them counts would change with the areas' order
   pub collect-of-clashing : resolve (imageCollected clashing three) three [] (slash a) ≡ resolve clashing three [] (slash a)
+  -- TwoGreatest.two-fit
+  pub two-greatest-fit : leb (areaHeaderSize + 2 * (block .headerSize + greatestBlock 129)) 129 ≡ true
   -- the hypotheses of each theorem can be met: format, a directory, a file in it, two bytes appended, the directory unlinked, a collection
   pub accepted : formatNumber image₀ two ∷ createOf image₁ two [] directory 0 .number ∷ createOf image₂ two [] fileInIt 1 .number
       ∷ appendOf image₃ two [] fileInIt text ∷ unlinkOf image₄ two [] directory ∷ collectOf image₅ two ∷ mountNumber image₆ two ∷ []
@@ -109,5 +114,6 @@ cases = record {
   collect-keeps-deleted = refl;
   collect-of-used-scratch = refl;
   collect-of-clashing = refl;
+  two-greatest-fit = refl;
   accepted = refl;
 }

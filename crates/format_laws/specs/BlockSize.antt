@@ -1,15 +1,29 @@
--- Writers' blocks: what callers know of the greatest block size.
-use Prim.Native.Nat.{ℕ, _≤_}
+-- Writers' blocks: why they are as long as they are, and all that callers know of it.
+use Prim.Native.Nat.{ℕ, _+_, _*_, _≤_, _<_}
 use native.Mathlib.Omega.{arith}
-use Rattle.format.specs.Record.{longestData}
+use Rattle.format.specs.Record.{block, longestData}
+use Rattle.format.specs.AreaHeader.{areaHeaderSize}
 use Rattle.format.specs.BlockSize.{greatestBlock}
 
--- areas of 128 bytes or more let a block hold some bytes, and no more than it may
-pub block-bounds : (shortest : ℕ) → 128 ≤ shortest → (1 ≤ greatestBlock shortest) × (greatestBlock shortest ≤ longestData)
-unfolding greatestBlock
-block-bounds shortest h = (omega arith, omega arith)
+-- an area of the length has room behind its header for the records of two blocks of n bytes
+abbrev pub TwoFit : ℕ → ℕ → Type 0
+TwoFit length n = areaHeaderSize + 2 * (block .headerSize + n) ≤ length
 
--- longer areas, no smaller blocks
-pub block-grows : (a b : ℕ) → a ≤ b → greatestBlock a ≤ greatestBlock b
+-- T-03: "two greatest blocks must fit in the smallest area"
+pub record TwoGreatest (shortest : ℕ) : Type 0 where
+  pub two-fit : TwoFit shortest (greatestBlock shortest)
+  -- one byte more would not, where the size is less than a block may hold
+  pub no-more : greatestBlock shortest < longestData → ¬ TwoFit shortest (greatestBlock shortest + 1)
+  -- "at most 2,048"
+  pub at-most : greatestBlock shortest ≤ longestData
+  -- data can be cut into such blocks
+  pub some-bytes : 1 ≤ greatestBlock shortest
+
+pub two-greatest : (shortest : ℕ) → 128 ≤ shortest → TwoGreatest shortest
 unfolding greatestBlock
-block-grows a b h = omega arith
+two-greatest shortest h = record {
+  two-fit = omega arith;
+  no-more = λ l t. omega arith;
+  at-most = omega arith;
+  some-bytes = omega arith;
+}

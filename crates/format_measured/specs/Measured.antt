@@ -47,11 +47,11 @@ yes-no false = 0
 
 abbrev pub cases : List Case
 cases =
-    -- "Greatest block size by shortest area: 128 gives 40; 4,096 gives 2,024; 4,142 gives 2,047; 4,144 and more give 2,048"
-    case (greatestBlock 128) 40
-    ∷ case (greatestBlock 4096) 2024
-    ∷ case (greatestBlock 4142) 2047
-    ∷ case (greatestBlock 4144) 2048
+    -- "Greatest block size by shortest area", amended by T-03: "128 gives 28, 4,096 gives 2,012, 4,166 gives 2,047, 4,168 gives 2,048"
+    case (greatestBlock 128) 28
+    ∷ case (greatestBlock 4096) 2012
+    ∷ case (greatestBlock 4166) 2047
+    ∷ case (greatestBlock 4168) 2048
     -- "Name length 255 acceptable, 0 not, for a file whose parent is a directory id"
     ∷ case (recordSize (fileNamed 255)) 275
     ∷ case (recordSize (fileNamed 0)) 0
@@ -73,7 +73,7 @@ cases =
 pub record Measured : Type 0 where
   pub table : map (λ c. c .is) cases ≡ map (λ c. c .measured) cases
   -- "and more"
-  pub beyond : (n : ℕ) → 4144 ≤ n → greatestBlock n ≡ 2048
+  pub beyond : (n : ℕ) → 4168 ≤ n → greatestBlock n ≡ 2048
 
 pub measured : Measured
 unfolding greatestBlock le16 le32 crcBit crcByte crcOver check isDirectoryId isFileId isInodeId isBlockId nameGood inodeRule inodeRules

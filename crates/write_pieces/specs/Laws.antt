@@ -29,7 +29,7 @@ use Rattle.write_room.specs.Spaces.{spacesOf, fitOf}
 use Rattle.write_room.specs.Rows.{rowSpaces, rows-within, rows-are}
 use Rattle.write_room.specs.declared.Place.{Place}
 use Rattle.write_room.specs.declared.Place.the-variants.{At, Nowhere}
-use Rattle.write_pieces.specs.Cut.{pieces, nextLength, next-some, pieces-next, pieces-end}
+use Rattle.write_sizes.specs.Cut.{pieces, nextLength, next-some, pieces-next, pieces-end}
 use Rattle.write_pieces.specs.Plan.{idsFor, placeThen, placesFor, storesOf, Ends, Planned, PlannedAt, places-planned}
 
 -- what an answer of `take_places` says

@@ -1,4 +1,3 @@
--- The pieces of an append: how data is cut, what is planned for the pieces, and the loops over them.
-pub mod Cut
+-- The pieces of an append: what is planned for them, and the loops over them.
 pub mod Plan
 pub mod Laws

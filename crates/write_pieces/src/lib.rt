@@ -1,15 +1,13 @@
-// The pieces that an append cuts its data into: how long they are, which ids and places they get, and their stores.
+// The pieces that an append cuts its data into: which ids and places they get, and their stores.
 // Ids and places are all found before the first store, so that all pieces are written or none.
 ghost use mathlib.Core.Path.{_≡_};
 ghost use mathlib.Core.List.{List};
-ghost use Prim.Native.Nat.{min, _+_, _-_, _/_, _≤_, _<_};
+ghost use Prim.Native.Nat.{_+_, _≤_};
 ghost use lib.ListN.{length};
 ghost use Rattle.format.specs.Record.{block, longestData};
-ghost use Rattle.format.specs.BlockSize.{greatestBlock};
 ghost use Rattle.format.specs.Encoding.{blockBytes};
-ghost use Rattle.calls.specs.Areas.{shortestArea, fileAreas};
+ghost use Rattle.calls.specs.Areas.{fileAreas};
 ghost use Rattle.calls.specs.Mount.{mostBlocks, mostRecords};
-ghost use Rattle.calls.specs.Append.{mostAppended};
 ghost use Rattle.calls.specs.Image.{put};
 ghost use Rattle.calls.specs.Storing.{spaces, storeAll};
 ghost use Rattle.calls.specs.declared.Descriptor.{Descriptor};
@@ -17,15 +15,13 @@ ghost use Rattle.record_places.specs.Place.{AllLie};
 ghost use Rattle.mount_state.specs.State.{Safe, Holds};
 ghost use Rattle.write_ids.specs.Window.{namedAt};
 ghost use Rattle.write_room.specs.Spaces.{spacesOf};
-ghost use Rattle.write_pieces.specs.Cut.{pieces, shortestOf};
+ghost use Rattle.write_sizes.specs.Cut.{pieces};
 ghost use Rattle.write_pieces.specs.Plan.{idsFor, placesFor, storesOf, PlannedAt};
 ghost use Rattle.write_pieces.specs.Laws.{plannedOf, Ready};
-use calls::MOST_APPENDED;
 use calls::MOST_AREAS;
 use mount_state::Mounted;
 use record_read::BlockHeader;
 use record_read::FIRST_BLOCK_ID;
-use record_read::LONGEST_DATA;
 use record_write::write_block;
 use write_ids::ID_WORDS;
 use write_ids::mark_named;
@@ -33,60 +29,7 @@ use write_ids::take_id;
 use write_room::Place;
 use write_room::find_spaces;
 use write_room::take_place;
-
-// The length of the shortest area.
-pub fn shortest(spans: &[u32]) -> u32
-    requires { ⌜ 0 < length (now spans) ⌝ }
-    ensures { λ r. ⌜ r ≡ shortestOf (now (spans .entry)) ⌝ }
-{
-    let mut least = spans[0];
-    let mut i = 1;
-    while i < spans.len() {
-        let length = spans[i];
-        if length < least {
-            least = length;
-            i += 1;
-        } else {
-            i += 1;
-        }
-    }
-    least
-}
-
-// The smaller of two numbers.
-fn smaller(a: usize, b: usize) -> usize
-    ensures { λ r. ⌜ r ≡ min a b ⌝ }
-{
-    if a < b {
-        return a;
-    }
-    b
-}
-
-// The greatest block size of writers, by the shortest file area's length.
-pub fn greatest_block(shortest: u32) -> usize
-    requires { ⌜ shortestArea ≤ shortest ⌝ }
-    ensures { λ r. ⌜ r ≡ greatestBlock shortest ⌝ }
-{
-    smaller(
-        LONGEST_DATA as usize,
-        (shortest / 2) as usize - BlockHeader::SIZE,
-    )
-}
-
-// No greatest block size is less, however short the areas; that the rule gives no less is a law (`least-block`).
-const LEAST_BLOCK: usize = 40;
-
-// The most pieces of one append.
-pub const MOST_PIECES: usize = (MOST_APPENDED + (LEAST_BLOCK - 1)) / LEAST_BLOCK;
-
-// How many pieces of `size` bytes data of a length is cut into.
-pub fn piece_count(length: usize, size: usize) -> usize
-    requires { ⌜ (1 ≤ size) × (size ≤ longestData) × (length ≤ mostAppended) ⌝ }
-    ensures { λ r. ⌜ r ≡ (length + (size - 1)) / size ⌝ }
-{
-    (length + (size - 1)) / size
-}
+use write_sizes::smaller;
 
 // Takes a place for each piece; answers whether there is room for all.
 fn take_places(

@@ -10,7 +10,7 @@ use Rattle.area_pass.specs.Bridge.{placedVolume}
 use Rattle.mount_state.specs.State.{spansIn, Holds}
 use Rattle.mount_state.specs.Bridge.{blocks-lent, blocks-few, block-rows-lent, places-lent, names-lent}
 use Rattle.file_blocks.specs.Blocks.{lastOf}
-use Rattle.write_pieces.specs.Cut.{pieces, mostPieces, shortestOf, pieces-count, few-pieces}
+use Rattle.write_sizes.specs.Cut.{pieces, mostPieces, shortestOf, pieces-count, few-pieces}
 use Rattle.call_append.specs.Last.{lastUnlessBroken}
 use Rattle.call_append.specs.Written.{sizeFor, shortest-bound}
 use Rattle.call_append.specs.Outcome.{out-broken, out-full, out-written}

@@ -5,7 +5,7 @@ use Rattle.format.specs.BlockSize.{greatestBlock}
 use Rattle.table_rows.specs.Parts.{lent}
 use Rattle.area_pass.specs.Rows.{spansAt}
 use Rattle.mount_state.specs.State.{spansIn}
-use Rattle.write_pieces.specs.Cut.{shortestOf}
+use Rattle.write_sizes.specs.Cut.{shortestOf}
 use Rattle.call_append.specs.Written.{sizeFor, shortest-bound, size-bounds}
 use Rattle.call_append.proofs.piece_size.Statement.{statement}
 use Rattle.call_append.proofs.piece_size.Tie as tie

@@ -4,7 +4,7 @@ use mathlib.Core.Path.{_≡_, sym}
 use lib.ListN.{length, take, replicate, length-replicate}
 use lib.Seq.{length-take-le}
 use borrow.Author.Needs.{needs}
-use Rattle.write_pieces.specs.Cut.{mostPieces}
+use Rattle.write_sizes.specs.Cut.{mostPieces}
 use Rattle.call_append.proofs.write_count.Statement.{statement}
 use Rattle.call_append.proofs.write_count.Tie as tie
 

@@ -10,7 +10,7 @@ use Rattle.calls.specs.Storing.{spaces}
 use Rattle.calls.specs.declared.Descriptor.{Descriptor}
 use Rattle.mount_state.specs.State.{Holds}
 use Rattle.write_ids.specs.Window.{namedAt}
-use Rattle.write_pieces.specs.Cut.{pieces}
+use Rattle.write_sizes.specs.Cut.{pieces}
 use Rattle.write_pieces.specs.Plan.{idsFor, placesFor, Planned, PlannedAt}
 use Rattle.write_pieces.specs.Laws.{plannedOf}
 use Rattle.call_append.specs.Written.{not-written, writing-ready, written}

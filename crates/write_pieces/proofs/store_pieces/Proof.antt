@@ -5,7 +5,7 @@ use native.Mathlib.Omega.{arith}
 use native.Mathlib.Nat.{add-sub-cancel-left}
 use borrow.Author.Needs.{needs}
 use lib.ListN.{length}
-use Rattle.write_pieces.specs.Cut.{next-some}
+use Rattle.write_sizes.specs.Cut.{next-some}
 use Rattle.write_pieces.specs.Laws.{Storing, storing-begins, storing-room, stored-long, storing-fits, storing-on, storing-ends}
 use Rattle.write_pieces.proofs.store_pieces.Statement.{statement}
 use Rattle.write_pieces.proofs.store_pieces.Tie as tie

@@ -4,7 +4,7 @@ use mathlib.Core.Path.{_∙_}
 use native.Mathlib.Omega.{arith}
 use borrow.Author.Needs.{needs}
 use lib.ListN.{length}
-use Rattle.write_pieces.specs.Cut.{next-some}
+use Rattle.write_sizes.specs.Cut.{next-some}
 use Rattle.write_pieces.specs.Laws.{Planning, planning-begins, planning-room, planning-fails, planning-on, planning-ends}
 use Rattle.write_pieces.proofs.take_places.Statement.{statement}
 use Rattle.write_pieces.proofs.take_places.Tie as tie

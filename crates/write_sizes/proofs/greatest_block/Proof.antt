@@ -1,8 +1,8 @@
--- `write_pieces::greatest_block` meets its contract.
+-- `write_sizes::greatest_block` meets its contract.
 use Rattle.format.specs.BlockSize.{greatestBlock}
 use borrow.Author.Needs.{needs}
-use Rattle.write_pieces.proofs.greatest_block.Statement.{statement}
-use Rattle.write_pieces.proofs.greatest_block.Tie as tie
+use Rattle.write_sizes.proofs.greatest_block.Statement.{statement}
+use Rattle.write_sizes.proofs.greatest_block.Tie as tie
 
 returns : tie.Need-returns
 unfolding greatestBlock

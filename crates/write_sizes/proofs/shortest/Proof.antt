@@ -1,11 +1,11 @@
--- `write_pieces::shortest` meets its contract.
+-- `write_sizes::shortest` meets its contract.
 use Prim.Native.Nat.{_-_}
 use native.Mathlib.Omega.{arith}
 use borrow.Author.Needs.{needs}
 use lib.ListN.{length}
-use Rattle.write_pieces.specs.Cut.{Shrinking, shrinking-begins, shrinking-shorter, shrinking-not, shrinking-ends}
-use Rattle.write_pieces.proofs.shortest.Statement.{statement}
-use Rattle.write_pieces.proofs.shortest.Tie as tie
+use Rattle.write_sizes.specs.Cut.{Shrinking, shrinking-begins, shrinking-shorter, shrinking-not, shrinking-ends}
+use Rattle.write_sizes.proofs.shortest.Statement.{statement}
+use Rattle.write_sizes.proofs.shortest.Tie as tie
 
 abbrev Inv-loop : tie.InvT-loop
 Inv-loop spans least₀ i₀ least i = Shrinking spans least i

@@ -12,8 +12,9 @@ use lib.Dec.{leb}
 use lib.Ieee.Nearest.{div-mono}
 use borrow.Author.Tests.{leb-true, leb-false}
 use Rattle.format.specs.Bytes.{Bytes}
+use Rattle.format.specs.Record.{longestData}
 use Rattle.format.specs.BlockSize.{greatestBlock}
-use Rattle.format_laws.specs.BlockSize.{block-bounds, block-grows}
+use Rattle.format_laws.specs.BlockSize.{two-greatest}
 use Rattle.calls.specs.Areas.{shortestArea}
 use Rattle.calls.specs.Append.{mostAppended, cutInto, shortestLength}
 use Rattle.area_list.specs.Described.{described}
@@ -115,11 +116,14 @@ fewer (suc n) m s t h p l = div-mono (suc n + (s - 1)) s (m + (t - 1)) t (omega 
 
 -- no greatest block size is less
 abbrev pub leastBlock : ℕ
-leastBlock = 40
+leastBlock = 28
 
 pub least-block : (shortest : ℕ) → shortestArea ≤ shortest → leastBlock ≤ greatestBlock shortest
-unfolding greatestBlock
-least-block shortest h = omega (arith, block-grows shortestArea shortest h)
+least-block shortest h = go (leb longestData (greatestBlock shortest)) refl
+  where
+    go : (b : Bool) → leb longestData (greatestBlock shortest) ≡ b → leastBlock ≤ greatestBlock shortest
+    go true e = omega (arith, leb-true longestData (greatestBlock shortest) e)
+    go false e = omega (arith, two-greatest shortest h .no-more (leb-false longestData (greatestBlock shortest) e))
 
 -- the most pieces of one append
 abbrev pub mostPieces : ℕ
@@ -127,7 +131,7 @@ mostPieces = (mostAppended + (leastBlock - 1)) / leastBlock
 
 pub few-pieces : (shortest : ℕ) (text : Bytes) → shortestArea ≤ shortest → length text ≤ mostAppended → length (pieces (greatestBlock shortest) text) ≤ mostPieces
 few-pieces shortest text h l =
-    rw (pieces-count (greatestBlock shortest) (block-bounds shortest h .0) text)
+    rw (pieces-count (greatestBlock shortest) (two-greatest shortest h .some-bytes) text)
     (fewer (length text) mostAppended (greatestBlock shortest) leastBlock l (omega arith) (least-block shortest h))
 
 -- past the data there is no piece
