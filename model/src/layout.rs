@@ -6,7 +6,7 @@ use crate::crc::crc16;
 pub const NONE: u32 = 0xffff_ffff;
 /// "the root (id 0)".
 pub const ROOT: u32 = 0;
-/// "n from 1 to 2,048".
+/// "n from 1 to 2,048"; "reading allows 2,048 always" (document 02, T-03).
 pub const BLOCK_DATA: usize = 2048;
 
 /// "directories 0 to 0fffffff".

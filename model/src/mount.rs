@@ -232,17 +232,19 @@ impl FileSystem {
         tables_hold(&ids, new_inodes, new_blocks)
     }
 
-    /// "The greatest block size is the smaller of 2,048 and half the shortest
-    /// file area's length, rounded down, less 24."
+    /// The greatest block size by "the shortest file area's length".
     pub fn greatest_block(&self) -> usize {
         let shortest = self.file_areas.iter().map(|area| area.at.len()).min().unwrap_or(0);
         greatest_block(shortest)
     }
 }
 
-/// The greatest block size by the shortest area's length, 128 or more.
+/// "two greatest blocks must fit in the smallest area, so the size is half of
+/// (length less 24), rounded down, less 24, at most 2,048" (document 02, T-03).
+/// The length is 128 or more. Only writers keep to it.
 pub fn greatest_block(shortest: usize) -> usize {
-    (shortest / 2 - Block::HEADER).min(BLOCK_DATA)
+    let behind_the_header = shortest - AreaHeader::SIZE;
+    (behind_the_header / 2 - Block::HEADER).min(BLOCK_DATA)
 }
 
 /// "report: distinct inode ids, live ones, damage stretches, damage bytes over

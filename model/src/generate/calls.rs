@@ -7,7 +7,7 @@ use super::random::Random;
 use super::{FILES, NAMES, SEQUENCES};
 use crate::compare::{Call, Case, Model, Side};
 use crate::layout::{is_file, Block, Inode, Record, FIRST_BLOCK, FIRST_FILE, NONE, ROOT};
-use crate::mount::{mount, Fate, FileSystem, BLOCKS, INODES};
+use crate::mount::{greatest_block, mount, Fate, FileSystem, BLOCKS, INODES, SHORTEST_AREA};
 
 /// A table with so few places left is about full.
 const ABOUT_FULL: usize = 3;
@@ -180,7 +180,8 @@ impl Maker {
 
     /// Data of an interesting length; sometimes it reads as records itself.
     fn data(&mut self) -> Vec<u8> {
-        let block = self.mounted.as_ref().map_or(40, FileSystem::greatest_block);
+        let smallest = greatest_block(SHORTEST_AREA as usize);
+        let block = self.mounted.as_ref().map_or(smallest, FileSystem::greatest_block);
         let left = self.places_left().1;
         let r = &mut self.r;
         if left <= ABOUT_FULL && r.chance(60) {

@@ -1,5 +1,6 @@
 //! Images: formatted ones, hand-made trees, junk, bad headers.
 
+use super::blocks::SHORT;
 use super::large::borrowed_chain;
 use super::paths::name;
 use super::random::Random;
@@ -10,14 +11,18 @@ use crate::mount::DESCRIPTORS;
 
 /// Areas of mixed lengths, in any order in the image, with gaps; erased,
 /// without headers.
-fn shape(r: &mut Random) -> Flash {
+pub fn shape(r: &mut Random) -> Flash {
     let count = match r.below(20) {
         0..=13 => r.between(2, 4),
         14..=17 => r.between(2, 8),
         18 => r.between(9, DESCRIPTORS),
         _ => DESCRIPTORS,
     };
-    let common = if r.chance(4) { 4096 } else { r.between(128, 600) };
+    let common = match r.below(100) {
+        0..=3 => 4096,
+        4..=9 => r.pick(&SHORT),
+        _ => r.between(128, 600),
+    };
     let mixed = r.chance(40);
     let mut lengths: Vec<usize> = Vec::new();
     for _ in 0..count {

@@ -5,8 +5,12 @@ use std::collections::BTreeSet;
 
 use crate::area;
 use crate::compare::{Answer, Call, Case, Side};
+use crate::file::contents;
 use crate::layout::{is_block, AreaHeader, Block, Record, FIRST_FILE, ROOT};
-use crate::mount::{descriptors, mount, FileSystem, BLOCKS, DESCRIPTORS, IMAGE, INODES};
+use crate::mount::{
+    descriptors, greatest_block, mount, FileArea, FileSystem, BLOCKS, DESCRIPTORS, IMAGE, INODES,
+    SHORTEST_AREA,
+};
 use crate::path::PATH;
 use crate::refusal::Refusal;
 use crate::write::APPEND;
@@ -44,6 +48,12 @@ pub enum Made {
     /// Two pieces and more, of which all but the last have places.
     AppendOverByItsLastPiece,
     AppendOfNothingInAFullTable,
+    /// An append whose piece is the second of two greatest blocks that fill a
+    /// file area, nothing but its header before them, to the last byte.
+    TwoGreatestBlocksFillAnArea,
+    /// Bytes are read of a block that is longer than an append makes it there;
+    /// reads of fewer bytes than any greatest block has aren't counted.
+    LongerBlockRead,
     /// With a right check.
     BlockOf2049Bytes,
     RelativePathOver1024,
@@ -59,7 +69,7 @@ pub enum Made {
     NewIdFarFromTheStart,
 }
 
-pub const ALL: [Made; 28] = [
+pub const ALL: [Made; 30] = [
     Made::WholeVolume,
     Made::ThousandsOfNamedIds,
     Made::TenDirectoriesDeep,
@@ -79,6 +89,8 @@ pub const ALL: [Made; 28] = [
     Made::AppendInAFullTable,
     Made::AppendOverByItsLastPiece,
     Made::AppendOfNothingInAFullTable,
+    Made::TwoGreatestBlocksFillAnArea,
+    Made::LongerBlockRead,
     Made::BlockOf2049Bytes,
     Made::RelativePathOver1024,
     Made::BaseOver1024,
@@ -200,10 +212,13 @@ pub fn in_call(call: &Call, answer: &Answer, side: &Side) -> Vec<Made> {
             ]));
             made
         }
-        Call::Read { length } | Call::ReadAt { length, .. } => holding(&[
-            (Made::BufferOver8192, *length > 8192),
-            (Made::MoreThan8192BytesGiven, answer[1] > 8192),
-        ]),
+        Call::Read { length } => {
+            let from = side.handle.position.saturating_sub(answer[1]);
+            in_read(*length, (side.handle.id, from), answer[1] as usize, side)
+        }
+        Call::ReadAt { id, position, length } => {
+            in_read(*length, (*id, *position), answer[1] as usize, side)
+        }
         _ => Vec::new(),
     }
 }
@@ -212,19 +227,57 @@ fn mounts(side: &Side) -> Option<FileSystem> {
     mount(&side.image, &side.areas).ok()
 }
 
-/// What an append has when the table of blocks is full, or would be over.
+/// Whether so many bytes can be a greatest block, or more: others aren't worth
+/// the time of a mount.
+fn long_enough(bytes: usize) -> bool {
+    bytes >= greatest_block(SHORTEST_AREA as usize)
+}
+
+/// What a read has that gives bytes of a file from a position on.
+fn in_read(length: usize, (id, from): (u32, u32), given: usize, side: &Side) -> Vec<Made> {
+    holding(&[
+        (Made::BufferOver8192, length > 8192),
+        (Made::MoreThan8192BytesGiven, given > 8192),
+        (Made::LongerBlockRead, long_enough(given) && of_longer_block(id, from, given, side)),
+    ])
+}
+
+/// Whether some of these bytes are of a block longer than the greatest.
+fn of_longer_block(id: u32, from: u32, given: usize, side: &Side) -> bool {
+    let Some(fs) = mounts(side) else { return false };
+    let (from, mut end) = (from as usize, 0);
+    contents(&fs, id).unwrap_or_default().iter().any(|block| {
+        let start = end;
+        end += block.data.len();
+        block.data.len() > fs.greatest_block() && start < from + given && from < end
+    })
+}
+
+/// Whether two blocks of this size, the second a piece of the data, fill an area.
+fn filled_by_two(area: &FileArea, size: usize, data: &[u8]) -> bool {
+    let blocks = area.reading.records.iter().filter_map(|taken| taken.record.block());
+    let blocks: Vec<&[u8]> = blocks.map(|block| &block.data[..]).collect();
+    let [first, second] = blocks[..] else { return false };
+    let two_fill = AreaHeader::SIZE + 2 * (Block::HEADER + size) == area.at.len();
+    two_fill && first.len() == size && data.chunks_exact(size).any(|piece| piece == second)
+}
+
+/// What an append has when the table of blocks is full, or would be over, or when
+/// it fills an area.
 fn in_append(data: &[u8], number: u32, side: &Side) -> Vec<Made> {
     let refused = number == Refusal::Tables.number();
-    if !refused && (number != 0 || !data.is_empty()) {
+    if !refused && (number != 0 || !data.is_empty() && !long_enough(data.len())) {
         return Vec::new();
     }
     let Some(fs) = mounts(side) else { return Vec::new() };
     let (blocks, pieces) = (fs.blocks().count(), data.len().div_ceil(fs.greatest_block()));
     let by_the_last = pieces >= 2 && blocks + pieces == BLOCKS + 1;
+    let filled = |area: &FileArea| filled_by_two(area, fs.greatest_block(), data);
     holding(&[
         (Made::AppendInAFullTable, refused && blocks == BLOCKS),
         (Made::AppendOverByItsLastPiece, refused && by_the_last),
-        (Made::AppendOfNothingInAFullTable, !refused && blocks == BLOCKS),
+        (Made::AppendOfNothingInAFullTable, data.is_empty() && blocks == BLOCKS),
+        (Made::TwoGreatestBlocksFillAnArea, !refused && fs.file_areas.iter().any(filled)),
     ])
 }
 

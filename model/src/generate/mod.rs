@@ -1,5 +1,6 @@
 //! Seeded cases for the comparison.
 
+mod blocks;
 mod calls;
 mod images;
 mod large;
@@ -35,7 +36,9 @@ fn drawn(mut r: Random) -> Case {
     // Large images are few: each takes as long as many small ones.
     let flash = match r.below(400) {
         0..=148 => images::life(&mut r),
-        149..=352 => images::tree(&mut r),
+        149..=336 => images::tree(&mut r),
+        337..=344 => blocks::edges(&mut r),
+        345..=352 => blocks::earlier(&mut r),
         353..=364 => tables::tables(&mut r),
         365..=376 => images::junk(&mut r),
         377..=387 => images::headers(&mut r),

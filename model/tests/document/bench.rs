@@ -3,7 +3,7 @@
 use nffs_model::compare::bytes;
 use nffs_model::crc::crc16;
 use nffs_model::forge::Flash;
-use nffs_model::layout::{is_block, is_directory, is_file, Block, Inode, NONE, ROOT};
+use nffs_model::layout::{is_block, is_directory, is_file, AreaHeader, Block, Inode, NONE, ROOT};
 use nffs_model::mount::greatest_block;
 use nffs_model::path;
 
@@ -27,15 +27,52 @@ fn cuts_at(length: usize, size: usize) {
     assert_eq!((headers(0), headers(size - 1), headers(size)), (2, 2, 1), "areas of {length}");
 }
 
+/// As document 02, T-03 amends it: "128 gives 28, 4,096 gives 2,012, 4,166 gives 2,047, 4,168
+/// gives 2,048"; the lengths beside these, and more.
 #[test]
 fn greatest_block_size_by_shortest_area() {
-    for (length, size) in
-        [(128, 40), (4096, 2024), (4142, 2047), (4144, 2048), (4145, 2048), (32_768, 2048)]
-    {
-        assert_eq!(greatest_block(length), size);
+    let amended = [(128, 28), (4096, 2012), (4166, 2047), (4168, 2048)];
+    let short = [(129, 28), (130, 29), (131, 29), (132, 30), (255, 91), (256, 92), (257, 92)];
+    let beside = [(4095, 2011), (4097, 2012), (4098, 2013), (4142, 2035), (4143, 2035)];
+    let asked = [(4144, 2036), (4145, 2036), (4146, 2037), (4164, 2046), (4165, 2046)];
+    let long = [(4167, 2047), (4169, 2048), (4170, 2048), (8191, 2048), (32_768, 2048)];
+    for (length, size) in [&amended[..], &short, &beside, &asked, &long].concat() {
+        assert_eq!(greatest_block(length), size, "areas of {length}");
         cuts_at(length, size);
     }
     assert_eq!(greatest_block(65_536), 2048);
+}
+
+/// "two greatest blocks must fit in the smallest area", behind its header; of one byte more they
+/// don't, where that is a block at all.
+#[test]
+fn two_greatest_blocks_fit_in_every_length() {
+    for length in 128..=65_536 {
+        let size = greatest_block(length);
+        let two = |size: usize| AreaHeader::SIZE + 2 * (Block::HEADER + size);
+        assert!((28..=2048).contains(&size) && two(size) <= length, "{length}");
+        assert!(size == 2048 || two(size + 1) > length, "{length}");
+    }
+}
+
+/// The same by calls, for every length up to those that give 2,048: an append of two greatest
+/// blocks goes into an area with nothing but its header, and there is no room for another.
+#[test]
+fn two_greatest_blocks_fill_an_area() {
+    for length in 128..=4170 {
+        let fits = |size: &usize| 2 * (24 + size) <= length - 24;
+        let size = (1..=2048).rev().find(fits).expect("two blocks of 28 fit");
+        let mut flash = Flash::of(&[length; 3]);
+        flash.root(1);
+        flash.inode(1, A, 0, ROOT, b"a");
+        fill(&mut flash, 1, 0);
+        let data: Vec<u8> = (0..2 * size).map(|i| (i % 251) as u8).collect();
+        assert_eq!(append(&mut flash, "/a", &data), 0, "areas of {length}");
+        let first = Block::new(BLOCK, 0, A, NONE, &data[..size]).bytes();
+        let second = Block::new(BLOCK + 1, 0, A, BLOCK, &data[size..]).bytes();
+        holds(&flash, 2, [0, 0, 0, 1], &[first, second].concat());
+        assert_eq!(append(&mut flash, "/a", b"x"), 15, "areas of {length}");
+    }
 }
 
 #[test]

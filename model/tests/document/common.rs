@@ -18,6 +18,14 @@ pub fn rooted(length: usize) -> Flash {
     flash
 }
 
+/// Areas of these lengths as the call formats them, over bytes that aren't FF.
+pub fn formatted(lengths: &[usize]) -> Flash {
+    let mut flash = Flash::of(lengths);
+    flash.image.fill(0x5a);
+    assert_eq!(calls::format(&mut flash.image, &flash.areas), 0);
+    flash
+}
+
 /// The bench's area of 4,096: "root at 24, file "a" at 44, block of 10 at 65,
 /// block of 5 at 99, all data 41 hex, FF from 128".
 pub fn bench() -> Flash {

@@ -134,10 +134,10 @@ fn pieces_take_the_gaps_in_order() {
     flash.root(1);
     flash.inode(1, A, 0, ROOT, b"a");
     name_all(&mut flash, By::Previous, (0..1100).filter(|number| !gaps.contains(number)));
-    assert_eq!(append(&mut flash, "/a", &[7; 11 * 40]), 0);
+    assert_eq!(append(&mut flash, "/a", &[7; 11 * 28]), 0);
     let expected = gaps.into_iter().chain([1100, 1101]).map(|number| BLOCK + number);
     assert_eq!(block_ids(&flash), expected.collect::<Vec<u32>>());
-    assert_eq!(contents(&flash, "/a"), Ok(vec![7; 11 * 40]));
+    assert_eq!(contents(&flash, "/a"), Ok(vec![7; 11 * 28]));
 }
 
 /// Each way of naming bars an id by itself, and none bars an id of another range.

@@ -1,7 +1,7 @@
 //! "A live file's contents", open and read: refusals 9, 11, 13 and 14.
 
 use nffs_model::forge::Flash;
-use nffs_model::layout::{NONE, ROOT};
+use nffs_model::layout::{Block, NONE, ROOT};
 
 use crate::calls;
 use crate::common::*;
@@ -185,4 +185,102 @@ fn a_read_moves_the_position() {
 fn blocks_of_other_owners() {
     let flash = file(&[(B0, 0, A, NONE, b"mine"), (B1, 0, B, NONE, b"nobody's")]);
     assert_eq!(contents(&flash, "/a"), Ok(b"mine".to_vec()));
+}
+
+/// Lengths of areas, the greatest block of document 01 and that of document 02,
+/// T-03.
+const EARLIER: [(usize, usize, usize); 5] =
+    [(128, 40, 28), (129, 40, 28), (4096, 2024, 2012), (4142, 2047, 2035), (4144, 2048, 2036)];
+
+/// The file "/a" as it was written in such areas by the rule of document 01: so
+/// many of its greatest blocks, each in the first area with room. Its contents.
+fn earlier(length: usize, size: usize, blocks: usize) -> (Flash, Vec<u8>) {
+    let mut flash = Flash::of(&[length; 7]);
+    flash.root(1);
+    flash.inode(1, A, 0, ROOT, b"a");
+    let data: Vec<u8> = (0..blocks * size).map(|i| (i % 251) as u8).collect();
+    for (piece, id) in data.chunks(size).zip(BLOCK..) {
+        let previous = if id == BLOCK { NONE } else { id - 1 };
+        assert!(put_anywhere(&mut flash, &Block::new(id, 0, A, previous, piece).bytes()));
+    }
+    (flash, data)
+}
+
+/// Asserts that "/a" holds these bytes in so many blocks, and that nothing is
+/// damage.
+fn reads(flash: &Flash, data: &[u8], blocks: usize) {
+    let r = report(flash);
+    assert_eq!((r.number, r.inodes, r.live, r.stretches, r.skipped), (0, 2, 2, 0, 0));
+    assert_eq!(find(flash, "/a"), Ok(A));
+    assert_eq!(contents(flash, "/a").as_deref(), Ok(data));
+    assert_eq!(read(flash, A, 0, 1).0.headers as usize, blocks);
+}
+
+/// "Earlier images still read: reading allows 2,048 always." What is appended
+/// is cut by the rule in force, behind the longer blocks; they are collected as
+/// they are.
+#[test]
+fn earlier_images_still_read() {
+    for (length, old, new) in EARLIER {
+        let (mut flash, mut data) = earlier(length, old, 3);
+        reads(&flash, &data, 3);
+        for k in 0..3 {
+            let (from, last) = (k * old, (k + 1) * old - 1);
+            let headers = |position: usize| read(&flash, A, position as u32, 1).0.headers;
+            assert_eq!((headers(from), headers(last)), (3 - k as u32, 3 - k as u32), "{length}");
+        }
+        let more: Vec<u8> = (0..new + 1).map(|i| (i % 241) as u8).collect();
+        assert_eq!(append(&mut flash, "/a", &more), 0);
+        let end = data.len() as u32;
+        data.extend(more);
+        reads(&flash, &data, 5);
+        let headers = |position: u32| read(&flash, A, position, 1).0.headers;
+        let pieces = (headers(end), headers(end + new as u32 - 1), headers(end + new as u32));
+        assert_eq!(pieces, (2, 2, 1), "areas of {length}");
+        // Each file area has been the source after seven.
+        for _ in 0..9 {
+            assert_eq!(collect(&mut flash), 0);
+            reads(&flash, &data, 5);
+        }
+    }
+}
+
+/// Whichever area is the source, its earlier blocks are copied byte for byte.
+#[test]
+fn earlier_blocks_are_collected() {
+    for (length, old, _) in EARLIER {
+        for source in 1..=4 {
+            let (mut flash, data) = earlier(length, old, 3);
+            for area in 1..7 {
+                flash.head(area, u8::from(area != source), 0, area as u8 - 1);
+            }
+            let records = area(&flash, source)[24..].to_vec();
+            assert_eq!(collect(&mut flash), 0);
+            holds(&flash, 0, [0, 0, 0, source as u8 - 1], &records);
+            holds(&flash, source, [0, 1, 0, 255], &[]);
+            reads(&flash, &data, 3);
+        }
+    }
+}
+
+/// A block of 2,048 bytes is taken whatever the areas let a writer write; one of
+/// 2,049 isn't.
+#[test]
+fn blocks_of_2048_in_any_areas() {
+    // The first length has just room for root, name and this block.
+    for lengths in [[2137, 128], [2137, 2137], [4096, 129], [4144, 4144], [4166, 4096]] {
+        let mut flash = Flash::of(&[lengths[0], lengths[0], lengths[1]]);
+        flash.root(1);
+        flash.inode(1, A, 0, ROOT, b"a");
+        let mut over = flash.clone();
+        let data: Vec<u8> = (0..2049).map(|i| (i % 251) as u8).collect();
+        assert!(flash.block(1, BLOCK, 0, A, NONE, &data[..2048]));
+        reads(&flash, &data[..2048], 1);
+        assert_eq!(append(&mut flash, "/a", b"behind it"), 0);
+        reads(&flash, &[&data[..2048], b"behind it"].concat(), 2);
+        if over.block(1, BLOCK, 0, A, NONE, &data) {
+            assert!(report(&over).stretches > 0, "{lengths:?}");
+            assert_eq!(contents(&over, "/a"), Ok(Vec::new()));
+        }
+    }
 }

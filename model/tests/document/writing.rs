@@ -2,7 +2,7 @@
 
 use nffs_model::compare::bytes;
 use nffs_model::forge::Flash;
-use nffs_model::layout::{Block, Inode, NONE, ROOT};
+use nffs_model::layout::{AreaHeader, Block, Inode, NONE, ROOT};
 
 use crate::calls;
 use crate::common::*;
@@ -216,13 +216,13 @@ fn damage_before_the_last_record_is_no_room() {
     assert_eq!(create(&mut flash, "/a", 1), Err(15));
 }
 
-/// Areas of 128: pieces of 40. The chain goes on from the file's last block.
+/// Areas of 128: pieces of 28. The chain goes on from the file's last block.
 #[test]
 fn append_cuts_into_pieces() {
-    let mut flash = Flash::of(&[128, 128, 128, 128, 128, 128]);
+    let mut flash = Flash::of(&[128, 128, 128, 128]);
     flash.root(1);
     assert_eq!(create(&mut flash, "/a", 1), Ok(A));
-    let data: Vec<u8> = (0..85).collect();
+    let data: Vec<u8> = (0..89).collect();
     assert_eq!(append(&mut flash, "/a", &data), 0);
     assert_eq!(append(&mut flash, "/a", b"more"), 0);
     assert_eq!(contents(&flash, "/a"), Ok([&data[..], b"more"].concat()));
@@ -230,12 +230,14 @@ fn append_cuts_into_pieces() {
         let bytes = record.bytes();
         assert_eq!(&area(&flash, index)[offset..offset + bytes.len()], &bytes[..]);
     };
-    place(2, 24, Block::new(BLOCK, 0, A, NONE, &data[..40]));
-    place(3, 24, Block::new(BLOCK + 1, 0, A, BLOCK, &data[40..80]));
-    // Both short pieces fit in the first area: 128 - 65 is 63 bytes.
-    place(1, 65, Block::new(BLOCK + 2, 0, A, BLOCK + 1, &data[80..]));
-    place(1, 94, Block::new(BLOCK + 3, 0, A, BLOCK + 2, b"more"));
-    assert_eq!(read(&flash, A, 0, 1).0.headers, 4);
+    // One piece behind root and name; two fill the next area to its last byte.
+    place(1, 65, Block::new(BLOCK, 0, A, NONE, &data[..28]));
+    place(2, 24, Block::new(BLOCK + 1, 0, A, BLOCK, &data[28..56]));
+    place(2, 76, Block::new(BLOCK + 2, 0, A, BLOCK + 1, &data[56..84]));
+    // 128 - 117 is 11 bytes in the first area: too few for the short pieces.
+    place(3, 24, Block::new(BLOCK + 3, 0, A, BLOCK + 2, &data[84..]));
+    place(3, 53, Block::new(BLOCK + 4, 0, A, BLOCK + 3, b"more"));
+    assert_eq!(read(&flash, A, 0, 1).0.headers, 5);
 }
 
 /// The shortest file area decides, damaged or not; scratch doesn't.
@@ -245,37 +247,40 @@ fn the_shortest_file_area_decides() {
     flash.root(1);
     flash.inode(1, A, 0, ROOT, b"a");
     flash.put(2, b"torn");
-    assert_eq!(append(&mut flash, "/a", &[1; 42]), 0);
+    assert_eq!(append(&mut flash, "/a", &[1; 30]), 0);
     assert_eq!(read(&flash, A, 0, 1).0.headers, 2);
-    assert_eq!(append(&mut flash, "/a", &[1; 41]), 0);
+    assert_eq!(append(&mut flash, "/a", &[1; 29]), 0);
     assert_eq!(read(&flash, A, 0, 1).0.headers, 3);
 }
 
 /// New ids are chosen piece by piece, so they needn't be consecutive.
 #[test]
 fn ids_of_pieces() {
-    let mut flash = Flash::of(&[128, 128, 128, 128, 128, 128, 128]);
+    let mut flash = Flash::of(&[128, 128, 128, 128]);
     flash.root(1);
     flash.block(1, BLOCK + 1, 0, B, BLOCK + 3, b"x");
     assert_eq!(create(&mut flash, "/a", 1), Ok(A));
-    assert_eq!(append(&mut flash, "/a", &[7; 120]), 0);
-    assert_eq!(contents(&flash, "/a"), Ok(vec![7; 120]));
-    for (index, id, previous) in
-        [(2, BLOCK, NONE), (3, BLOCK + 2, BLOCK), (4, BLOCK + 4, BLOCK + 2)]
+    assert_eq!(append(&mut flash, "/a", &[7; 84]), 0);
+    assert_eq!(contents(&flash, "/a"), Ok(vec![7; 84]));
+    for (index, offset, id, previous) in
+        [(2, 24, BLOCK, NONE), (2, 76, BLOCK + 2, BLOCK), (3, 24, BLOCK + 4, BLOCK + 2)]
     {
-        let piece = Block::new(id, 0, A, previous, &[7; 40]).bytes();
-        assert_eq!(&area(&flash, index)[24..88], &piece[..]);
+        let piece = Block::new(id, 0, A, previous, &[7; 28]).bytes();
+        assert_eq!(&area(&flash, index)[offset..offset + 52], &piece[..]);
     }
 }
 
-/// "all pieces or none": two pieces have room, the third hasn't.
+/// "all pieces or none": one piece has room beside root and name, two in each of
+/// the other areas; the sixth has none.
 #[test]
 fn all_pieces_or_none() {
     let mut flash = Flash::of(&[128, 128, 128, 128]);
     flash.root(1);
     assert_eq!(create(&mut flash, "/a", 1), Ok(A));
-    assert_eq!(append(&mut flash, "/a", &[7; 120]), 15);
-    assert_eq!(append(&mut flash, "/a", &[7; 80]), 0);
+    assert_eq!(append(&mut flash, "/a", &[7; 6 * 28]), 15);
+    assert_eq!(append(&mut flash, "/a", &[7; 5 * 28 + 1]), 15);
+    assert_eq!(append(&mut flash, "/a", &[7; 5 * 28]), 0);
+    assert_eq!(read(&flash, A, 0, 1).0.headers, 5);
 }
 
 #[test]
@@ -289,15 +294,81 @@ fn the_limit_of_8192_bytes() {
     assert_eq!(read(&flash, A, 0, 1).0.headers, 4);
 }
 
-/// Two greatest blocks don't fit in one area of 4,144: document 01 forgot the
-/// area header.
+/// The customer's areas (document 02, T-03) and their greatest block: two records
+/// of it fill an area with nothing but its header to the last byte.
+const ASKED: usize = 4144;
+const FULL: usize = 2036;
+
+/// "Root and names still take room of their own": what they, a full block and
+/// another block's header leave of the first file area.
+const LEFT: usize = ASKED
+    - AreaHeader::SIZE
+    - Inode::HEADER
+    - (Inode::HEADER + 1)
+    - (Block::HEADER + FULL)
+    - Block::HEADER;
+
+/// A full block, unlike the others.
+fn full_block(number: usize) -> Vec<u8> {
+    (0..FULL).map(|i| (i % 251 + number) as u8).collect()
+}
+
+/// "A customer formatted areas of 4,144 bytes and the second full block was
+/// refused with 15." Of each file area two full blocks are taken, of the first,
+/// which holds root and name, one; there is still room for a shorter one.
 #[test]
 fn two_greatest_blocks() {
-    let mut flash = Flash::of(&[4144, 4144]);
-    flash.root(1);
-    flash.inode(1, A, 0, ROOT, b"a");
-    assert_eq!(append(&mut flash, "/a", &[1; 2048]), 0);
-    assert_eq!(append(&mut flash, "/a", &[1; 2048]), 15);
+    assert_eq!(ASKED, AreaHeader::SIZE + 2 * (Block::HEADER + FULL));
+    for areas in 2..=15 {
+        let mut flash = formatted(&vec![ASKED; areas]);
+        assert_eq!(create(&mut flash, "/a", 1), Ok(A));
+        let mut blocks = Vec::new();
+        let refused = loop {
+            let block = full_block(blocks.len());
+            match append(&mut flash, "/a", &block) {
+                0 => blocks.push(block),
+                number => break number,
+            }
+        };
+        let expected = 2 * (areas - 1) - 1;
+        assert_eq!((refused, blocks.len()), (15, expected), "{areas} areas");
+        assert_eq!(read(&flash, A, 0, 1).0.headers as usize, expected);
+        full_but_the_first(&flash, &blocks);
+        assert_eq!(append(&mut flash, "/a", &[9; LEFT + 1]), 15);
+        assert_eq!(append(&mut flash, "/a", &[9; LEFT]), 0);
+        assert_eq!(append(&mut flash, "/a", b"x"), 15);
+        blocks.push(vec![9; LEFT]);
+        assert_eq!(contents(&flash, "/a"), Ok(blocks.concat()));
+        assert_eq!(report(&flash).stretches, 0);
+    }
+}
+
+/// The file areas behind the first: header and two full blocks, no byte more.
+fn full_but_the_first(flash: &Flash, blocks: &[Vec<u8>]) {
+    for (k, two) in blocks[1..].chunks(2).enumerate() {
+        let record = |i: usize| {
+            let id = BLOCK + (1 + 2 * k + i) as u32;
+            Block::new(id, 0, A, id - 1, &two[i]).bytes()
+        };
+        let records = [record(0), record(1)].concat();
+        assert_eq!(AreaHeader::SIZE + records.len(), ASKED);
+        holds(flash, 2 + k, [0, 0, 0, 1 + k as u8], &records);
+    }
+}
+
+/// The same blocks by one append: all that three areas take, or none.
+#[test]
+fn full_blocks_of_one_append() {
+    let mut flash = formatted(&[ASKED; 3]);
+    assert_eq!(create(&mut flash, "/a", 1), Ok(A));
+    let blocks: Vec<Vec<u8>> = (0..3).map(full_block).collect();
+    let all = [&blocks.concat()[..], &[9; LEFT]].concat();
+    assert_eq!(append(&mut flash, "/a", &[&all[..], b"x"].concat()), 15);
+    assert_eq!(append(&mut flash, "/a", &all), 0);
+    full_but_the_first(&flash, &blocks);
+    assert_eq!(contents(&flash, "/a"), Ok(all));
+    assert_eq!(read(&flash, A, 0, 1).0.headers, 4);
+    assert_eq!(append(&mut flash, "/a", b"x"), 15);
 }
 
 #[test]
@@ -314,7 +385,7 @@ fn five_before_fifteen_at_append() {
     assert_eq!(append(&mut flash, "/a", &[1; 8193]), 8);
 }
 
-/// Areas of 128 beside the long ones: pieces of 40. So many as there are places
+/// Areas of 128 beside the long ones: pieces of 28. So many as there are places
 /// left are written, one more is 5 and none is written.
 #[test]
 fn five_by_the_last_piece() {
@@ -323,7 +394,7 @@ fn five_by_the_last_piece() {
         flash.root(1);
         flash.inode(1, A, 0, ROOT, b"a");
         blocks_up_to(&mut flash, A, 0, 1024 - left);
-        let data: Vec<u8> = (0..left as usize * 40 + 1).map(|i| i as u8).collect();
+        let data: Vec<u8> = (0..left as usize * 28 + 1).map(|i| i as u8).collect();
         let fits = &data[..data.len() - 1];
         assert_eq!(append(&mut flash, "/a", &data), 5, "{left} places left");
         assert_eq!(append(&mut flash, "/a", fits), 0, "{left} places left");
@@ -333,10 +404,11 @@ fn five_by_the_last_piece() {
     }
 }
 
-/// The greatest append in pieces of 40 is 205 blocks.
+/// The greatest append in the smallest pieces, of 28, is 293 blocks.
 #[test]
 fn the_most_pieces_of_an_append() {
-    for (already, number) in [(819, 0), (820, 5), (1023, 5)] {
+    assert_eq!(8192usize.div_ceil(28), 293);
+    for (already, number) in [(1024 - 293, 0), (1024 - 292, 5), (1023, 5)] {
         let mut lengths = [4096; 16];
         lengths[15] = 128;
         let mut flash = Flash::of(&lengths);
