@@ -21,7 +21,8 @@ fn at_the_edges(r: &mut Random) -> (Flash, usize) {
         6 => 4144,
         _ => r.pick(&LONG),
     };
-    let mut lengths = vec![length; r.between(2, 5)];
+    let most = if length < LONG[0] { 8 } else { 5 };
+    let mut lengths = vec![length; r.between(2, most)];
     if r.chance(20) {
         lengths[0] += r.between(1, 60);
     }
@@ -48,7 +49,7 @@ fn earlier_greatest_block(shortest: usize) -> usize {
 }
 
 /// A volume whose file was written by the rule of document 01: full blocks and a
-/// last one, each in the first area with room.
+/// last one, each in the first area with room. Some areas are left for more.
 pub fn earlier(r: &mut Random) -> Flash {
     let mut flash = if r.chance(50) { at_the_edges(r).0 } else { shape(r) };
     let scratch = write_headers(r, &mut flash);
@@ -57,7 +58,7 @@ pub fn earlier(r: &mut Random) -> Flash {
     let size = earlier_greatest_block(shortest);
     let mut records = vec![Inode::new(ROOT, 0, NONE, b"").bytes()];
     records.push(Inode::new(FIRST_FILE, 0, ROOT, b"a").bytes());
-    let data = numbered(0, size * r.between(1, 2 * files.len()) - r.below(size));
+    let data = numbered(0, size * r.between(1, files.len()) + r.below(size));
     let mut previous = NONE;
     for (piece, id) in data.chunks(size).zip(FIRST_BLOCK..) {
         records.push(Block::new(id, 0, FIRST_FILE, previous, piece).bytes());

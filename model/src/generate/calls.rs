@@ -183,10 +183,15 @@ impl Maker {
         let smallest = greatest_block(SHORTEST_AREA as usize);
         let block = self.mounted.as_ref().map_or(smallest, FileSystem::greatest_block);
         let left = self.places_left().1;
+        let longer = self.has_longer_blocks(block);
         let r = &mut self.r;
         if left <= ABOUT_FULL && r.chance(60) {
             let fitting = left * block;
             let length = r.pick(&[0, 1, fitting, fitting + 1, fitting + block]);
+            return r.bytes(length);
+        }
+        if longer && r.chance(25) {
+            let length = r.between(block + 1, 2 * block);
             return r.bytes(length);
         }
         let length = match r.below(80) {
@@ -208,6 +213,13 @@ impl Maker {
             return vec![0xff; length];
         }
         r.bytes(length)
+    }
+
+    /// Whether there are blocks longer than a writer makes now: then two pieces
+    /// are appended oftener.
+    fn has_longer_blocks(&self, greatest: usize) -> bool {
+        let longer = |fs: &FileSystem| fs.blocks().any(|block| block.data.len() > greatest);
+        self.mounted.as_ref().is_some_and(longer)
     }
 
     /// The handle is set anew now and then.

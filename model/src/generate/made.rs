@@ -54,6 +54,8 @@ pub enum Made {
     /// Bytes are read of a block that is longer than an append makes it there;
     /// reads of fewer bytes than any greatest block has aren't counted.
     LongerBlockRead,
+    /// An append of two pieces and more to a file that has such a block.
+    AppendBehindALongerBlock,
     /// With a right check.
     BlockOf2049Bytes,
     RelativePathOver1024,
@@ -69,7 +71,7 @@ pub enum Made {
     NewIdFarFromTheStart,
 }
 
-pub const ALL: [Made; 30] = [
+pub const ALL: [Made; 31] = [
     Made::WholeVolume,
     Made::ThousandsOfNamedIds,
     Made::TenDirectoriesDeep,
@@ -91,6 +93,7 @@ pub const ALL: [Made; 30] = [
     Made::AppendOfNothingInAFullTable,
     Made::TwoGreatestBlocksFillAnArea,
     Made::LongerBlockRead,
+    Made::AppendBehindALongerBlock,
     Made::BlockOf2049Bytes,
     Made::RelativePathOver1024,
     Made::BaseOver1024,
@@ -198,7 +201,7 @@ pub fn in_call(call: &Call, answer: &Answer, side: &Side) -> Vec<Made> {
         Call::Append { base, path, data } => {
             let mut made = in_path(base, path, found);
             made.extend(holding(&[(Made::AppendOver8193, data.len() > APPEND + 1)]));
-            made.extend(in_append(data, answer[0], side));
+            made.extend(in_append((base, path), data, answer[0], side));
             made
         }
         Call::Create { base, path, .. } => {
@@ -249,8 +252,18 @@ fn of_longer_block(id: u32, from: u32, given: usize, side: &Side) -> bool {
     contents(&fs, id).unwrap_or_default().iter().any(|block| {
         let start = end;
         end += block.data.len();
-        block.data.len() > fs.greatest_block() && start < from + given && from < end
+        is_longer(&fs, block) && start < from + given && from < end
     })
+}
+
+fn is_longer(fs: &FileSystem, block: &Block) -> bool {
+    block.data.len() > fs.greatest_block()
+}
+
+/// Whether a file's blocks, as they are after an append, have a longer one.
+fn has_longer_block(fs: &FileSystem, (base, path): (&[u8], &[u8]), side: &Side) -> bool {
+    let file = crate::lookup(&side.image, &side.areas, base, path).id;
+    contents(fs, file).unwrap_or_default().iter().any(|block| is_longer(fs, block))
 }
 
 /// Whether two blocks of this size, the second a piece of the data, fill an area.
@@ -264,7 +277,7 @@ fn filled_by_two(area: &FileArea, size: usize, data: &[u8]) -> bool {
 
 /// What an append has when the table of blocks is full, or would be over, or when
 /// it fills an area.
-fn in_append(data: &[u8], number: u32, side: &Side) -> Vec<Made> {
+fn in_append(at: (&[u8], &[u8]), data: &[u8], number: u32, side: &Side) -> Vec<Made> {
     let refused = number == Refusal::Tables.number();
     if !refused && (number != 0 || !data.is_empty() && !long_enough(data.len())) {
         return Vec::new();
@@ -273,11 +286,13 @@ fn in_append(data: &[u8], number: u32, side: &Side) -> Vec<Made> {
     let (blocks, pieces) = (fs.blocks().count(), data.len().div_ceil(fs.greatest_block()));
     let by_the_last = pieces >= 2 && blocks + pieces == BLOCKS + 1;
     let filled = |area: &FileArea| filled_by_two(area, fs.greatest_block(), data);
+    let behind = !refused && pieces >= 2 && has_longer_block(&fs, at, side);
     holding(&[
         (Made::AppendInAFullTable, refused && blocks == BLOCKS),
         (Made::AppendOverByItsLastPiece, refused && by_the_last),
         (Made::AppendOfNothingInAFullTable, data.is_empty() && blocks == BLOCKS),
         (Made::TwoGreatestBlocksFillAnArea, !refused && fs.file_areas.iter().any(filled)),
+        (Made::AppendBehindALongerBlock, behind),
     ])
 }
 

@@ -308,9 +308,18 @@ const LEFT: usize = ASKED
     - (Block::HEADER + FULL)
     - Block::HEADER;
 
-/// A full block, unlike the others.
-fn full_block(number: usize) -> Vec<u8> {
-    (0..FULL).map(|i| (i % 251 + number) as u8).collect()
+/// The data of a block, unlike the others'.
+fn block_data(number: usize, size: usize) -> Vec<u8> {
+    (0..size).map(|i| (i % 251 + number) as u8).collect()
+}
+
+/// How long a block is that an append makes of longer data: the data length
+/// field of the record behind root and name.
+fn full_size(flash: &Flash) -> usize {
+    let mut flash = flash.clone();
+    assert_eq!(append(&mut flash, "/a", &[1; 2049]), 0);
+    let block = &area(&flash, 1)[65..];
+    usize::from(u16::from_le_bytes([block[20], block[21]]))
 }
 
 /// "A customer formatted areas of 4,144 bytes and the second full block was
@@ -322,16 +331,17 @@ fn two_greatest_blocks() {
     for areas in 2..=15 {
         let mut flash = formatted(&vec![ASKED; areas]);
         assert_eq!(create(&mut flash, "/a", 1), Ok(A));
+        let size = full_size(&flash);
         let mut blocks = Vec::new();
         let refused = loop {
-            let block = full_block(blocks.len());
+            let block = block_data(blocks.len(), size);
             match append(&mut flash, "/a", &block) {
                 0 => blocks.push(block),
                 number => break number,
             }
         };
         let expected = 2 * (areas - 1) - 1;
-        assert_eq!((refused, blocks.len()), (15, expected), "{areas} areas");
+        assert_eq!((size, blocks.len(), refused), (FULL, expected, 15), "{areas} areas");
         assert_eq!(read(&flash, A, 0, 1).0.headers as usize, expected);
         full_but_the_first(&flash, &blocks);
         assert_eq!(append(&mut flash, "/a", &[9; LEFT + 1]), 15);
@@ -361,7 +371,7 @@ fn full_but_the_first(flash: &Flash, blocks: &[Vec<u8>]) {
 fn full_blocks_of_one_append() {
     let mut flash = formatted(&[ASKED; 3]);
     assert_eq!(create(&mut flash, "/a", 1), Ok(A));
-    let blocks: Vec<Vec<u8>> = (0..3).map(full_block).collect();
+    let blocks: Vec<Vec<u8>> = (0..3).map(|k| block_data(k, FULL)).collect();
     let all = [&blocks.concat()[..], &[9; LEFT]].concat();
     assert_eq!(append(&mut flash, "/a", &[&all[..], b"x"].concat()), 15);
     assert_eq!(append(&mut flash, "/a", &all), 0);
