@@ -34,7 +34,7 @@
 #include <string.h>
 
 /* Of the calls and their declarations here. */
-#define NFFS_VERSION "0.2.0"
+#define NFFS_VERSION "0.3.0"
 
 /* An answer that nobody looks at may be a refusal. */
 #if defined(__cplusplus) && __cplusplus >= 201703L
@@ -158,8 +158,9 @@ NFFS_ANSWERS nffs_read_answer nffs_read_at(const uint8_t *image, size_t image_le
 NFFS_ANSWERS nffs_create_answer nffs_create(uint8_t *image, size_t image_length, const nffs_area *areas, size_t areas_count,
                                const uint8_t *base, size_t base_length, const uint8_t *path, size_t path_length, uint32_t kind);
 
-/* Appends data to a file, all of it or nothing; at most NFFS_APPEND_MOST bytes. Checks in order: 1 to 7, 8, then 9, 10 or 11 at the
-   first step of the path that fails, 11 for a directory, 13, 5 with the new blocks counted in, 15. */
+/* Appends data to a file, all of it or nothing; at most NFFS_APPEND_MOST bytes. It is stored in blocks, whose greatest size follows from
+   the shortest file area: 2,048 bytes where that has 4,168 or more (docs/LINKING.md, "Plan the areas"). Checks in order: 1 to 7, 8, then
+   9, 10 or 11 at the first step of the path that fails, 11 for a directory, 13, 5 with the new blocks counted in, 15. */
 NFFS_ANSWERS uint32_t nffs_append(uint8_t *image, size_t image_length, const nffs_area *areas, size_t areas_count,
                      const uint8_t *base, size_t base_length, const uint8_t *path, size_t path_length,
                      const uint8_t *data, size_t data_length);

@@ -301,7 +301,9 @@ pub fn create(
     Ok(r.id)
 }
 
-/// Appends data to a file, all of it or nothing; at most [`APPEND_MOST`] bytes.
+/// Appends data to a file, all of it or nothing; at most [`APPEND_MOST`] bytes. It is stored in
+/// blocks, whose greatest size follows from the shortest file area: 2,048 bytes where that has
+/// 4,168 or more (`docs/LINKING.md`, "Plan the areas").
 ///
 /// Checks in order: 1 to 7, 8, then 9, 10 or 11 at the first step of the path that fails, 11 for a
 /// directory, 13, 5 with the new blocks counted in, 15.

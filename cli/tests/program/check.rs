@@ -91,14 +91,14 @@ fn damage_is_told_by_area_and_files_as_broken() {
     let page_of = page(&folder, &[], 3);
     let rows = "
    4096+4096  file area 0, count 0, clean
-   8192+4096  file area 1, count 0, damaged: 1 stretch, 2048 bytes
+   8192+4096  file area 1, count 0, damaged: 1 stretch, 2036 bytes
   12288+4096  file area 2, count 0, clean
 ";
     assert!(page_of.contains(rows), "{page_of}");
     assert!(page_of.contains("\n       3000  /first\n     broken  /second\nDamage: "), "{page_of}");
     assert!(page_of.contains("\nBroken: blocks of the file are lost."), "{page_of}");
     let damage = "[(a['kind'], a['stretches'], a['skipped']) for a in v['areas']][2], v['skipped']";
-    assert_eq!(json(&folder, damage, 3), "('file', 1, 2048) 2048");
+    assert_eq!(json(&folder, damage, 3), "('file', 1, 2036) 2036");
     assert_eq!(json(&folder, "v['entries'][2]['kind'], v['entries'][2]['size']", 3), "broken None");
 
     // stored anew and collected, it is sound

@@ -20,12 +20,18 @@ fn data(block: u32) -> [u8; 2] {
     (block as u16).to_le_bytes()
 }
 
+/// So many bytes, others for each number.
+fn block(number: u32, size: usize) -> Vec<u8> {
+    (0..size).map(|k| (k % 251) as u8 ^ number as u8).collect()
+}
+
 /// What a file holds if so many blocks go round so many files.
 fn text(file: u32, files: u32, blocks: u32) -> Vec<u8> {
     (file..blocks).step_by(files as usize).flat_map(data).collect()
 }
 
 /// The two engines, each on its own image, under one list of areas.
+#[derive(Clone)]
 struct Pair {
     ours: Vec<u8>,
     model: Vec<u8>,
@@ -188,7 +194,7 @@ fn the_1024th_and_the_1025th_block() {
 #[test]
 fn pieces_up_to_the_1024th_block_and_past_it() {
     // the greatest block of areas of 4,096 bytes
-    const PIECE: usize = 2024;
+    const PIECE: usize = 2012;
     for pieces in 2..=4 {
         let mut pair = Pair::filled(&[4096; 16], 1, 1025 - pieces as u32);
         let more: Vec<u8> = (0..pieces * PIECE).map(|k| (k % 251) as u8).collect();
@@ -270,7 +276,7 @@ fn appends_of_0_1_8192_and_8193_bytes() {
     assert_eq!(pair.blocks(FILE), 5);
 }
 
-/// Pieces of 40 bytes, for the shortest file area has 128: one goes to one area and one to the next, all or none.
+/// Pieces of 28 bytes, for the shortest file area has 128: two fill an area, and they go on in the next, all or none.
 #[test]
 fn an_area_filled_to_its_last_byte_and_pieces_over_areas() {
     let mut pair = Pair::formatted(&[128; 4]);
@@ -278,23 +284,163 @@ fn an_area_filled_to_its_last_byte_and_pieces_over_areas() {
     let path = [&b"/"[..], &[b'n'; 64]].concat();
     assert_eq!(pair.create(&path).number, 0);
     assert_eq!(pair.area(1)[64..], [b'n'; 64]);
-    // 104 bytes are free in each of the others: a piece of 24 + 40 bytes in each, and no room for a third
-    pair.refuses(15, |pair| pair.append(&path, &[2; 81 + 40]));
-    assert_eq!(pair.append(&path, &[1; 80]), 0);
-    for index in [2, 3] {
-        assert_eq!(pair.area(index)[48..88], [1; 40]);
-        assert_eq!(pair.area(index)[88..], [0xff; 40]);
+    // 104 bytes are free in each of the others: two pieces of 24 + 28 bytes in each, and no room for a fifth
+    pair.refuses(15, |pair| pair.append(&path, &[2; 4 * 28 + 1]));
+    assert_eq!(pair.append(&path, &[1; 3 * 28]), 0);
+    for (index, at) in [(2, 48), (2, 100), (3, 48)] {
+        assert_eq!(pair.area(index)[at..at + 28], [1; 28]);
     }
-    // 16 and no more have room behind the 24 of a header, in one area and then in the other
-    pair.refuses(15, |pair| pair.append(&path, &[3; 17]));
-    for (value, index) in [(4, 2), (5, 3)] {
-        assert_eq!(pair.append(&path, &[value; 16]), 0);
-        assert_eq!(pair.area(index)[112..], [value; 16]);
+    assert_eq!(pair.area(3)[76..], [0xff; 52]);
+    // 28 and no more have room behind the 24 of a header; so have two records of 26 bytes, one behind the other
+    pair.refuses(15, |pair| pair.append(&path, &[3; 29]));
+    for (value, at) in [(4, 100), (5, 126)] {
+        assert_eq!(pair.append(&path, &[value; 2]), 0);
+        assert_eq!(pair.area(3)[at..at + 2], [value; 2]);
     }
     pair.refuses(15, |pair| pair.append(&path, b"x"));
     pair.refuses(15, |pair| pair.unlink(&path));
-    assert_eq!(pair.contents(&path), [&[1; 80][..], &[4; 16], &[5; 16]].concat());
+    assert_eq!(pair.contents(&path), [&[1; 84][..], &[4; 2], &[5; 2]].concat());
     assert_eq!(pair.report(), Report { number: 0, inodes: 2, live: 2, stretches: 0, skipped: 0 });
+}
+
+/// The customer's volume: blocks of the greatest size that the calls write as one, an append each, until 15. Of the file area of root and name there
+/// is room for one, of each other for two, which fill it; what is left then takes one that is shorter.
+#[test]
+fn full_blocks_in_areas_of_4144_bytes() {
+    for areas in 2..=15 {
+        let mut pair = Pair::formatted(&vec![4144; areas]);
+        assert_eq!(pair.create(b"/a").number, 0);
+        let one = |size: &usize| {
+            let mut tried = pair.clone();
+            tried.append(b"/a", &block(0, *size)) == 0 && tried.blocks(FILE) == 1
+        };
+        let size = (1..=2049).rev().find(one).expect("one byte is one block");
+        let (mut full, mut stored) = (0, Vec::new());
+        while pair.append(b"/a", &block(full, size)) == 0 {
+            stored.extend(block(full, size));
+            full += 1;
+        }
+        assert_eq!((full as usize, size), (2 * areas - 3, 2036));
+        assert_eq!(pair.blocks(FILE), full);
+        pair.refuses(15, |pair| pair.append(b"/a", &block(full, size)));
+        for index in 2..areas {
+            assert_eq!(pair.area(index)[48..48 + size], block(2 * index as u32 - 3, size));
+            assert_eq!(pair.area(index)[72 + size..], block(2 * index as u32 - 2, size));
+        }
+        // behind 24 of the area's header, 20 of the root, 21 of the name and 24 and the data of the block, the header of one more
+        let left = 4144 - 24 - 20 - 21 - 24 - size - 24;
+        pair.refuses(15, |pair| pair.append(b"/a", &block(full, left + 1)));
+        assert_eq!(pair.append(b"/a", &block(full, left)), 0);
+        stored.extend(block(full, left));
+        pair.refuses(15, |pair| pair.append(b"/a", b"x"));
+        assert_eq!(pair.whole(FILE, stored.len()), (stored, full + 1));
+    }
+}
+
+/// The shortest file area's length and the greatest block, where two fill an area behind its header; of an odd length a byte is left.
+const FILLED_BY_TWO: [(u32, usize); 13] = [
+    (128, 28),
+    (129, 28),
+    (130, 29),
+    (131, 29),
+    (4095, 2011),
+    (4096, 2012),
+    (4097, 2012),
+    (4144, 2036),
+    (4145, 2036),
+    (4165, 2046),
+    (4166, 2047),
+    (4167, 2047),
+    (4168, 2048),
+];
+
+/// The same where the most that is acceptable is less than half an area.
+const LESS_THAN_HALF: [(u32, usize); 4] = [(4169, 2048), (4170, 2048), (8192, 2048), (16384, 2048)];
+
+/// By one append, into an area that has its header alone.
+#[test]
+fn two_greatest_blocks_fill_an_area() {
+    for (length, greatest) in FILLED_BY_TWO {
+        let mut pair = Pair::formatted(&[length; 3]);
+        assert_eq!(pair.create(b"/a").number, 0);
+        // the area of root and name is filled first, but for what no record fits into
+        let mut stored = Vec::new();
+        for size in [greatest, (length as usize - 65 - 24 - greatest).saturating_sub(24)] {
+            assert_eq!(pair.append(b"/a", &block(7, size)), 0);
+            stored.extend(block(7, size));
+        }
+        assert_eq!(pair.area(2)[24..], vec![0xff; length as usize - 24]);
+        let before = pair.blocks(FILE);
+        let both = [block(1, greatest), block(2, greatest)].concat();
+        pair.refuses(15, |pair| pair.append(b"/a", &[&both[..], b"x"].concat()));
+        assert_eq!(pair.append(b"/a", &both), 0);
+        assert_eq!(pair.blocks(FILE), before + 2);
+        let second = 48 + greatest + 24;
+        assert_eq!(pair.area(2)[48..48 + greatest], block(1, greatest));
+        assert_eq!(pair.area(2)[second..second + greatest], block(2, greatest));
+        assert_eq!(pair.area(2)[second + greatest..], vec![0xff; length as usize % 2]);
+        pair.refuses(15, |pair| pair.append(b"/a", b"x"));
+        stored.extend(both);
+        assert_eq!(pair.whole(FILE, stored.len()), (stored, before + 2));
+    }
+}
+
+/// Appends of one and two greatest blocks, and of a byte less and more. The shortest file area may stand anywhere in the list, be damaged, and
+/// hold none of the blocks.
+#[test]
+fn appends_around_the_greatest_block() {
+    for (length, greatest) in FILLED_BY_TWO.into_iter().chain(LESS_THAN_HALF) {
+        for (shortest, damaged) in [(1, false), (2, false), (2, true), (3, false), (3, true)] {
+            let mut lengths = [16384; 4];
+            lengths[shortest] = length;
+            let mut pair = Pair::formatted(&lengths);
+            assert_eq!(pair.create(b"/a").number, 0);
+            if damaged {
+                let at = pair.areas[2 * shortest] as usize + 24;
+                pair.ours[at] = 0;
+                pair.model[at] = 0;
+            }
+            let (mut stored, mut blocks) = (Vec::new(), 0);
+            for (size, pieces) in [(greatest - 1, 1), (greatest, 1), (greatest + 1, 2), (2 * greatest, 2), (2 * greatest + 1, 3)] {
+                assert_eq!(pair.append(b"/a", &block(blocks, size)), 0);
+                stored.extend(block(blocks, size));
+                blocks += pieces;
+                assert_eq!(pair.blocks(FILE), blocks, "{size} bytes, the shortest file area has {length}");
+            }
+            assert_eq!(pair.whole(FILE, stored.len()), (stored, blocks));
+        }
+    }
+}
+
+/// Volumes as version 0.2.0 left them: formatted, a file created, one append of two of its greatest blocks, which were half of the area's length
+/// less 24, at most 2,048. The sums are of the images that it wrote. They read, take blocks of the size in force and are collected; the long blocks
+/// stay as they are.
+#[test]
+fn volumes_of_version_0_2_0() {
+    for (length, greatest, now, sum) in [(128, 40, 28, 0xa9cf_2b91), (4096, 2024, 2012, 0x9c41_48a6), (4144, 2048, 2036, 0x4c1b_f4b2)] {
+        let mut flash = Flash::of(&[length; 4]);
+        assert!(flash.root(1) && flash.inode(1, FILE, 0, 0, b"a"));
+        for (k, previous) in [(0, NONE), (1, BLOCK)] {
+            assert!((1..4).any(|area| flash.block(area, BLOCK + k, 0, FILE, previous, &block(k, greatest))));
+        }
+        assert_eq!(flash.image.iter().fold(0, |sum: u32, byte| sum.wrapping_mul(31).wrapping_add(u32::from(*byte))), sum);
+        let mut pair = Pair { ours: flash.image.clone(), model: flash.image, areas: flash.areas };
+        let mut stored = [block(0, greatest), block(1, greatest)].concat();
+        assert_eq!(pair.report(), Report { number: 0, inodes: 2, live: 2, stretches: 0, skipped: 0 });
+        assert_eq!(pair.contents(b"/a"), stored);
+        assert_eq!(pair.blocks(FILE), 2);
+        assert_eq!(pair.append(b"/a", &block(2, now + 1)), 0);
+        stored.extend(block(2, now + 1));
+        assert_eq!(pair.blocks(FILE), 4);
+        // until each area was the source once
+        for _ in 0..4 {
+            assert_eq!(pair.whole(FILE, stored.len()), (stored.clone(), 4));
+            assert_eq!(pair.collect(), 0);
+        }
+        assert_eq!(pair.counts(), [1; 4]);
+        assert_eq!(pair.contents(b"/a"), stored);
+        assert_eq!(pair.blocks(FILE), 4);
+    }
 }
 
 /// The area of the lowest count is collected, the first among equals, and its count goes on, from 255 to 0.

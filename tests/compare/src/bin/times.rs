@@ -69,6 +69,13 @@ fn all_damaged() -> Flash {
     flash
 }
 
+/// An empty file in two file areas of 16,384 bytes, and one of this length.
+fn with_an_area_of(length: usize) -> Flash {
+    let mut flash = Flash::of(&[16384, 16384, 16384, length]);
+    assert!(flash.root(1) && flash.inode(1, FILE, 0, 0, &first_file()[1..]));
+    flash
+}
+
 fn volumes() -> [(&'static str, Flash); 5] {
     [
         ("fresh", fresh()),
@@ -100,6 +107,9 @@ const CALLS: [Call; 10] = [
     ("collect", |e, image, areas| e.collect(image, areas)),
 ];
 
+/// The longest append, which the shortest file area cuts into the most blocks.
+const LONGEST: Call = ("append 8,192", |e, image, areas| e.append(image, areas, b"", &first_file(), &[7; 8192]));
+
 /// The shortest of 50 runs in microseconds, each on the same bytes, and the number answered.
 fn shortest(engine: &dyn Engine, flash: &Flash, call: Call) -> (f64, u32) {
     let mut number = 0;
@@ -114,14 +124,22 @@ fn shortest(engine: &dyn Engine, flash: &Flash, call: Call) -> (f64, u32) {
     (least, number)
 }
 
+/// One call on one volume, on both.
+fn row(name: &str, flash: &Flash, call: Call) {
+    let (ours, number) = shortest(&Proved, flash, call);
+    let (model, expected) = shortest(&Model, flash, call);
+    assert_eq!(number, expected, "{name}, {}", call.0);
+    println!("| {name} | {} | {number} | {ours:.0} | {model:.0} | {:.2} |", call.0, ours / model);
+}
+
 fn main() {
     println!("| Image | Call | Answer | Microseconds | The model's | Ratio |\n|---|---|---|---|---|---|");
     for (name, flash) in volumes() {
         for call in CALLS {
-            let (ours, number) = shortest(&Proved, &flash, call);
-            let (model, expected) = shortest(&Model, &flash, call);
-            assert_eq!(number, expected, "{name}, {}", call.0);
-            println!("| {name} | {} | {number} | {ours:.0} | {model:.0} | {:.2} |", call.0, ours / model);
+            row(name, &flash, call);
         }
+    }
+    for length in [128, 512, 1024, 4096, 4168] {
+        row(&format!("an area of {length}"), &with_an_area_of(length), LONGEST);
     }
 }
