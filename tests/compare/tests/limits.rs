@@ -346,9 +346,9 @@ fn appends_around_the_greatest_block() {
     }
 }
 
-/// Volumes as version 0.2.0 left them: formatted, a file created, one append of two of its greatest blocks. Those had half of the area's length,
-/// rounded down, and of that 24 less, at most 2,048. The sums (31 times the sum so far, and the next byte) are of the images that it wrote. They
-/// read, take blocks of the size in force and are collected; the long blocks stay as they are.
+/// Volumes as version 0.2.0 left them: formatted, a file created, one append of two of its greatest blocks, 24 bytes less than half of the
+/// area's length and at most 2,048. The sums (31 times the sum so far, and the next byte) are of the images that it wrote. They read, take blocks of
+/// the size in force and are collected; the long blocks stay as they are.
 #[test]
 fn volumes_of_version_0_2_0() {
     for (length, greatest, now, sum) in [(128, 40, 28, 0xa9cf_2b91), (4096, 2024, 2012, 0x9c41_48a6), (4144, 2048, 2036, 0x4c1b_f4b2)] {
