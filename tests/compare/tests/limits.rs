@@ -412,8 +412,8 @@ fn appends_around_the_greatest_block() {
     }
 }
 
-/// Volumes as version 0.2.0 left them: formatted, a file created, one append of two of its greatest blocks, which were half of the area's length
-/// less 24, at most 2,048. The sums are of the images that it wrote. They read, take blocks of the size in force and are collected; the long blocks
+/// Volumes as version 0.2.0 left them: formatted, a file created, one append of two of its greatest blocks, 24 less than half of the area's
+/// length and at most 2,048. The sums are of the images that it wrote. They read, take blocks of the size in force and are collected; the long blocks
 /// stay as they are.
 #[test]
 fn volumes_of_version_0_2_0() {
