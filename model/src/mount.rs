@@ -241,7 +241,7 @@ impl FileSystem {
 
 /// "two greatest blocks must fit in the smallest area, so the size is half of
 /// (length less 24), rounded down, less 24, at most 2,048" (document 02, T-03).
-/// The length is 128 or more. Only writers keep to it.
+/// The length is 128 or more. Only writers keep to this size.
 pub fn greatest_block(shortest: usize) -> usize {
     let behind_the_header = shortest - AreaHeader::SIZE;
     (behind_the_header / 2 - Block::HEADER).min(BLOCK_DATA)

@@ -24,6 +24,9 @@ int main(int count, char **words) {
         /* a read follows the headers from the last block back to the one that holds its first byte */
         uint8_t byte;
         const uint32_t blocks = nffs_volume_read_at(&flash, file.id, 0, &byte, 1).headers;
+        if (blocks == 0) {
+            return 1;
+        }
         uint32_t size = 1;
         while (nffs_volume_read_at(&flash, file.id, size, &byte, 1).headers == blocks) {
             size++;

@@ -9,7 +9,7 @@ use lib.ListN.{length}
 use Rattle.format.specs.Bytes.{Bytes}
 use Rattle.format.specs.Record.{longestData}
 use Rattle.format.specs.BlockSize.{greatestBlock}
-use Rattle.format_laws.specs.BlockSize.{two-greatest}
+use Rattle.format_laws.specs.BlockSize.{TwoGreatest, two-greatest}
 use Rattle.calls.specs.Areas.{shortestArea}
 use Rattle.calls.specs.Mount.{mostBlocks}
 use Rattle.calls.specs.Storing.{Space, placeAll, storeAll, noPlace, storedOr}
@@ -38,8 +38,8 @@ module _ {image : Bytes} {m : Mounted} {t : List ℕ} (s : Safe image m t) where
   pub shortest-bound : shortestArea ≤ shortestOf (spansIn m t)
   shortest-bound = shortest-long shortestArea (spansIn m t) some-span (λ i h. s .fit .long i (omega (arith, s .fit .pairs)))
 
-  pub size-bounds : (1 ≤ sizeFor m t) × (sizeFor m t ≤ longestData)
-  size-bounds = let g = two-greatest (shortestOf (spansIn m t)) shortest-bound in (g .some-bytes, g .at-most)
+  pub size-law : TwoGreatest (shortestOf (spansIn m t))
+  size-law = two-greatest (shortestOf (spansIn m t)) shortest-bound
 
 -- ---- what is planned and written
 

@@ -82,7 +82,7 @@ shortest-least (d ∷ e ∷ fs) n h =
     let i = shortest-least (e ∷ fs) (λ z. omega arith) (λ x m. h x (List·Memᴰ·tail m)) in
     omega (arith, h d (List·Memᴰ·head refl))
 
--- writers' blocks hold some bytes, and no more than a block may
+-- the law of the greatest block, in these file areas
 module _ (image : Bytes) (ds : List Descriptor) (p : Passes image ds) where
   block-size : TwoGreatest (shortestLength (fileAreas image ds))
   unfolding wrongAreas

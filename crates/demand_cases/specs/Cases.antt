@@ -1,6 +1,6 @@
 -- What the demands say of some small volumes: each field is an instance of the field of a theorem that its comment names, or of a sentence of
--- document 01, by computation. An edit of a definition that brings stale data back, or breaks a promise, makes one of them false
--- (tests/definitions), and with it the theorem.
+-- document 01, by computation. Each edit of a definition in tests/definitions, which would bring stale data back or break a promise, makes one of
+-- them false, and with it the theorem.
 use Prim.Native.Nat.{_+_, _*_}
 use mathlib.Core.Path.{_≡_, refl}
 use mathlib.Core.Bool.{true}
@@ -78,7 +78,7 @@ pub record Cases : Type 0 where
   pub collect-of-used-scratch : resolve (imageCollected usedScratch two) two [] (slash a) ≡ resolve usedScratch two [] (slash a)
   -- AfterCollect.paths: where versions clash, which of them counts would change with the areas' order
   pub collect-of-clashing : resolve (imageCollected clashing three) three [] (slash a) ≡ resolve clashing three [] (slash a)
-  -- TwoGreatest.two-fit
+  -- TwoGreatest.two-fit, of an odd length: rounded up, two would not fit either
   pub two-greatest-fit : leb (areaHeaderSize + 2 * (block .headerSize + greatestBlock 129)) 129 ≡ true
   -- the hypotheses of each theorem can be met: format, a directory, a file in it, two bytes appended, the directory unlinked, a collection
   pub accepted : formatNumber image₀ two ∷ createOf image₁ two [] directory 0 .number ∷ createOf image₂ two [] fileInIt 1 .number

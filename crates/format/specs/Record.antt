@@ -42,7 +42,7 @@ inodeRule id parent n =
     isInodeId id
     && cond (eqb id rootId) (eqb parent NONE && eqb n 0) (eqb parent NONE || (isDirectoryId parent && ltb 0 n))
 
--- reading allows blocks of so many bytes always, whatever the greatest block size of writers
+-- T-03: "reading allows 2,048 always", whatever the greatest block size of writers
 abbrev pub longestData : ℕ
 longestData = 2048
 

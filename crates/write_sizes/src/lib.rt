@@ -52,7 +52,7 @@ pub fn greatest_block(shortest: u32) -> usize
     )
 }
 
-// No greatest block size is less, however short the areas; that the rule gives no less is a law (`least-block`).
+// The greatest block size of the shortest areas there are; that none is less is a law (`least-block`).
 const LEAST_BLOCK: usize = 28;
 
 // The most pieces of one append.

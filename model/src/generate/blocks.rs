@@ -49,7 +49,7 @@ fn earlier_greatest_block(shortest: usize) -> usize {
 }
 
 /// A volume whose file was written by the rule of document 01: full blocks and a
-/// last one, each in the first area with room. Some areas are left for more.
+/// last one, each in the first area with room. Mostly some room is left.
 pub fn earlier(r: &mut Random) -> Flash {
     let mut flash = if r.chance(50) { at_the_edges(r).0 } else { shape(r) };
     let scratch = write_headers(r, &mut flash);

@@ -51,7 +51,7 @@ pub enum Made {
     /// An append whose piece is the second of two greatest blocks that fill a
     /// file area, nothing but its header before them, to the last byte.
     TwoGreatestBlocksFillAnArea,
-    /// Bytes are read of a block that is longer than an append makes it there;
+    /// Bytes are read of a block that is longer than appends make them there;
     /// reads of fewer bytes than any greatest block has aren't counted.
     LongerBlockRead,
     /// An append of two pieces and more to a file that has such a block.

@@ -28,23 +28,20 @@ fn cuts_at(length: usize, size: usize) {
 }
 
 /// As document 02, T-03 amends it: "128 gives 28, 4,096 gives 2,012, 4,166 gives 2,047, 4,168
-/// gives 2,048"; the lengths beside these, and more.
+/// gives 2,048"; so does more.
 #[test]
 fn greatest_block_size_by_shortest_area() {
     let amended = [(128, 28), (4096, 2012), (4166, 2047), (4168, 2048)];
-    let short = [(129, 28), (130, 29), (131, 29), (132, 30), (255, 91), (256, 92), (257, 92)];
-    let beside = [(4095, 2011), (4097, 2012), (4098, 2013), (4142, 2035), (4143, 2035)];
-    let asked = [(4144, 2036), (4145, 2036), (4146, 2037), (4164, 2046), (4165, 2046)];
-    let long = [(4167, 2047), (4169, 2048), (4170, 2048), (8191, 2048), (32_768, 2048)];
-    for (length, size) in [&amended[..], &short, &beside, &asked, &long].concat() {
+    let more = [(4169, 2048), (8191, 2048), (32_768, 2048)];
+    for (length, size) in [&amended[..], &more].concat() {
         assert_eq!(greatest_block(length), size, "areas of {length}");
         cuts_at(length, size);
     }
     assert_eq!(greatest_block(65_536), 2048);
 }
 
-/// "two greatest blocks must fit in the smallest area", behind its header; of one byte more they
-/// don't, where that is a block at all.
+/// "two greatest blocks must fit in the smallest area", behind its header; two blocks of a byte
+/// more don't, unless that is over 2,048.
 #[test]
 fn two_greatest_blocks_fit_in_every_length() {
     for length in 128..=65_536 {

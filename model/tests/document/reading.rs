@@ -207,7 +207,7 @@ fn earlier(length: usize, size: usize, blocks: usize) -> (Flash, Vec<u8>) {
 }
 
 /// Asserts that "/a" holds these bytes in so many blocks, and that nothing is
-/// damage.
+/// damaged.
 fn reads(flash: &Flash, data: &[u8], blocks: usize) {
     let r = report(flash);
     assert_eq!((r.number, r.inodes, r.live, r.stretches, r.skipped), (0, 2, 2, 0, 0));
@@ -267,7 +267,7 @@ fn earlier_blocks_are_collected() {
 /// 2,049 isn't.
 #[test]
 fn blocks_of_2048_in_any_areas() {
-    // The first length has just room for root, name and this block.
+    // 2,137 has just room for root, name and a block of 2,048.
     for lengths in [[2137, 128], [2137, 2137], [4096, 129], [4144, 4144], [4166, 4096]] {
         let mut flash = Flash::of(&[lengths[0], lengths[0], lengths[1]]);
         flash.root(1);
@@ -278,7 +278,9 @@ fn blocks_of_2048_in_any_areas() {
         reads(&flash, &data[..2048], 1);
         assert_eq!(append(&mut flash, "/a", b"behind it"), 0);
         reads(&flash, &[&data[..2048], b"behind it"].concat(), 2);
-        if over.block(1, BLOCK, 0, A, NONE, &data) {
+        let placed = over.block(1, BLOCK, 0, A, NONE, &data);
+        assert_eq!(placed, lengths[0] > 2137, "{lengths:?}");
+        if placed {
             assert!(report(&over).stretches > 0, "{lengths:?}");
             assert_eq!(contents(&over, "/a"), Ok(Vec::new()));
         }

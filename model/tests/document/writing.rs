@@ -296,12 +296,12 @@ fn the_limit_of_8192_bytes() {
 
 /// The customer's areas (document 02, T-03) and their greatest block: two records
 /// of it fill an area with nothing but its header to the last byte.
-const ASKED: usize = 4144;
+const CUSTOMERS_AREA: usize = 4144;
 const FULL: usize = 2036;
 
 /// "Root and names still take room of their own": what they, a full block and
 /// another block's header leave of the first file area.
-const LEFT: usize = ASKED
+const LEFT: usize = CUSTOMERS_AREA
     - AreaHeader::SIZE
     - Inode::HEADER
     - (Inode::HEADER + 1)
@@ -323,13 +323,13 @@ fn full_size(flash: &Flash) -> usize {
 }
 
 /// "A customer formatted areas of 4,144 bytes and the second full block was
-/// refused with 15." Of each file area two full blocks are taken, of the first,
-/// which holds root and name, one; there is still room for a shorter one.
+/// refused with 15." Each file area takes two full blocks; the first, with root
+/// and name, one and a shorter one. So with two areas, one of them scratch, the
+/// second full block is still refused with 15, by root and name.
 #[test]
 fn two_greatest_blocks() {
-    assert_eq!(ASKED, AreaHeader::SIZE + 2 * (Block::HEADER + FULL));
     for areas in 2..=15 {
-        let mut flash = formatted(&vec![ASKED; areas]);
+        let mut flash = formatted(&vec![CUSTOMERS_AREA; areas]);
         assert_eq!(create(&mut flash, "/a", 1), Ok(A));
         let size = full_size(&flash);
         let mut blocks = Vec::new();
@@ -353,23 +353,21 @@ fn two_greatest_blocks() {
     }
 }
 
-/// The file areas behind the first: header and two full blocks, no byte more.
+/// The file areas behind the first: header and two full blocks, which leave no byte.
 fn full_but_the_first(flash: &Flash, blocks: &[Vec<u8>]) {
     for (k, two) in blocks[1..].chunks(2).enumerate() {
         let record = |i: usize| {
             let id = BLOCK + (1 + 2 * k + i) as u32;
             Block::new(id, 0, A, id - 1, &two[i]).bytes()
         };
-        let records = [record(0), record(1)].concat();
-        assert_eq!(AreaHeader::SIZE + records.len(), ASKED);
-        holds(flash, 2 + k, [0, 0, 0, 1 + k as u8], &records);
+        holds(flash, 2 + k, [0, 0, 0, 1 + k as u8], &[record(0), record(1)].concat());
     }
 }
 
 /// The same blocks by one append: all that three areas take, or none.
 #[test]
 fn full_blocks_of_one_append() {
-    let mut flash = formatted(&[ASKED; 3]);
+    let mut flash = formatted(&[CUSTOMERS_AREA; 3]);
     assert_eq!(create(&mut flash, "/a", 1), Ok(A));
     let blocks: Vec<Vec<u8>> = (0..3).map(|k| block_data(k, FULL)).collect();
     let all = [&blocks.concat()[..], &[9; LEFT]].concat();
@@ -417,7 +415,6 @@ fn five_by_the_last_piece() {
 /// The greatest append in the smallest pieces, of 28, is 293 blocks.
 #[test]
 fn the_most_pieces_of_an_append() {
-    assert_eq!(8192usize.div_ceil(28), 293);
     for (already, number) in [(1024 - 293, 0), (1024 - 292, 5), (1023, 5)] {
         let mut lengths = [4096; 16];
         lengths[15] = 128;

@@ -31,7 +31,6 @@ fn text(file: u32, files: u32, blocks: u32) -> Vec<u8> {
 }
 
 /// The two engines, each on its own image, under one list of areas.
-#[derive(Clone)]
 struct Pair {
     ours: Vec<u8>,
     model: Vec<u8>,
@@ -291,105 +290,40 @@ fn an_area_filled_to_its_last_byte_and_pieces_over_areas() {
         assert_eq!(pair.area(index)[at..at + 28], [1; 28]);
     }
     assert_eq!(pair.area(3)[76..], [0xff; 52]);
-    // 28 and no more have room behind the 24 of a header; so have two records of 26 bytes, one behind the other
-    pair.refuses(15, |pair| pair.append(&path, &[3; 29]));
-    for (value, at) in [(4, 100), (5, 126)] {
-        assert_eq!(pair.append(&path, &[value; 2]), 0);
-        assert_eq!(pair.area(3)[at..at + 2], [value; 2]);
-    }
+    // 52 bytes are free: room for two records of 26, and for no second one of 27
+    assert_eq!(pair.append(&path, &[4; 2]), 0);
+    pair.refuses(15, |pair| pair.append(&path, &[3; 3]));
+    assert_eq!(pair.append(&path, &[5; 2]), 0);
+    assert_eq!((&pair.area(3)[100..102], &pair.area(3)[126..]), (&[4; 2][..], &[5; 2][..]));
     pair.refuses(15, |pair| pair.append(&path, b"x"));
     pair.refuses(15, |pair| pair.unlink(&path));
     assert_eq!(pair.contents(&path), [&[1; 84][..], &[4; 2], &[5; 2]].concat());
     assert_eq!(pair.report(), Report { number: 0, inodes: 2, live: 2, stretches: 0, skipped: 0 });
 }
 
-/// The customer's volume: blocks of the greatest size that the calls write as one, an append each, until 15. Of the file area of root and name there
-/// is room for one, of each other for two, which fill it; what is left then takes one that is shorter.
-#[test]
-fn full_blocks_in_areas_of_4144_bytes() {
-    for areas in 2..=15 {
-        let mut pair = Pair::formatted(&vec![4144; areas]);
-        assert_eq!(pair.create(b"/a").number, 0);
-        let one = |size: &usize| {
-            let mut tried = pair.clone();
-            tried.append(b"/a", &block(0, *size)) == 0 && tried.blocks(FILE) == 1
-        };
-        let size = (1..=2049).rev().find(one).expect("one byte is one block");
-        let (mut full, mut stored) = (0, Vec::new());
-        while pair.append(b"/a", &block(full, size)) == 0 {
-            stored.extend(block(full, size));
-            full += 1;
-        }
-        assert_eq!((full as usize, size), (2 * areas - 3, 2036));
-        assert_eq!(pair.blocks(FILE), full);
-        pair.refuses(15, |pair| pair.append(b"/a", &block(full, size)));
-        for index in 2..areas {
-            assert_eq!(pair.area(index)[48..48 + size], block(2 * index as u32 - 3, size));
-            assert_eq!(pair.area(index)[72 + size..], block(2 * index as u32 - 2, size));
-        }
-        // behind 24 of the area's header, 20 of the root, 21 of the name and 24 and the data of the block, the header of one more
-        let left = 4144 - 24 - 20 - 21 - 24 - size - 24;
-        pair.refuses(15, |pair| pair.append(b"/a", &block(full, left + 1)));
-        assert_eq!(pair.append(b"/a", &block(full, left)), 0);
-        stored.extend(block(full, left));
-        pair.refuses(15, |pair| pair.append(b"/a", b"x"));
-        assert_eq!(pair.whole(FILE, stored.len()), (stored, full + 1));
-    }
-}
-
-/// The shortest file area's length and the greatest block, where two fill an area behind its header; of an odd length a byte is left.
-const FILLED_BY_TWO: [(u32, usize); 13] = [
+/// The shortest file area's length, and the greatest block.
+const GREATEST: [(u32, usize); 14] = [
     (128, 28),
     (129, 28),
     (130, 29),
-    (131, 29),
     (4095, 2011),
     (4096, 2012),
     (4097, 2012),
     (4144, 2036),
-    (4145, 2036),
     (4165, 2046),
     (4166, 2047),
     (4167, 2047),
     (4168, 2048),
+    (4169, 2048),
+    (4170, 2048),
+    (16384, 2048),
 ];
-
-/// The same where the most that is acceptable is less than half an area.
-const LESS_THAN_HALF: [(u32, usize); 4] = [(4169, 2048), (4170, 2048), (8192, 2048), (16384, 2048)];
-
-/// By one append, into an area that has its header alone.
-#[test]
-fn two_greatest_blocks_fill_an_area() {
-    for (length, greatest) in FILLED_BY_TWO {
-        let mut pair = Pair::formatted(&[length; 3]);
-        assert_eq!(pair.create(b"/a").number, 0);
-        // the area of root and name is filled first, but for what no record fits into
-        let mut stored = Vec::new();
-        for size in [greatest, (length as usize - 65 - 24 - greatest).saturating_sub(24)] {
-            assert_eq!(pair.append(b"/a", &block(7, size)), 0);
-            stored.extend(block(7, size));
-        }
-        assert_eq!(pair.area(2)[24..], vec![0xff; length as usize - 24]);
-        let before = pair.blocks(FILE);
-        let both = [block(1, greatest), block(2, greatest)].concat();
-        pair.refuses(15, |pair| pair.append(b"/a", &[&both[..], b"x"].concat()));
-        assert_eq!(pair.append(b"/a", &both), 0);
-        assert_eq!(pair.blocks(FILE), before + 2);
-        let second = 48 + greatest + 24;
-        assert_eq!(pair.area(2)[48..48 + greatest], block(1, greatest));
-        assert_eq!(pair.area(2)[second..second + greatest], block(2, greatest));
-        assert_eq!(pair.area(2)[second + greatest..], vec![0xff; length as usize % 2]);
-        pair.refuses(15, |pair| pair.append(b"/a", b"x"));
-        stored.extend(both);
-        assert_eq!(pair.whole(FILE, stored.len()), (stored, before + 2));
-    }
-}
 
 /// Appends of one and two greatest blocks, and of a byte less and more. The shortest file area may stand anywhere in the list, be damaged, and
 /// hold none of the blocks.
 #[test]
 fn appends_around_the_greatest_block() {
-    for (length, greatest) in FILLED_BY_TWO.into_iter().chain(LESS_THAN_HALF) {
+    for (length, greatest) in GREATEST {
         for (shortest, damaged) in [(1, false), (2, false), (2, true), (3, false), (3, true)] {
             let mut lengths = [16384; 4];
             lengths[shortest] = length;
@@ -412,9 +346,9 @@ fn appends_around_the_greatest_block() {
     }
 }
 
-/// Volumes as version 0.2.0 left them: formatted, a file created, one append of two of its greatest blocks, 24 less than half of the area's
-/// length and at most 2,048. The sums are of the images that it wrote. They read, take blocks of the size in force and are collected; the long blocks
-/// stay as they are.
+/// Volumes as version 0.2.0 left them: formatted, a file created, one append of two of its greatest blocks. Those had half of the area's length,
+/// rounded down, and of that 24 less, at most 2,048. The sums (31 times the sum so far, and the next byte) are of the images that it wrote. They
+/// read, take blocks of the size in force and are collected; the long blocks stay as they are.
 #[test]
 fn volumes_of_version_0_2_0() {
     for (length, greatest, now, sum) in [(128, 40, 28, 0xa9cf_2b91), (4096, 2024, 2012, 0x9c41_48a6), (4144, 2048, 2036, 0x4c1b_f4b2)] {

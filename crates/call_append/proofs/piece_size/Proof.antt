@@ -6,7 +6,7 @@ use Rattle.table_rows.specs.Parts.{lent}
 use Rattle.area_pass.specs.Rows.{spansAt}
 use Rattle.mount_state.specs.State.{spansIn}
 use Rattle.write_sizes.specs.Cut.{shortestOf}
-use Rattle.call_append.specs.Written.{sizeFor, shortest-bound, size-bounds}
+use Rattle.call_append.specs.Written.{sizeFor, shortest-bound, size-law}
 use Rattle.call_append.proofs.piece_size.Statement.{statement}
 use Rattle.call_append.proofs.piece_size.Tie as tie
 
@@ -24,7 +24,7 @@ greatest-block-requires : tie.Need-greatest-block-requires
 greatest-block-requires c κs = rw (shortest-is c) (shortest-bound (start c .pre))
 
 returns : tie.Need-returns
-returns c = (size-is c, rw (size-is c) (size-bounds (start (c .before) .pre)))
+returns c = let g = size-law (start (c .before) .pre) in (size-is c, rw (size-is c) (g .some-bytes, g .at-most))
 
 pub piece-size-spec : {M : Type 1} → statement M
 piece-size-spec =

@@ -69,7 +69,7 @@ fn all_damaged() -> Flash {
     flash
 }
 
-/// An empty file in two file areas of 16,384 bytes, and one of this length.
+/// An empty file; two file areas of 16,384 bytes and one of this length.
 fn with_an_area_of(length: usize) -> Flash {
     let mut flash = Flash::of(&[16384, 16384, 16384, length]);
     assert!(flash.root(1) && flash.inode(1, FILE, 0, 0, &first_file()[1..]));
