@@ -84,21 +84,21 @@ shortest-least (d ∷ e ∷ fs) n h =
 
 -- the law of the greatest block, in these file areas
 module _ (image : Bytes) (ds : List Descriptor) (p : Passes image ds) where
-  block-size : TwoGreatest (shortestLength (fileAreas image ds))
+  size-law : TwoGreatest (shortestLength (fileAreas image ds))
   unfolding wrongAreas
-  block-size =
+  size-law =
       let n = or-is-false _ _ (p .areas) .0 in
       two-greatest (shortestLength (fileAreas image ds)) (shortest-least (fileAreas image ds) (eqb-false _ 0 n)
       (λ d m. area-lengths image ds (p .described) d (file-listed image ds d m) .0))
 
   pub pieces-joined : (text : Bytes) → joinedBytes (piecesOf (fileAreas image ds) text) ≡ text
   unfolding piecesOf
-  pieces-joined text = cut-joined (greatestBlock (shortestLength (fileAreas image ds))) (block-size .some-bytes) (length text) text (omega arith)
+  pieces-joined text = cut-joined (greatestBlock (shortestLength (fileAreas image ds))) (size-law .some-bytes) (length text) text (omega arith)
 
   pub pieces-sized : (text : Bytes) → Sized (greatestBlock (shortestLength (fileAreas image ds))) (piecesOf (fileAreas image ds) text)
   unfolding piecesOf
-  pieces-sized text = cut-sized (greatestBlock (shortestLength (fileAreas image ds))) (block-size .some-bytes) (length text) text
+  pieces-sized text = cut-sized (greatestBlock (shortestLength (fileAreas image ds))) (size-law .some-bytes) (length text) text
 
   pub pieces-good : (text : Bytes) → Octets text → (q : Bytes) → List·Memᴰ q (piecesOf (fileAreas image ds) text) → GoodPiece q
   unfolding piecesOf
-  pieces-good text = cut-pieces (greatestBlock (shortestLength (fileAreas image ds))) (block-size .some-bytes) (block-size .at-most) (length text) text
+  pieces-good text = cut-pieces (greatestBlock (shortestLength (fileAreas image ds))) (size-law .some-bytes) (size-law .at-most) (length text) text

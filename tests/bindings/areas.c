@@ -1,0 +1,72 @@
+/* What docs/LINKING.md, 10, says besides its table: what appends use up, how long an area must be for two blocks, and areas of several lengths. */
+#include "nffs.h"
+
+#include <stdio.h>
+
+enum { MOST = 65536, COUNT_AT = 21 };
+static uint8_t image[MOST];
+static uint8_t data[NFFS_APPEND_MOST];
+static nffs_area areas[NFFS_MOST_AREAS];
+static unsigned passed, failed;
+
+static void check(const char *words, int good) {
+    printf("%s: %s\n", good ? "ok" : "FAILED", words);
+    good ? passed++ : failed++;
+}
+
+/* what a case stands on; told only where it does not hold */
+static void needs(const char *words, int good) {
+    if (!good) {
+        check(words, 0);
+    }
+}
+
+/* a formatted volume of areas of these lengths, one behind the other */
+static nffs_volume formatted(const uint32_t *lengths, size_t count) {
+    uint32_t at = 0;
+    for (size_t i = 0; i < count; i++) {
+        areas[i] = (nffs_area){at, lengths[i]};
+        at += lengths[i];
+    }
+    const nffs_volume flash = {image, at, areas, count};
+    needs("a volume is formatted", nffs_volume_format(&flash) == NFFS_OK);
+    return flash;
+}
+
+/* whether a new file "/a" takes just so many appends of a size in areas of one length, and what the next is refused with */
+static int takes(uint32_t length, size_t count, size_t size, uint32_t expected, uint32_t refused) {
+    uint32_t lengths[NFFS_MOST_AREAS], taken = 0, number;
+    for (size_t i = 0; i < count; i++) {
+        lengths[i] = length;
+    }
+    const nffs_volume flash = formatted(lengths, count);
+    needs("a file is created", nffs_volume_create(&flash, NULL, "/a", NFFS_FILE).number == NFFS_OK);
+    while ((number = nffs_volume_append(&flash, NULL, "/a", data, size)) == NFFS_OK) {
+        taken++;
+    }
+    return taken == expected && number == refused;
+}
+
+int main(void) {
+    check("appends of 30 bytes use up the ids", takes(4096, 16, 30, 1024, NFFS_TOO_MANY_IDS));
+    check("appends of 40 bytes use up the room", takes(4096, 16, 40, 944, NFFS_NO_ROOM));
+    check("the second full block in a pair of areas of 4,144", takes(4144, 2, 2036, 1, NFFS_NO_ROOM));
+    check("two blocks of 2,048 and a name of one byte in 4,209", takes(4209, 2, 2048, 2, NFFS_NO_ROOM));
+    check("not in 4,208", takes(4208, 2, 2048, 1, NFFS_NO_ROOM));
+    check("an append that version 0.2.0 stored as one block", takes(128, 2, 39, 0, NFFS_NO_ROOM));
+
+    const nffs_volume one_long = formatted((const uint32_t[]){4096, 16384, 4096}, 3);
+    check("one longer than all others: nothing to collect", nffs_volume_collect(&one_long) == NFFS_NO_SOURCE);
+
+    const nffs_volume one_short = formatted((const uint32_t[]){8192, 8192, 4096, 8192}, 4);
+    int good = 1;
+    for (int i = 0; i < 12; i++) {
+        good &= nffs_volume_collect(&one_short) == NFFS_OK;
+    }
+    for (size_t i = 0; i < 4; i++) {
+        good &= image[areas[i].offset + COUNT_AT] == (i == 2 ? 0 : 4);
+    }
+    check("a shorter one is never collected", good);
+    printf("%u passed, %u failed\n", passed, failed);
+    return failed != 0;
+}
