@@ -1,0 +1,15 @@
+-- `byte_crc16::four` meets its contract.
+use borrow.Author.Needs.{needs}
+use Rattle.crc_laws.specs.Bytes.{four-bytes}
+use Rattle.byte_crc16.proofs.four.Statement.{statement}
+use Rattle.byte_crc16.proofs.four.Tie as tie
+
+returns : tie.Need-returns
+returns c =
+    let a = c .before .before .before .before .before .before .args in
+    cc (four-bytes (a .r) (a .b) (a .c) (a .d) (a .e) (search needs) (search needs) (search needs) (search needs) (search needs))
+
+pub four-spec : {M : Type 1} → statement M
+four-spec =
+    tie.close
+    (tie.spec (λ c κs. search needs) (λ c κs. search needs) (λ c κs. search needs) (λ c κs. search needs) returns)

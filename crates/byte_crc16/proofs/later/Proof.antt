@@ -1,0 +1,23 @@
+-- `byte_crc16::later` meets its contract.
+use mathlib.Core.Path.{sym}
+use borrow.Author.Needs.{needs}
+use Rattle.crc_laws.specs.Table.{TableOf, four-later}
+use Rattle.byte_crc16.proofs.later.Statement.{statement}
+use Rattle.byte_crc16.proofs.later.Tie as tie
+
+returns : tie.Need-returns
+returns c =
+    let e = c .before .before in
+    four-later (e .args .high .now) (e .args .low .now) (e .pre .0) (e .pre .1) (e .args .x) (search needs)
+
+pub later-spec : {M : Type 1} → statement M
+later-spec =
+    tie.close
+    (tie.spec
+    (λ c. search needs)
+    (λ c. search needs)
+    (λ c. search needs)
+    (λ c. search needs)
+    (λ c. search needs)
+    (λ c. search needs)
+    returns)

@@ -1,0 +1,11 @@
+-- `byte_crc16::one` meets its contract.
+use borrow.Author.Needs.{needs}
+use Rattle.crc_laws.specs.Bytes.{one-byte}
+use Rattle.byte_crc16.proofs.one.Statement.{statement}
+use Rattle.byte_crc16.proofs.one.Tie as tie
+
+returns : tie.Need-returns
+returns c = cc (one-byte (c .before .args .r) (c .before .args .b) (search needs) (search needs))
+
+pub one-spec : {M : Type 1} → statement M
+one-spec = tie.close (tie.spec (λ c κs. search needs) (λ c. search needs) returns)

@@ -1,0 +1,13 @@
+-- `byte_crc16::two` meets its contract.
+use borrow.Author.Needs.{needs}
+use Rattle.crc_laws.specs.Bytes.{two-bytes}
+use Rattle.byte_crc16.proofs.two.Statement.{statement}
+use Rattle.byte_crc16.proofs.two.Tie as tie
+
+returns : tie.Need-returns
+returns c =
+    let a = c .before .before .args in
+    cc (two-bytes (a .r) (a .b) (a .c) (search needs) (search needs) (search needs))
+
+pub two-spec : {M : Type 1} → statement M
+two-spec = tie.close (tie.spec (λ c κs. search needs) (λ c κs. search needs) returns)
