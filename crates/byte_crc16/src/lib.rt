@@ -2,66 +2,19 @@
 mod tables;
 
 ghost use mathlib.Core.Path.{_≡_};
-ghost use Prim.Native.Nat.{_+_, _*_};
-ghost use Rattle.format.specs.Crc.{crcByte, crcOver, check};
-ghost use Rattle.crc_laws.specs.Linear.{crcBits};
+ghost use Rattle.format.specs.Crc.{crcOver, check};
 ghost use Rattle.crc_laws.specs.Table.{TableOf, highLater, lowLater};
+use crc16_register::four;
+use crc16_register::one;
+use crc16_register::two;
 use tables::HIGH;
 use tables::LOW;
 
 // From so many bytes on the tables pay: compiled code makes them anew, on the stack, for each slice.
-const LONG: usize = 64;
-
-// Two bytes as the check takes them, the first at the top.
-fn pair(b: u8, c: u8) -> u16
-    ensures { λ q. ⌜ q ≡ b * 256 + c ⌝ }
-{
-    (b as u16) * 256 + (c as u16)
-}
-
-// The register `x` two bytes later.
-fn word(x: u16) -> u16
-    ensures { λ q. ⌜ q ≡ crcBits 16 x ⌝ }
-{
-    let sum = x ^ (x / 256);
-    let quotient = sum ^ (sum / 16) ^ (x / 2048);
-    quotient ^ ((quotient % 2048) * 32) ^ ((quotient % 16) * 4096)
-}
-
-// The register `x` four bytes later.
-fn later(high: &[u16], low: &[u16], x: u16) -> u16
-    requires high { ⌜ TableOf highLater (now high) ⌝ }
-    requires low { ⌜ TableOf lowLater (now low) ⌝ }
-    ensures { λ q. ⌜ q ≡ crcBits 32 x ⌝ }
-{
-    high[(x / 256) as usize] ^ low[(x % 256) as usize]
-}
-
-// The register after one byte.
-fn one(r: u16, b: u8) -> u16
-    ensures { λ q. ⌜ q ≡ crcByte r b ⌝ }
-{
-    word((r / 256) ^ (b as u16)) ^ ((r % 256) * 256)
-}
-
-// The register after two bytes.
-fn two(r: u16, b: u8, c: u8) -> u16
-    ensures { λ q. ⌜ q ≡ crcByte (crcByte r b) c ⌝ }
-{
-    word(r ^ pair(b, c))
-}
-
-// The register after four bytes.
-fn four(high: &[u16], low: &[u16], r: u16, b: u8, c: u8, d: u8, e: u8) -> u16
-    requires high { ⌜ TableOf highLater (now high) ⌝ }
-    requires low { ⌜ TableOf lowLater (now low) ⌝ }
-    ensures { λ q. ⌜ q ≡ crcByte (crcByte (crcByte (crcByte r b) c) d) e ⌝ }
-{
-    later(high, low, r ^ pair(b, c)) ^ word(pair(d, e))
-}
+const LONG: usize = 32;
 
 // The register after the bytes of `s`, two a turn.
-fn by_words(start: u16, s: &[u8]) -> u16
+fn two_a_turn(start: u16, s: &[u8]) -> u16
     ensures { λ q. ⌜ q ≡ crcOver start (now (s .entry)) ⌝ }
 {
     let mut r = start;
@@ -77,7 +30,7 @@ fn by_words(start: u16, s: &[u8]) -> u16
 }
 
 // The register after the bytes of `s`, four a turn.
-fn by_tables(high: &[u16], low: &[u16], start: u16, s: &[u8]) -> u16
+fn four_a_turn(high: &[u16], low: &[u16], start: u16, s: &[u8]) -> u16
     requires high { ⌜ TableOf highLater (now high) ⌝ }
     requires low { ⌜ TableOf lowLater (now low) ⌝ }
     ensures { λ q. ⌜ q ≡ crcOver start (now (s .entry)) ⌝ }
@@ -88,7 +41,14 @@ fn by_tables(high: &[u16], low: &[u16], start: u16, s: &[u8]) -> u16
         r = four(high, low, r, s[i], s[i + 1], s[i + 2], s[i + 3]);
         i += 4;
     }
-    by_words(r, &s[i..])
+    two_a_turn(r, &s[i..])
+}
+
+// The register after the bytes of `s`, by the tables. A function of its own, since a function makes its constants when it starts.
+fn by_tables(start: u16, s: &[u8]) -> u16
+    ensures { λ q. ⌜ q ≡ crcOver start (now (s .entry)) ⌝ }
+{
+    four_a_turn(&HIGH, &LOW, start, s)
 }
 
 // The register after the bytes of `s`.
@@ -96,9 +56,9 @@ fn over(start: u16, s: &[u8]) -> u16
     ensures { λ q. ⌜ q ≡ crcOver start (now (s .entry)) ⌝ }
 {
     if s.len() < LONG {
-        return by_words(start, s);
+        return two_a_turn(start, s);
     }
-    by_tables(&HIGH, &LOW, start, s)
+    by_tables(start, s)
 }
 
 // The check over the header bytes before the check field, and then the body.

@@ -1,59 +1,14 @@
--- `byte_crc16::by_tables` meets its contract.
-use Prim.Native.Nat.{ℕ, _≤_, _<_, _-_, _+_}
-use mathlib.Core.Path.{_≡_, refl, sym, ap, _∙_}
-use native.Mathlib.Omega.{arith}
+-- `byte_crc16::by_tables` meets its contract: each table passes the test of its rule.
 use borrow.Author.Needs.{needs}
-use lib.ListN.{length, drop}
-use Rattle.format.specs.Crc.{crcOver}
-use Rattle.format_laws.specs.Bytes.{rest-part}
-use Rattle.crc_laws.specs.Bytes.{four-steps}
+use Rattle.format.specs.Crc.{crcBit}
+use Rattle.crc_laws.specs.Linear.{crcBits}
+use Rattle.crc_laws.specs.Table.{byRule, highLater, lowLater, table-of}
 use Rattle.byte_crc16.proofs.by_tables.Statement.{statement}
 use Rattle.byte_crc16.proofs.by_tables.Tie as tie
 
-abbrev Inv-loop : tie.InvT-loop
-Inv-loop high low start s r₀ i₀ r i = (i ≤ length s) × (crcOver r (drop i s) ≡ crcOver start s)
-
-abbrev μ-loop : tie.MeasureT-loop
-μ-loop high low start s r₀ i₀ r i = length s - i
-
-loop-holds : tie.Need-loop-holds Inv-loop μ-loop
-loop-holds c = (omega arith, refl)
-
-loop-again : tie.Need-loop-again Inv-loop μ-loop
-loop-again c =
-    let l = c .before .before .before .before .before .before in
-    let s = l .before .before .before .before .args .s .now in
-    let more : l .loop .i + 3 < length s = c .before .before .before .before .before .loop-test .taken in
-    let rest = drop (l .loop .i + 4) s in
-    (omega arith, ap (λ (q : ℕ). crcOver q rest) (c .four .ensures) ∙ sym (four-steps (l .loop .r) s (l .loop .i) more) ∙ l .loop .inv .1)
-
-returns : tie.Need-returns Inv-loop μ-loop
-returns c =
-    let l = c .before .before .before in
-    let s = l .before .before .before .before .args .s .now in
-    c .by-words .ensures ∙ ap (crcOver (l .loop .r)) (rest-part s (l .loop .i)) ∙ l .loop .inv .1
+four-a-turn-requires : tie.Need-four-a-turn-requires
+unfolding byRule highLater lowLater crcBits crcBit
+four-a-turn-requires c κs = (search (table-of highLater), search (table-of lowLater))
 
 pub by-tables-spec : {M : Type 1} → statement M
-by-tables-spec =
-    tie.close
-    (tie.spec
-    Inv-loop
-    μ-loop
-    loop-holds
-    (λ c. search needs)
-    (λ c. search needs)
-    (λ c. search needs)
-    (λ c. search needs)
-    (λ c. search needs)
-    (λ c. search needs)
-    (λ c. search needs)
-    (λ c. search needs)
-    (λ c κs. search needs)
-    (λ c. search needs)
-    (λ c. search needs)
-    loop-again
-    (λ c. search needs)
-    (λ c. search needs)
-    (λ c. search needs)
-    (λ c κs. search needs)
-    returns)
+by-tables-spec = tie.close (tie.spec (λ c. search needs) (λ c. search needs) four-a-turn-requires (λ c. search needs))

@@ -1,9 +1,9 @@
--- `byte_crc16::word` meets its contract.
+-- `crc16_register::word` meets its contract.
 use mathlib.Core.Path.{sym}
 use borrow.Author.Needs.{needs}
 use Rattle.crc_laws.specs.Word.{word, two-later}
-use Rattle.byte_crc16.proofs.word.Statement.{statement}
-use Rattle.byte_crc16.proofs.word.Tie as tie
+use Rattle.crc16_register.proofs.word.Statement.{statement}
+use Rattle.crc16_register.proofs.word.Tie as tie
 
 returns : tie.Need-returns
 unfolding word

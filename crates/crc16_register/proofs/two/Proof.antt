@@ -1,8 +1,8 @@
--- `byte_crc16::two` meets its contract.
+-- `crc16_register::two` meets its contract.
 use borrow.Author.Needs.{needs}
 use Rattle.crc_laws.specs.Bytes.{two-bytes}
-use Rattle.byte_crc16.proofs.two.Statement.{statement}
-use Rattle.byte_crc16.proofs.two.Tie as tie
+use Rattle.crc16_register.proofs.two.Statement.{statement}
+use Rattle.crc16_register.proofs.two.Tie as tie
 
 returns : tie.Need-returns
 returns c =

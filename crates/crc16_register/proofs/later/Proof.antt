@@ -1,9 +1,9 @@
--- `byte_crc16::later` meets its contract.
+-- `crc16_register::later` meets its contract.
 use mathlib.Core.Path.{sym}
 use borrow.Author.Needs.{needs}
 use Rattle.crc_laws.specs.Table.{TableOf, four-later}
-use Rattle.byte_crc16.proofs.later.Statement.{statement}
-use Rattle.byte_crc16.proofs.later.Tie as tie
+use Rattle.crc16_register.proofs.later.Statement.{statement}
+use Rattle.crc16_register.proofs.later.Tie as tie
 
 returns : tie.Need-returns
 returns c =

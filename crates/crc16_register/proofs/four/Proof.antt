@@ -1,8 +1,8 @@
--- `byte_crc16::four` meets its contract.
+-- `crc16_register::four` meets its contract.
 use borrow.Author.Needs.{needs}
 use Rattle.crc_laws.specs.Bytes.{four-bytes}
-use Rattle.byte_crc16.proofs.four.Statement.{statement}
-use Rattle.byte_crc16.proofs.four.Tie as tie
+use Rattle.crc16_register.proofs.four.Statement.{statement}
+use Rattle.crc16_register.proofs.four.Tie as tie
 
 returns : tie.Need-returns
 returns c =

@@ -1,8 +1,8 @@
--- `byte_crc16::one` meets its contract.
+-- `crc16_register::one` meets its contract.
 use borrow.Author.Needs.{needs}
 use Rattle.crc_laws.specs.Bytes.{one-byte}
-use Rattle.byte_crc16.proofs.one.Statement.{statement}
-use Rattle.byte_crc16.proofs.one.Tie as tie
+use Rattle.crc16_register.proofs.one.Statement.{statement}
+use Rattle.crc16_register.proofs.one.Tie as tie
 
 returns : tie.Need-returns
 returns c = cc (one-byte (c .before .args .r) (c .before .args .b) (search needs) (search needs))
