@@ -2,7 +2,7 @@
 ghost use mathlib.Core.Path.{_≡_};
 ghost use Prim.Native.Nat.{_+_, _*_};
 ghost use Rattle.format.specs.Crc.{crcByte};
-ghost use Rattle.crc_laws.specs.Linear.{crcBits};
+ghost use Rattle.crc_laws.specs.Register.{crcBits};
 ghost use Rattle.crc_laws.specs.Table.{TableOf, highLater, lowLater};
 
 // Two bytes as the check takes them, the first at the top.
@@ -12,7 +12,7 @@ fn pair(b: u8, c: u8) -> u16
     (b as u16) * 256 + (c as u16)
 }
 
-// The register `x` two bytes later.
+// The register `x` two bytes later, without a table: its 16 bits divided by the polynomial, and what is left of them.
 fn word(x: u16) -> u16
     ensures { λ q. ⌜ q ≡ crcBits 16 x ⌝ }
 {
@@ -21,7 +21,7 @@ fn word(x: u16) -> u16
     quotient ^ ((quotient % 2048) * 32) ^ ((quotient % 16) * 4096)
 }
 
-// The register `x` four bytes later.
+// The register `x` four bytes later, by the tables of its high byte and of its low one.
 fn later(high: &[u16], low: &[u16], x: u16) -> u16
     requires high { ⌜ TableOf highLater (now high) ⌝ }
     requires low { ⌜ TableOf lowLater (now low) ⌝ }

@@ -9,7 +9,7 @@ use Rattle.format.specs.Bytes.{Bytes, byteAt}
 use Rattle.format.specs.Crc.{crcBit, crcByte, crcOver}
 use Rattle.format_laws.specs.Crc.{crc-step}
 use Rattle.crc_laws.specs.Xor.{xor-assoc, xor-shift}
-use Rattle.crc_laws.specs.Linear.{bit-low, crcBits, bits-lt, bits-linear, byte-linear}
+use Rattle.crc_laws.specs.Register.{bit-low, crcBits, bits-lt, bits-linear, byte-linear}
 
 -- m bits and then n
 bits-more : (m n r : ℕ) → crcBits n (crcBits m r) ≡ crcBits (m + n) r
@@ -23,7 +23,7 @@ unfolding crcByte crcBits
 byte-bits r b = refl
 
 -- a byte at the bottom moves to the top within eight bits
-pub bits-low : (l : ℕ) → l < 256 → crcBits 8 l ≡ l * 256
+bits-low : (l : ℕ) → l < 256 → crcBits 8 l ≡ l * 256
 unfolding crcBits
 bits-low l h =
     rw (
@@ -39,7 +39,7 @@ bits-low l h =
     (omega arith)
 
 -- a register is its high byte and its low one
-pub halves : (r : ℕ) → bitXor (r / 256 * 256) (r % 256) ≡ r
+halves : (r : ℕ) → bitXor (r / 256 * 256) (r % 256) ≡ r
 halves r = xor-shifted (r / 256) 8 (r % 256) (omega arith) ∙ omega arith
 
 -- one byte: the high byte of the register is added to it, the low one moves up

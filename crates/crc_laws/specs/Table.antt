@@ -10,7 +10,7 @@ use lib.Dec.{eqb}
 use lib.ListN.{length, getD}
 use borrow.Author.Tests.{eqb-true}
 use Rattle.format_laws.specs.Record.{and-left, and-right}
-use Rattle.crc_laws.specs.Linear.{crcBits}
+use Rattle.crc_laws.specs.Register.{crcBits}
 use Rattle.crc_laws.specs.Bytes.{by-halves}
 
 -- whether all entries of a table are by a rule, from the place i on

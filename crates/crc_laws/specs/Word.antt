@@ -11,7 +11,7 @@ use borrow.Author.Tests.{eqb-true, ltb-true, ltb-false}
 use Rattle.format.specs.Crc.{crcBit}
 use Rattle.format_laws.specs.Record.{and-left, and-right}
 use Rattle.crc_laws.specs.Xor.{Linear, added, then, same, down, up}
-use Rattle.crc_laws.specs.Linear.{crcBits, bits-linear}
+use Rattle.crc_laws.specs.Register.{crcBits, bits-linear}
 
 -- whether two functions agree at the n lowest powers of two
 unfoldable agree : (ℕ → ℕ) → (ℕ → ℕ) → ℕ → Bool

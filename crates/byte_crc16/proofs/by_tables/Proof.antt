@@ -1,7 +1,7 @@
 -- `byte_crc16::by_tables` meets its contract: each table passes the test of its rule.
 use borrow.Author.Needs.{needs}
 use Rattle.format.specs.Crc.{crcBit}
-use Rattle.crc_laws.specs.Linear.{crcBits}
+use Rattle.crc_laws.specs.Register.{crcBits}
 use Rattle.crc_laws.specs.Table.{byRule, highLater, lowLater, table-of}
 use Rattle.byte_crc16.proofs.by_tables.Statement.{statement}
 use Rattle.byte_crc16.proofs.by_tables.Tie as tie

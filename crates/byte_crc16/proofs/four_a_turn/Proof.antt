@@ -1,5 +1,5 @@
 -- `byte_crc16::four_a_turn` meets its contract.
-use Prim.Native.Nat.{ℕ, _≤_, _<_, _-_, _+_}
+use Prim.Native.Nat.{_≤_, _<_, _-_, _+_}
 use mathlib.Core.Path.{_≡_, refl, sym, ap, _∙_}
 use native.Mathlib.Omega.{arith}
 use borrow.Author.Needs.{needs}
@@ -24,8 +24,7 @@ loop-again c =
     let l = c .before .before .before .before .before .before in
     let s = l .before .before .before .before .args .s .now in
     let more : l .loop .i + 3 < length s = c .before .before .before .before .before .loop-test .taken in
-    let rest = drop (l .loop .i + 4) s in
-    (omega arith, ap (λ (q : ℕ). crcOver q rest) (c .four .ensures) ∙ sym (four-steps (l .loop .r) s (l .loop .i) more) ∙ l .loop .inv .1)
+    (omega arith, rw (c .four .ensures) (sym (four-steps (l .loop .r) s (l .loop .i) more) ∙ l .loop .inv .1))
 
 returns : tie.Need-returns Inv-loop μ-loop
 returns c =

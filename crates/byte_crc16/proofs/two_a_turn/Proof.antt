@@ -1,6 +1,6 @@
 -- `byte_crc16::two_a_turn` meets its contract.
-use Prim.Native.Nat.{ℕ, _≤_, _<_, _-_, _+_}
-use mathlib.Core.Path.{_≡_, refl, sym, ap, _∙_}
+use Prim.Native.Nat.{_≤_, _<_, _-_, _+_}
+use mathlib.Core.Path.{_≡_, refl, sym, _∙_}
 use native.Mathlib.Omega.{arith}
 use borrow.Author.Needs.{needs}
 use lib.ListN.{length, drop}
@@ -24,8 +24,7 @@ loop-again c =
     let l = c .before .before .before .before in
     let s = l .before .before .args .s .now in
     let more : l .loop .i + 1 < length s = c .before .before .before .loop-test .taken in
-    let rest = drop (l .loop .i + 2) s in
-    (omega arith, ap (λ (q : ℕ). crcOver q rest) (c .two .ensures) ∙ sym (two-steps (l .loop .r) s (l .loop .i) more) ∙ l .loop .inv .1)
+    (omega arith, rw (c .two .ensures) (sym (two-steps (l .loop .r) s (l .loop .i) more) ∙ l .loop .inv .1))
 
 returns : tie.Need-returns Inv-loop μ-loop
 returns c =
@@ -33,11 +32,8 @@ returns c =
     let s = l .before .before .args .s .now in
     let last : l .loop .i < length s = search needs in
     let none : length s ≤ l .loop .i + 1 = c .before .before .before .loop-test .left in
-    let rest = drop (l .loop .i + 1) s in
-    sym (crc-end (c .one .result) s (l .loop .i + 1) none)
-    ∙ ap (λ (q : ℕ). crcOver q rest) (c .one .ensures)
-    ∙ sym (crc-step (l .loop .r) s (l .loop .i) last)
-    ∙ l .loop .inv .1
+    rw (c .one .ensures)
+    (sym (crc-end _ s (l .loop .i + 1) none) ∙ sym (crc-step (l .loop .r) s (l .loop .i) last) ∙ l .loop .inv .1)
 
 returns-2 : tie.Need-returns-2 Inv-loop μ-loop
 returns-2 c =

@@ -1,7 +1,6 @@
 -- `crc16_register::later` meets its contract.
-use mathlib.Core.Path.{sym}
 use borrow.Author.Needs.{needs}
-use Rattle.crc_laws.specs.Table.{TableOf, four-later}
+use Rattle.crc_laws.specs.Table.{four-later}
 use Rattle.crc16_register.proofs.later.Statement.{statement}
 use Rattle.crc16_register.proofs.later.Tie as tie
 
