@@ -1,6 +1,6 @@
 -- The register after one, two and four bytes, by bits that nothing is added to on the way.
 use Prim.Native.Nat.{ℕ, zero, suc, _+_, _*_, _/_, _%_, _<_}
-use mathlib.Core.Path.{_≡_, refl, sym, ap, ap₂, _∙_}
+use mathlib.Core.Path.{_≡_, sym, ap, ap₂, _∙_}
 use native.Mathlib.Omega.{arith}
 use native.Mathlib.Nat.{zero-add, suc-add, add-assoc}
 use lib.Bits.{bitXor, xor-zero-r, xor-shifted, xor-lt}
@@ -9,18 +9,13 @@ use Rattle.format.specs.Bytes.{Bytes, byteAt}
 use Rattle.format.specs.Crc.{crcBit, crcByte, crcOver}
 use Rattle.format_laws.specs.Crc.{crc-step}
 use Rattle.crc_laws.specs.Xor.{xor-assoc, xor-shift}
-use Rattle.crc_laws.specs.Register.{bit-low, crcBits, bits-lt, bits-linear, byte-linear}
+use Rattle.crc_laws.specs.Register.{bit-low, crcBits, bits-lt, bits-linear, byte-bits, byte-linear}
 
 -- m bits and then n
 bits-more : (m n r : ℕ) → crcBits n (crcBits m r) ≡ crcBits (m + n) r
 unfolding crcBits
 bits-more zero n r = rw (zero-add n)
 bits-more (suc m) n r = rw (suc-add m n) (bits-more m n (crcBit r))
-
--- a byte's step is eight bits
-byte-bits : (r b : ℕ) → crcByte r b ≡ crcBits 8 (bitXor r (b * 256))
-unfolding crcByte crcBits
-byte-bits r b = refl
 
 -- a byte at the bottom moves to the top within eight bits
 bits-low : (l : ℕ) → l < 256 → crcBits 8 l ≡ l * 256

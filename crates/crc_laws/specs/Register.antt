@@ -27,20 +27,20 @@ bit-form r h = go (ltb r 0x8000) refl
         let y : r / 32768 * 0x1021 ≡ 0x1021 = omega arith in
         sym (ap₂ (λ (a b : ℕ). bitXor (a * 2) b) x y)
 
--- the polynomial added for two bits at the top
-added : (x y : ℕ) → x < 2 → y < 2 → bitXor x y * 0x1021 ≡ bitXor (x * 0x1021) (y * 0x1021)
-added zero y a b = refl
-added (suc zero) zero a b = refl
-added (suc zero) (suc zero) a b = refl
-added (suc zero) (suc (suc y)) a b = absurd (omega arith)
-added (suc (suc x)) y a b = absurd (omega arith)
+-- the polynomial for two bits at the top
+polynomial-sum : (x y : ℕ) → x < 2 → y < 2 → bitXor x y * 0x1021 ≡ bitXor (x * 0x1021) (y * 0x1021)
+polynomial-sum zero y a b = refl
+polynomial-sum (suc zero) zero a b = refl
+polynomial-sum (suc zero) (suc zero) a b = refl
+polynomial-sum (suc zero) (suc (suc y)) a b = absurd (omega arith)
+polynomial-sum (suc (suc x)) y a b = absurd (omega arith)
 
 -- one bit
 pub bit-linear : (r s : ℕ) → r < 65536 → s < 65536 → crcBit (bitXor r s) ≡ bitXor (crcBit r) (crcBit s)
 bit-linear r s g h =
     bit-form (bitXor r s) (xor-lt 16 r s g h)
     ∙ ap₂ (λ (x y : ℕ). bitXor (x * 2) (y * 0x1021)) (xor-mod r s 15) (xor-shr r s 15)
-    ∙ ap₂ bitXor (sym (xor-shift 1 (r % 32768) (s % 32768))) (added (r / 32768) (s / 32768) (omega arith) (omega arith))
+    ∙ ap₂ bitXor (sym (xor-shift 1 (r % 32768) (s % 32768))) (polynomial-sum (r / 32768) (s / 32768) (omega arith) (omega arith))
     ∙ xor-middle (r % 32768 * 2) (s % 32768 * 2) (r / 32768 * 0x1021) (s / 32768 * 0x1021)
     ∙ sym (ap₂ bitXor (bit-form r g) (bit-form s h))
 
@@ -49,7 +49,7 @@ pub bit-low : (r : ℕ) → r < 32768 → crcBit r ≡ r * 2
 unfolding crcBit
 bit-low r h = rw (lt-ltb r 0x8000 h)
 
--- the register after n bits
+-- the register n bits later, with nothing added to it: after n bits that are 0
 unfoldable pub crcBits : ℕ → ℕ → ℕ
 crcBits zero r = r
 crcBits (suc n) r = crcBits n (crcBit r)
@@ -64,10 +64,16 @@ unfolding crcBits
 bits-linear zero r s g h = refl
 bits-linear (suc n) r s g h = ap (crcBits n) (bit-linear r s g h) ∙ bits-linear n (crcBit r) (crcBit s) (crc-bit-lt r g) (crc-bit-lt s h)
 
--- a byte: linear in register and byte
+-- a byte is added at the top, and is eight bits
+pub byte-bits : (r b : ℕ) → crcByte r b ≡ crcBits 8 (bitXor r (b * 256))
+unfolding crcByte crcBits
+byte-bits r b = refl
+
+-- the register after a byte: linear in register and byte
 pub byte-linear : (r s b c : ℕ) → r < 65536 → s < 65536 → b < 256 → c < 256
     → crcByte (bitXor r s) (bitXor b c) ≡ bitXor (crcByte r b) (crcByte s c)
-unfolding crcByte crcBits
 byte-linear r s b c g h i j =
-    ap (crcBits 8) (ap (bitXor (bitXor r s)) (sym (xor-shift 8 b c)) ∙ xor-middle r s (b * 256) (c * 256))
+    byte-bits (bitXor r s) (bitXor b c)
+    ∙ ap (crcBits 8) (ap (bitXor (bitXor r s)) (sym (xor-shift 8 b c)) ∙ xor-middle r s (b * 256) (c * 256))
     ∙ bits-linear 8 (bitXor r (b * 256)) (bitXor s (c * 256)) (xor-lt 16 r (b * 256) g (omega arith)) (xor-lt 16 s (c * 256) h (omega arith))
+    ∙ sym (ap₂ bitXor (byte-bits r b) (byte-bits s c))

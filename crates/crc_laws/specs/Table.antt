@@ -34,15 +34,20 @@ pub record TableOf (rule : ℕ → ℕ) (t : List ℕ) : Type 0 where
 pub table-of : (rule : ℕ → ℕ) (t : List ℕ) → length t ≡ 256 → byRule rule 0 t ≡ true → TableOf rule t
 table-of rule t n e = record { size = n; at = λ i h. entries rule t 0 e i (omega arith) ∙ ap rule (zero-add i) }
 
--- what a register's high byte comes to in 32 bits, and its low one
+-- what the high byte of a register comes to 32 bits later, and its low one
 unfoldable pub highLater : ℕ → ℕ
 highLater i = crcBits 32 (i * 256)
 
 unfoldable pub lowLater : ℕ → ℕ
 lowLater i = crcBits 32 i
 
--- and the register, by tables of these
-pub four-later : (high low : List ℕ) → TableOf highLater high → TableOf lowLater low → (x : ℕ) → x < 65536
+-- the two tables of the check
+pub record Tables (high low : List ℕ) : Type 0 where
+  pub of-high : TableOf highLater high
+  pub of-low : TableOf lowLater low
+
+-- the register 32 bits later, by them
+pub four-later : (high low : List ℕ) → Tables high low → (x : ℕ) → x < 65536
     → bitXor (getD high (x / 256) 0) (getD low (x % 256) 0) ≡ crcBits 32 x
 unfolding highLater lowLater
-four-later high low a b x h = ap₂ bitXor (a .at (x / 256) (omega arith)) (b .at (x % 256) (omega arith)) ∙ sym (by-halves 32 x h)
+four-later high low t x h = ap₂ bitXor (t .of-high .at (x / 256) (omega arith)) (t .of-low .at (x % 256) (omega arith)) ∙ sym (by-halves 32 x h)

@@ -4,7 +4,7 @@ use mathlib.Core.Path.{_≡_, refl, sym, ap, ap₂, _∙_}
 use native.Mathlib.Omega.{arith}
 use native.Mathlib.Nat.{add-zero}
 use lib.Arith.{bin-ind}
-use lib.Bits.{bitXor, differ, xor-step, xor-shr, xor-mod, xor-comm, xor-block}
+use lib.Bits.{bitXor, differ, xor-step, xor-shr, xor-comm, xor-block}
 use lib.Pow.{pow-pos}
 
 differ-assoc : (x y z : ℕ) → x < 2 → y < 2 → z < 2 → differ (differ x y) z ≡ differ x (differ y z)
@@ -45,37 +45,16 @@ xor-assoc =
     ∙ sym (ap₂ (λ (x y : ℕ). bitXor (a / 2) x * 2 + differ (a % 2) y) (xor-half b c) (xor-odd b c))
     ∙ sym (xor-step a (bitXor b c)))
 
--- the inner two change places
+-- the inner two of four change places
 pub xor-middle : (a b c d : ℕ) → bitXor (bitXor a b) (bitXor c d) ≡ bitXor (bitXor a c) (bitXor b d)
 xor-middle a b c d =
     xor-assoc a b (bitXor c d)
     ∙ ap (bitXor a) (sym (xor-assoc b c d) ∙ ap (λ (x : ℕ). bitXor x d) (xor-comm b c) ∙ xor-assoc c b d)
     ∙ sym (xor-assoc a c (bitXor b d))
 
--- a shift by k bits goes through it
+-- a shift by k bits goes through bitXor
 pub xor-shift : (k a b : ℕ) → bitXor (a * 2 ^ k) (b * 2 ^ k) ≡ bitXor a b * 2 ^ k
 xor-shift k a b =
     sym (ap₂ bitXor (add-zero (a * 2 ^ k)) (add-zero (b * 2 ^ k)))
     ∙ xor-block k a b 0 0 (pow-pos k) (pow-pos k)
     ∙ add-zero (bitXor a b * 2 ^ k)
-
--- a function that it goes through: "linear"
-pub record Linear (f : ℕ → ℕ) : Type 0 where
-  pub through : (x y : ℕ) → f (bitXor x y) ≡ bitXor (f x) (f y)
-
--- two of them added, and one after the other
-pub added : {f g : ℕ → ℕ} → Linear f → Linear g → Linear (λ x. bitXor (f x) (g x))
-added {f} {g} a b = record { through = λ x y. ap₂ bitXor (a .through x y) (b .through x y) ∙ xor-middle (f x) (f y) (g x) (g y) }
-
-pub then : {f g : ℕ → ℕ} → Linear f → Linear g → Linear (λ x. g (f x))
-then {f} {g} a b = record { through = λ x y. ap g (a .through x y) ∙ b .through (f x) (f y) }
-
--- the number itself, its bits from the k-th on, and its k lowest ones moved up by j
-pub same : Linear (λ x. x)
-same = record { through = λ x y. refl }
-
-pub down : (k : ℕ) → Linear (λ x. x / 2 ^ k)
-down k = record { through = λ x y. xor-shr x y k }
-
-pub up : (k j : ℕ) → Linear (λ x. x % 2 ^ k * 2 ^ j)
-up k j = record { through = λ x y. ap (λ (n : ℕ). n * 2 ^ j) (xor-mod x y k) ∙ sym (xor-shift j (x % 2 ^ k) (y % 2 ^ k)) }

@@ -73,8 +73,8 @@ fn every_length() {
     }
 }
 
-/// Long enough for the tables: 32 bytes and more.
-const LONG: usize = 37;
+/// A body that is long enough for the tables.
+const LONG_BODY: usize = 37;
 
 /// One byte behind every register, and a long body.
 #[test]
@@ -84,8 +84,8 @@ fn every_register() {
         for byte in 0..=u8::MAX {
             compared.same(&front, &[byte]);
         }
-        compared.same(&front, &[0x00; LONG]);
-        compared.same(&front, &[0xff; LONG]);
+        compared.same(&front, &[0x00; LONG_BODY]);
+        compared.same(&front, &[0xff; LONG_BODY]);
     }
 }
 
@@ -108,7 +108,7 @@ fn every_byte_at_each_place() {
         for others in [0x00, 0xff] {
             for place in 0..8 {
                 for byte in 0..=u8::MAX {
-                    let mut body = [others; LONG];
+                    let mut body = [others; LONG_BODY];
                     body[place] = byte;
                     compared.same(&front, &body);
                 }
@@ -117,7 +117,7 @@ fn every_byte_at_each_place() {
     }
 }
 
-/// Seeded bytes, up to 2,072 of them as in the longest record, each part at odd and at even addresses.
+/// Seeded bytes, up to 2,072 of them, the length of the longest record, each part at odd and at even addresses.
 #[test]
 fn seeded() {
     const MOST: usize = 2072;

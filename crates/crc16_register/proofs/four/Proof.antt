@@ -7,7 +7,13 @@ use Rattle.crc16_register.proofs.four.Tie as tie
 returns : tie.Need-returns
 returns c =
     let a = c .before .before .before .before .before .before .args in
-    cc (four-bytes (a .r) (a .b) (a .c) (a .d) (a .e) (search needs) (search needs) (search needs) (search needs) (search needs))
+    rw (
+      c .before .before .later .ensures,
+      c .before .before .before .pair .ensures,
+      c .remainder .ensures,
+      c .before .pair2 .ensures,
+      four-bytes (a .r) (a .b) (a .c) (a .d) (a .e) (search needs) (search needs) (search needs) (search needs) (search needs),
+    )
 
 pub four-spec : {M : Type 1} → statement M
 four-spec =

@@ -7,7 +7,7 @@ use Rattle.crc16_register.proofs.later.Tie as tie
 returns : tie.Need-returns
 returns c =
     let e = c .before .before in
-    four-later (e .args .high .now) (e .args .low .now) (e .pre .0) (e .pre .1) (e .args .x) (search needs)
+    four-later (e .args .high .now) (e .args .low .now) (e .pre) (e .args .x) (search needs)
 
 pub later-spec : {M : Type 1} → statement M
 later-spec =

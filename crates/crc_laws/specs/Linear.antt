@@ -1,24 +1,44 @@
--- The register two bytes later without a table: by shifts.
+-- Linear functions: they go through bitXor, and two of them that agree at the powers of two agree.
 use Prim.Native.Nat.{ℕ, zero, suc, _+_, _-_, _*_, _/_, _%_, _^_, _≤_, _<_}
 use mathlib.Core.Path.{_≡_, refl, sym, ap, ap₂, _∙_}
 use mathlib.Core.Bool.{Bool, true, false, _&&_}
 use native.Mathlib.Omega.{arith}
 use native.Mathlib.Nat.{one-mul, pow-suc}
-use lib.Bits.{bitXor, xor-self, xor-shifted}
+use lib.Bits.{bitXor, xor-self, xor-shifted, xor-shr, xor-mod}
 use lib.Pow.{pow-pos, pow-lt}
 use lib.Dec.{eqb, ltb}
 use borrow.Author.Tests.{eqb-true, ltb-true, ltb-false}
-use Rattle.format.specs.Crc.{crcBit}
 use Rattle.format_laws.specs.Record.{and-left, and-right}
-use Rattle.crc_laws.specs.Xor.{Linear, added, then, same, down, up}
-use Rattle.crc_laws.specs.Register.{crcBits, bits-linear}
+use Rattle.crc_laws.specs.Xor.{xor-middle, xor-shift}
+
+-- a function that goes through bitXor
+pub record Linear (f : ℕ → ℕ) : Type 0 where
+  pub through : (x y : ℕ) → f (bitXor x y) ≡ bitXor (f x) (f y)
+
+-- the sum of two, and one after the other
+pub sum-linear : {f g : ℕ → ℕ} → Linear f → Linear g → Linear (λ x. bitXor (f x) (g x))
+sum-linear {f} {g} a b = record { through = λ x y. ap₂ bitXor (a .through x y) (b .through x y) ∙ xor-middle (f x) (f y) (g x) (g y) }
+
+pub then-linear : {f g : ℕ → ℕ} → Linear f → Linear g → Linear (λ x. g (f x))
+then-linear {f} {g} a b = record { through = λ x y. ap g (a .through x y) ∙ b .through (f x) (f y) }
+
+-- the number itself, its bits from the k-th on, and its k lowest ones moved up by j
+pub same-linear : Linear (λ x. x)
+same-linear = record { through = λ x y. refl }
+
+pub down-linear : (k : ℕ) → Linear (λ x. x / 2 ^ k)
+down-linear k = record { through = λ x y. xor-shr x y k }
+
+pub up-linear : (k j : ℕ) → Linear (λ x. x % 2 ^ k * 2 ^ j)
+up-linear k j =
+    record { through = λ x y. ap (λ (n : ℕ). n * 2 ^ j) (xor-mod x y k) ∙ sym (xor-shift j (x % 2 ^ k) (y % 2 ^ k)) }
 
 -- whether two functions agree at the n lowest powers of two
-unfoldable agree : (ℕ → ℕ) → (ℕ → ℕ) → ℕ → Bool
+unfoldable pub agree : (ℕ → ℕ) → (ℕ → ℕ) → ℕ → Bool
 agree f g zero = true
 agree f g (suc n) = eqb (f (2 ^ n)) (g (2 ^ n)) && agree f g n
 
--- then, where they are linear, they agree at every number of n bits
+-- then two linear ones, the first of them on numbers of k bits, agree at every number of n bits
 module _ (f g : ℕ → ℕ) (k : ℕ) (a : (x y : ℕ) → x < 2 ^ k → y < 2 ^ k → f (bitXor x y) ≡ bitXor (f x) (f y)) (b : Linear g) where
   at-zero : f 0 ≡ g 0
   at-zero = a 0 0 (pow-pos k) (pow-pos k) ∙ xor-self (f 0) ∙ sym (b .through 0 0 ∙ xor-self (g 0))
@@ -30,7 +50,7 @@ module _ (f g : ℕ → ℕ) (k : ℕ) (a : (x y : ℕ) → x < 2 ^ k → y < 2 
       let e : bitXor (2 ^ n) y ≡ 2 ^ n + y = rw (one-mul (2 ^ n)) at (xor-shifted 1 n y l) in
       ap f (sym e) ∙ a (2 ^ n) y m (omega arith) ∙ ap₂ bitXor p q ∙ sym (b .through (2 ^ n) y) ∙ ap g e
 
-  agreed : (n : ℕ) → n ≤ k → agree f g n ≡ true → (x : ℕ) → x < 2 ^ n → f x ≡ g x
+  pub agreed : (n : ℕ) → n ≤ k → agree f g n ≡ true → (x : ℕ) → x < 2 ^ n → f x ≡ g x
   unfolding agree
   agreed zero h e x l =
       let z : x ≡ 0 = omega arith in
@@ -45,21 +65,3 @@ module _ (f g : ℕ → ℕ) (k : ℕ) (a : (x y : ℕ) → x < 2 ^ k → y < 2 
           let v : x - 2 ^ n < 2 ^ n = omega arith in
           let w : 2 ^ n + (x - 2 ^ n) ≡ x = omega arith in
           rw w at (topped n (x - 2 ^ n) h v (eqb-true _ _ (and-left _ _ e)) (below (x - 2 ^ n) v))
-
--- 16 bits divided by the polynomial, and what is left of them
-abbrev quotient : ℕ → ℕ
-quotient x = bitXor (bitXor (bitXor x (x / 256)) (bitXor x (x / 256) / 16)) (x / 2048)
-
-unfoldable pub word : ℕ → ℕ
-word x = bitXor (bitXor (quotient x) (quotient x % 2048 * 32)) (quotient x % 16 * 4096)
-
-word-linear : Linear word
-unfolding word
-word-linear =
-    let sum = added same (down 8) in
-    then (added (added sum (then sum (down 4))) (down 11)) (added (added same (up 11 5)) (up 4 12))
-
--- the register 16 bits later
-pub two-later : (x : ℕ) → x < 65536 → crcBits 16 x ≡ word x
-unfolding agree crcBits crcBit word
-two-later = agreed (crcBits 16) word 16 (bits-linear 16) word-linear 16 (omega arith) refl
