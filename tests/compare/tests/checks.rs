@@ -73,14 +73,19 @@ fn every_length() {
     }
 }
 
-/// One byte behind every register.
+/// Long enough for the tables: 32 bytes and more.
+const LONG: usize = 37;
+
+/// One byte behind every register, and a long body.
 #[test]
-fn every_register_and_every_byte() {
+fn every_register() {
     let mut compared = Compared::default();
     for front in to_registers() {
         for byte in 0..=u8::MAX {
             compared.same(&front, &[byte]);
         }
+        compared.same(&front, &[0x00; LONG]);
+        compared.same(&front, &[0xff; LONG]);
     }
 }
 
@@ -95,7 +100,7 @@ fn every_two_bytes() {
     }
 }
 
-/// Every byte at each of eight places, alone among 00 and among FF, behind some registers: each entry of a step over up to eight bytes.
+/// Every byte at each of the first eight places of a long body, alone among 00 and among FF, behind some registers: each entry of the tables.
 #[test]
 fn every_byte_at_each_place() {
     let mut compared = Compared::default();
@@ -103,7 +108,7 @@ fn every_byte_at_each_place() {
         for others in [0x00, 0xff] {
             for place in 0..8 {
                 for byte in 0..=u8::MAX {
-                    let mut body = [others; 8];
+                    let mut body = [others; LONG];
                     body[place] = byte;
                     compared.same(&front, &body);
                 }
