@@ -44,8 +44,8 @@ const uint8_t *entry; /* set by the stubs */
 
 static uint32_t number;
 
-/* A name of 32 bytes: every mount checks one slice so long, for which the check makes its tables on the stack. */
-#define HOME "/a-name-that-has-thirty-two-bytes"
+/* A name of 24 bytes: every mount checks one slice so long, for which the check makes its tables on the stack. */
+#define HOME "/with-twenty-four-letters"
 
 static void format(void) { number = nffs_volume_format(&flash); }
 static void report(void) { number = nffs_volume_report(&flash).number; }
