@@ -1,4 +1,4 @@
--- Laws of the check that come from its register being linear: several bytes at a time, by tables and without.
+-- Laws of the register of the check: it is linear, so that several bytes can be taken at a time, by tables and without; and it loses nothing.
 pub mod Xor
 pub mod Linear
 pub mod Register

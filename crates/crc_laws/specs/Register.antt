@@ -1,17 +1,17 @@
--- The register of the check is linear: after a bit, after some bits, and after a byte.
+-- The register of the check is linear, after a bit, after some bits and after a byte; and a bit loses nothing of it.
 use Prim.Native.Nat.{ℕ, zero, suc, _-_, _*_, _/_, _%_, _<_}
 use mathlib.Core.Path.{_≡_, refl, sym, ap, ap₂, _∙_}
 use mathlib.Core.Bool.{Bool, true, false, cond}
 use native.Mathlib.Omega.{arith}
 use lib.Dec.{ltb}
-use lib.Bits.{bitXor, xor-mod, xor-shr, xor-zero-r, xor-lt}
+use lib.Bits.{bitXor, xor-mod, xor-shr, xor-self, xor-zero-r, xor-lt}
 use borrow.Author.Tests.{ltb-true, ltb-false, lt-ltb}
 use Rattle.format.specs.Crc.{crcBit, crcByte}
 use Rattle.format_laws.specs.Crc.{crc-bit-lt}
-use Rattle.crc_laws.specs.Xor.{xor-middle, xor-shift}
+use Rattle.crc_laws.specs.Xor.{xor-none, xor-middle, xor-shift}
 
 -- a bit's step without cases: the 15 low bits doubled, and the polynomial for the bit at the top
-bit-form : (r : ℕ) → r < 65536 → crcBit r ≡ bitXor (r % 32768 * 2) (r / 32768 * 0x1021)
+pub bit-form : (r : ℕ) → r < 65536 → crcBit r ≡ bitXor (r % 32768 * 2) (r / 32768 * 0x1021)
 unfolding crcBit
 bit-form r h = go (ltb r 0x8000) refl
   where
@@ -49,6 +49,26 @@ pub bit-low : (r : ℕ) → r < 32768 → crcBit r ≡ r * 2
 unfolding crcBit
 bit-low r h = rw (lt-ltb r 0x8000 h)
 
+-- a register is 0 after a bit only if it was: the polynomial is odd, and a doubled number is not
+bit-none : (r : ℕ) → r < 65536 → crcBit r ≡ 0 → r ≡ 0
+bit-none r h e = go (r / 32768) refl
+  where
+    same : r % 32768 * 2 ≡ r / 32768 * 0x1021
+    same = xor-none _ _ (sym (bit-form r h) ∙ e)
+
+    even : (m : ℕ) → m * 2 % 2 ≡ 0
+    even m = omega arith
+
+    go : (t : ℕ) → r / 32768 ≡ t → r ≡ 0
+    go zero q = omega (arith, same)
+    go (suc zero) q = absurd (omega (arith, same, even (r % 32768)))
+    go (suc (suc t)) q = absurd (omega arith)
+
+-- two registers that are one after a bit were one
+pub bit-injective : (r s : ℕ) → r < 65536 → s < 65536 → crcBit r ≡ crcBit s → r ≡ s
+bit-injective r s g h e =
+    xor-none r s (bit-none (bitXor r s) (xor-lt 16 r s g h) (bit-linear r s g h ∙ ap (λ (x : ℕ). bitXor x (crcBit s)) e ∙ xor-self (crcBit s)))
+
 -- the register n bits later, with nothing added to it: after n bits that are 0
 unfoldable pub crcBits : ℕ → ℕ → ℕ
 crcBits zero r = r
@@ -63,6 +83,12 @@ pub bits-linear : (n r s : ℕ) → r < 65536 → s < 65536 → crcBits n (bitXo
 unfolding crcBits
 bits-linear zero r s g h = refl
 bits-linear (suc n) r s g h = ap (crcBits n) (bit-linear r s g h) ∙ bits-linear n (crcBit r) (crcBit s) (crc-bit-lt r g) (crc-bit-lt s h)
+
+pub bits-injective : (n r s : ℕ) → r < 65536 → s < 65536 → crcBits n r ≡ crcBits n s → r ≡ s
+unfolding crcBits
+bits-injective zero r s g h e = e
+bits-injective (suc n) r s g h e =
+    bit-injective r s g h (bits-injective n (crcBit r) (crcBit s) (crc-bit-lt r g) (crc-bit-lt s h) e)
 
 -- a byte is added at the top, and is eight bits
 pub byte-bits : (r b : ℕ) → crcByte r b ≡ crcBits 8 (bitXor r (b * 256))

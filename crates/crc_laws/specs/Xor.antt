@@ -4,7 +4,7 @@ use mathlib.Core.Path.{_≡_, refl, sym, ap, ap₂, _∙_}
 use native.Mathlib.Omega.{arith}
 use native.Mathlib.Nat.{add-zero}
 use lib.Arith.{bin-ind}
-use lib.Bits.{bitXor, differ, xor-step, xor-shr, xor-comm, xor-block}
+use lib.Bits.{bitXor, differ, xor-step, xor-shr, xor-comm, xor-self, xor-zero-r, xor-block}
 use lib.Pow.{pow-pos}
 
 differ-assoc : (x y z : ℕ) → x < 2 → y < 2 → z < 2 → differ (differ x y) z ≡ differ x (differ y z)
@@ -27,10 +27,10 @@ bit-lt : (x : ℕ) → x % 2 < 2
 bit-lt x = omega arith
 
 -- the digits of a result
-xor-half : (a b : ℕ) → bitXor a b / 2 ≡ bitXor (a / 2) (b / 2)
+pub xor-half : (a b : ℕ) → bitXor a b / 2 ≡ bitXor (a / 2) (b / 2)
 xor-half a b = xor-shr a b 1
 
-xor-odd : (a b : ℕ) → bitXor a b % 2 ≡ differ (a % 2) (b % 2)
+pub xor-odd : (a b : ℕ) → bitXor a b % 2 ≡ differ (a % 2) (b % 2)
 xor-odd a b =
     let d = differ-lt (a % 2) (b % 2) (bit-lt a) (bit-lt b) in
     omega (arith, xor-step a b)
@@ -44,6 +44,16 @@ xor-assoc =
     ∙ ap₂ (λ (x y : ℕ). x * 2 + y) (ih (b / 2) (c / 2)) (differ-assoc (a % 2) (b % 2) (c % 2) (bit-lt a) (bit-lt b) (bit-lt c))
     ∙ sym (ap₂ (λ (x y : ℕ). bitXor (a / 2) x * 2 + differ (a % 2) y) (xor-half b c) (xor-odd b c))
     ∙ sym (xor-step a (bitXor b c)))
+
+-- a number added twice is gone
+pub xor-back : (a b : ℕ) → bitXor (bitXor a b) b ≡ a
+xor-back a b = xor-assoc a b b ∙ ap (bitXor a) (xor-self b) ∙ xor-zero-r a
+
+pub xor-none : (a b : ℕ) → bitXor a b ≡ 0 → a ≡ b
+xor-none a b e = sym (xor-back a b) ∙ ap (λ (x : ℕ). bitXor x b) e
+
+pub xor-cancel : (a b c : ℕ) → bitXor a c ≡ bitXor b c → a ≡ b
+xor-cancel a b c e = sym (xor-back a c) ∙ ap (λ (x : ℕ). bitXor x c) e ∙ xor-back b c
 
 -- the inner two of four change places
 pub xor-middle : (a b c d : ℕ) → bitXor (bitXor a b) (bitXor c d) ≡ bitXor (bitXor a c) (bitXor b d)

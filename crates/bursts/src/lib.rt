@@ -1,0 +1,1 @@
+// Theorems only, in specs/: which damage to a record is surely caught.
