@@ -9,7 +9,7 @@ use lib.ListN.{length, take, drop, List·getD-eq-default}
 use lib.Seq.{length-take-le}
 use borrow.Author.Tests.{eqb-true, leb-true}
 use Rattle.format.specs.Bytes.{Bytes, byteAt, le16, le32}
-use Rattle.format.specs.Crc.{crcOver, check}
+use Rattle.format.specs.Crc.{check}
 use Rattle.format.specs.Ids.{isBlockId, isFileId}
 use Rattle.format.specs.Record.{
   Kind,
@@ -32,9 +32,9 @@ use Rattle.format.specs.Record.{
 use Rattle.format_laws.specs.Bytes.{take-le16}
 use Rattle.format_laws.specs.Crc.{Octets}
 use Rattle.format_laws.specs.Record.{and-right, inode-lawful, block-lawful, kind-inside, kind-formed, kind-magic, formed-rules, size-none}
-use Rattle.bursts.specs.Words.{codeword, IsKind, an-inode, a-block, Damaged}
+use Rattle.bursts.specs.Words.{IsKind, an-inode, a-block, Damaged}
 use Rattle.bursts.specs.Bits.{AllBytes}
-use Rattle.bursts.specs.Codeword.{take-bytes, code-zero}
+use Rattle.bursts.specs.Codeword.{take-bytes, Checked}
 
 -- bytes past the end are 0
 pub octets-all : (l : Bytes) → Octets l → AllBytes l
@@ -44,16 +44,7 @@ octets-all l o i = go (decLt i (length l))
     go (yes h) = o .at i h
     go (no h) = rw (List·getD-eq-default l 0 {n = i} (omega arith)) (omega arith)
 
--- x is a record of n bytes of the kind k, by what the check asks of it
-pub record Checked (k : Kind) (n : ℕ) (x : Bytes) : Type 0 where
-  -- the check field is the last two bytes of the header
-  pub last : k .headerSize ≡ k .checkOffset + 2
-  pub room : k .headerSize ≤ n
-  pub short : n ≤ 2072
-  pub long : length x ≡ n
-  pub bytes : AllBytes x
-  pub zero-check : crcOver 0 (codeword k x) ≡ 0
-
+-- the check field is the last two bytes of the header
 field-last : {k : Kind} → IsKind k → k .headerSize ≡ k .checkOffset + 2
 field-last an-inode = refl
 field-last a-block = refl
@@ -85,7 +76,7 @@ checked k i t o a n e =
       short = rw e at (record-short i t (octets-all t o) a);
       long = length-take-le n t (rw e at (kind-inside k t a));
       bytes = b;
-      zero-check = code-zero k (take n t) b (formed-check k (take n t) (rw e at (kind-formed k t a)));
+      right = formed-check k (take n t) (rw e at (kind-formed k t a));
     }
 
 -- a damaged record, before and, if it were acceptable still, after

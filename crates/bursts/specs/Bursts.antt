@@ -9,10 +9,10 @@ use lib.ListN.{length, take}
 use borrow.Author.Tests.{eqb-true, eqb-false}
 use Rattle.format.specs.Bytes.{Bytes}
 use Rattle.format.specs.Record.{Kind, declaredSize, recordSize}
-use Rattle.bursts.specs.Words.{bitAt, Altered, Burst, Part, covered-header, check-field, body, Wholly, Damaged, codeword}
+use Rattle.bursts.specs.Words.{bitAt, Altered, Burst, Part, covered-header, check-field, body, Wholly, Damaged}
 use Rattle.bursts.specs.Bits.{take-bit, crc-burst}
-use Rattle.bursts.specs.Codeword.{Place, in-header, in-body, in-high, in-low, place-of, placed-at, code-long, code-bytes, place-bit}
-use Rattle.bursts.specs.Accepted.{Checked, before, after}
+use Rattle.bursts.specs.Codeword.{Place, in-header, in-body, in-high, in-low, place-of, placed-at, codeword, Checked, code-long, code-bytes, place-bit, code-zero}
+use Rattle.bursts.specs.Accepted.{before, after}
 use Rattle.bursts.specs.Magics.{lawful, Turned, turned, neither}
 
 -- a bit that is not altered
@@ -21,17 +21,14 @@ unaltered n t s p h f = go (eqb (bitAt s p) (bitAt t p)) refl
   where
     go : (b : Bool) → eqb (bitAt s p) (bitAt t p) ≡ b → bitAt t p ≡ bitAt s p
     go true e = sym (eqb-true _ _ e)
-    go false e = absurd (f (h, eqb-false _ _ e))
+    go false e = absurd (f (omega arith, eqb-false _ _ e))
 
 -- two codewords are no burst apart
-apart : (k : Kind) (n : ℕ) (x y : Bytes) → Checked k n x → Checked k n y → Burst n (codeword k x) (codeword k y) → ⊥
-apart k n x y a b u =
-    let lx = code-long k (a .last) n (a .room) x (a .long) in
-    let ly = code-long k (b .last) n (b .room) y (b .long) in
-    let ox = code-bytes k (a .last) n (a .room) x (a .long) (a .bytes) in
-    let oy = code-bytes k (b .last) n (b .room) y (b .long) (b .bytes) in
-    let same = crc-burst 0 (codeword k x) (codeword k y) (omega arith) ox oy (lx ∙ sym ly) (u .start)
-    (λ p h w. outside p (omega arith) w) (a .zero-check ∙ sym (b .zero-check)) in
+apart : {k : Kind} {n : ℕ} {x y : Bytes} → Checked k n x → Checked k n y → Burst n (codeword k x) (codeword k y) → ⊥
+apart {k} {n} {x} {y} a b u =
+    let long = code-long a in
+    let same = crc-burst 0 (codeword k x) (codeword k y) (omega arith) (code-bytes a) (code-bytes b) (long ∙ sym (code-long b)) (u .start)
+    (λ p h w. outside p (omega arith) w) (code-zero a ∙ sym (code-zero b)) in
     u .one-altered .1 (ap (λ (z : Bytes). bitAt z (u .one)) (sym same))
   where
     outside : (p : ℕ) → p < n * 8 → (p < u .start) ⊎ (u .start + 16 ≤ p) → bitAt (codeword k x) p ≡ bitAt (codeword k y) p
@@ -45,7 +42,7 @@ startIn n start check-field = n * 8 - 16
 startIn n start body = start - 16
 
 -- a burst wholly in one part of a record is one of its codeword
-module _ (k : Kind) (n : ℕ) (t s : Bytes) (a : Checked k n (take n t)) (b : Checked k n (take n s)) where
+module _ {k : Kind} {n : ℕ} (t s : Bytes) (a : Checked k n (take n t)) (b : Checked k n (take n s)) where
   abbrev x : Bytes
   x = codeword k (take n t)
 
@@ -54,10 +51,10 @@ module _ (k : Kind) (n : ℕ) (t s : Bytes) (a : Checked k n (take n t)) (b : Ch
 
   -- its bits, before and after
   bit-before : (p q : ℕ) → p < n * 8 → Place (k .checkOffset) n p q → bitAt x q ≡ bitAt t p
-  bit-before p q h l = place-bit k (a .last) n (a .room) (take n t) (a .long) p q l ∙ take-bit n t p h
+  bit-before p q h l = place-bit a p q l ∙ take-bit n t p h
 
   bit-after : (p q : ℕ) → p < n * 8 → Place (k .checkOffset) n p q → bitAt y q ≡ bitAt s p
-  bit-after p q h l = place-bit k (b .last) n (b .room) (take n s) (b .long) p q l ∙ take-bit n s p h
+  bit-after p q h l = place-bit b p q l ∙ take-bit n s p h
 
   kept-span : (start p q : ℕ) {from to : ℕ} (part : Part k n from to) → Place (k .checkOffset) n p q
       → (start ≤ p) × (p < start + 16) → (from * 8 ≤ p) × (p < to * 8) → (startIn n start part ≤ q) × (q < startIn n start part + 16)
@@ -82,19 +79,18 @@ module _ (k : Kind) (n : ℕ) (t s : Bytes) (a : Checked k n (take n t)) (b : Ch
       let o = place-of (k .checkOffset) n (u .one) r h in
       record {
         one = o .0;
-        one-altered = (o .1, λ e. u .one-altered .1 (sym (bit-after (u .one) (o .0) h (o .2)) ∙ e ∙ bit-before (u .one) (o .0) h (o .2)));
+        one-altered = (omega (arith, o .1), λ e. u .one-altered .1 (sym (bit-after (u .one) (o .0) h (o .2)) ∙ e ∙ bit-before (u .one) (o .0) h (o .2)));
         start = startIn n (u .start) (w .part);
         span = λ q d.
             let l = placed-at (k .checkOffset) n q r (d .0) in
-            let f : Altered n t s (l .0) = (l .1, λ e. d .1 (bit-after (l .0) q (l .1) (l .2) ∙ e ∙ sym (bit-before (l .0) q (l .1) (l .2)))) in
+            let f : Altered n t s (l .0) = (omega (arith, l .1), λ e. d .1 (bit-after (l .0) q (l .1) (l .2) ∙ e ∙ sym (bit-before (l .0) q (l .1) (l .2)))) in
             kept-span (u .start) (l .0) q (w .part) (l .2) (u .span (l .0) f) (w .inside (l .0) f);
       }
 
--- "then it isn't acceptable": no acceptable record of either kind starts there, whatever stands behind it
 pub burst-caught : (k : Kind) (t s : Bytes) → Damaged k t s → Burst (declaredSize k t) t s → Wholly k (declaredSize k t) t s → recordSize s ≡ 0
 burst-caught k t s d u w =
     neither (d .kind) s
-    (λ c. apart k (declaredSize k t) _ _ (before d) (after d c) (moved k (declaredSize k t) t s (before d) (after d c) u w))
+    (λ c. apart (before d) (after d c) (moved t s (before d) (after d c) u w))
     (λ c. far (turned d c))
   where
     -- the magics differ in two bits that no 16 in a row both have

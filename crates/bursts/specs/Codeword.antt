@@ -13,8 +13,13 @@ use Rattle.format.specs.Record.{Kind}
 use Rattle.format_laws.specs.Crc.{crc-append}
 use Rattle.crc_laws.specs.Register.{crcBits}
 use Rattle.crc_laws.specs.Bytes.{two-bytes}
-use Rattle.bursts.specs.Words.{bitAt, codeword}
+use Rattle.bursts.specs.Words.{bitAt}
 use Rattle.bursts.specs.Bits.{AllBytes}
+
+-- a whole record's bytes in the order in which the check takes them, and then the check field, its high byte first
+unfoldable pub codeword : Kind → Bytes → Bytes
+codeword k b =
+    take (k .checkOffset) b ++ (drop (k .headerSize) b ++ (byteAt b (k .checkOffset + 1) ∷ byteAt b (k .checkOffset) ∷ []))
 
 -- ---- bytes of parts
 
@@ -73,8 +78,36 @@ placed-at c n q r h = go (decLt q (c * 8)) (decLt (q + 16) (n * 8)) (decLt (q + 
     go (no a) (no b) (yes d) = (q + (c * 8 + 24) - n * 8, omega arith, in-high (omega arith) (omega arith) (omega arith))
     go (no a) (no b) (no d) = (q + (c * 8 + 8) - n * 8, omega arith, in-low (omega arith) (omega arith) (omega arith))
 
--- a record of n bytes of the kind k, whose check field is the last two bytes of its header
-module _ (k : Kind) (last : k .headerSize ≡ k .checkOffset + 2) (n : ℕ) (room : k .headerSize ≤ n) (x : Bytes) (long : length x ≡ n) where
+-- ---- a register, taken on by its own bytes, is gone
+
+bits-zero : crcBits 16 0 ≡ 0
+unfolding crcBits crcBit
+bits-zero = refl
+
+own-bytes : (high low : ℕ) → high < 256 → low < 256 → crcOver (low + high * 256) (high ∷ low ∷ []) ≡ 0
+unfolding crcOver
+own-bytes high low g h =
+    let e : low + high * 256 ≡ high * 256 + low = omega arith in
+    two-bytes (low + high * 256) high low (omega arith) g h
+    ∙ ap (λ (r : ℕ). crcBits 16 (bitXor r (high * 256 + low))) e
+    ∙ ap (crcBits 16) (xor-self (high * 256 + low))
+    ∙ bits-zero
+
+-- ---- the codeword of a record
+
+-- x is a record of n bytes of the kind k, by what the check asks of it
+pub record Checked (k : Kind) (n : ℕ) (x : Bytes) : Type 0 where
+  -- the check field is the last two bytes of the header
+  pub last : k .headerSize ≡ k .checkOffset + 2
+  pub room : k .headerSize ≤ n
+  pub short : n ≤ 2072
+  pub long : length x ≡ n
+  pub bytes : AllBytes x
+  pub right : le16 x (k .checkOffset) ≡ check (take (k .checkOffset) x) (drop (k .headerSize) x)
+
+module _ {k : Kind} {n : ℕ} {x : Bytes} (w : Checked k n x) where
+  open Checked w using (last, room, long, bytes)
+
   abbrev c : ℕ
   c = k .checkOffset
 
@@ -97,11 +130,11 @@ module _ (k : Kind) (last : k .headerSize ≡ k .checkOffset + 2) (n : ℕ) (roo
       ∙ ap₂ _+_ header-long (length-append (drop h x) field ∙ ap (λ (m : ℕ). m + 2) body-long)
       ∙ omega arith
 
-  pub code-bytes : AllBytes x → AllBytes (codeword k x)
+  pub code-bytes : AllBytes (codeword k x)
   unfolding codeword
-  code-bytes o =
-      append-bytes (take c x) (drop h x ++ field) (take-bytes c x o)
-      (append-bytes (drop h x) field (drop-bytes h x o) (pair-bytes (byteAt x (c + 1)) (byteAt x c) (o (c + 1)) (o c)))
+  code-bytes =
+      append-bytes (take c x) (drop h x ++ field) (take-bytes c x bytes)
+      (append-bytes (drop h x) field (drop-bytes h x bytes) (pair-bytes (byteAt x (c + 1)) (byteAt x c) (bytes (c + 1)) (bytes c)))
 
   -- the bytes of the codeword
   header-byte : (i : ℕ) → i < c → byteAt (codeword k x) i ≡ byteAt x i
@@ -146,27 +179,11 @@ module _ (k : Kind) (last : k .headerSize ≡ k .checkOffset + 2) (n : ℕ) (roo
       let j : c ≡ p / 8 = omega arith in
       same-bit p q (omega arith) (ap (byteAt (codeword k x)) i ∙ field-byte 1 (omega arith) ∙ ap (byteAt x) j)
 
--- ---- the check
-
-bits-zero : crcBits 16 0 ≡ 0
-unfolding crcBits crcBit
-bits-zero = refl
-
--- a register, taken on by itself, is gone
-own-bytes : (high low : ℕ) → high < 256 → low < 256 → crcOver (low + high * 256) (high ∷ low ∷ []) ≡ 0
-unfolding crcOver
-own-bytes high low g h =
-    let e : low + high * 256 ≡ high * 256 + low = omega arith in
-    two-bytes (low + high * 256) high low (omega arith) g h
-    ∙ ap (λ (r : ℕ). crcBits 16 (bitXor r (high * 256 + low))) e
-    ∙ ap (crcBits 16) (xor-self (high * 256 + low))
-    ∙ bits-zero
-
-pub code-zero : (k : Kind) (x : Bytes) → AllBytes x → le16 x (k .checkOffset) ≡ check (take (k .checkOffset) x) (drop (k .headerSize) x)
-    → crcOver 0 (codeword k x) ≡ 0
-unfolding check le16 codeword
-code-zero k x o e =
-    crc-append 0 (take (k .checkOffset) x) (drop (k .headerSize) x ++ (byteAt x (k .checkOffset + 1) ∷ byteAt x (k .checkOffset) ∷ []))
-    ∙ crc-append (crcOver 0 (take (k .checkOffset) x)) (drop (k .headerSize) x) (byteAt x (k .checkOffset + 1) ∷ byteAt x (k .checkOffset) ∷ [])
-    ∙ ap (λ (r : ℕ). crcOver r (byteAt x (k .checkOffset + 1) ∷ byteAt x (k .checkOffset) ∷ [])) (sym e)
-    ∙ own-bytes (byteAt x (k .checkOffset + 1)) (byteAt x (k .checkOffset)) (o (k .checkOffset + 1)) (o (k .checkOffset))
+  -- its check
+  pub code-zero : crcOver 0 (codeword k x) ≡ 0
+  unfolding check le16 codeword
+  code-zero =
+      crc-append 0 (take c x) (drop h x ++ field)
+      ∙ crc-append (crcOver 0 (take c x)) (drop h x) field
+      ∙ ap (λ (r : ℕ). crcOver r field) (sym (w .right))
+      ∙ own-bytes (byteAt x (c + 1)) (byteAt x c) (bytes (c + 1)) (bytes c)

@@ -1,17 +1,17 @@
 -- What T-11 supposes, as tests that compute.
 use Prim.Native.Nat.{ℕ, zero, suc, _+_, _*_, _≤_, _<_}
-use mathlib.Core.Path.{_≡_, refl}
+use mathlib.Core.Path.{_≡_, refl, sym}
 use mathlib.Core.Logic.{⊎-elim}
-use mathlib.Core.Bool.{Bool, true, false, _&&_, _||_}
+use mathlib.Core.Bool.{Bool, true, false, not, _&&_, _||_}
 use native.Mathlib.Omega.{arith}
 use lib.Dec.{ltb, leb, eqb}
 use lib.ListN.{length}
 use borrow.Author.Tests.{leb-true, ltb-true, ltb-false, eqb-true, eqb-false}
 use Rattle.format.specs.Bytes.{Bytes, byteAt}
-use Rattle.format.specs.Record.{Kind, declaredSize, acceptable}
+use Rattle.format.specs.Record.{Kind, acceptable}
 use Rattle.format_laws.specs.Crc.{Octets}
 use Rattle.format_laws.specs.Record.{and-left, and-right, or-cases}
-use Rattle.bursts.specs.Words.{bitAt, Altered, Burst, Part, Wholly, IsKind, Damaged}
+use Rattle.bursts.specs.Words.{bitAt, Altered, Part, IsKind, Damaged, Sure, a-burst}
 
 -- whether a test passes at every number below m
 unfoldable pub below : (ℕ → Bool) → ℕ → Bool
@@ -41,19 +41,6 @@ alters-only n t s from to e p a =
     (or-cases (eqb (bitAt s p) (bitAt t p)) (leb from p && ltb p to)
     (below-at (λ p. eqb (bitAt s p) (bitAt t p) || (leb from p && ltb p to)) (n * 8) e p (a .0)))
 
--- the altered bits are a burst from the place `start` on, and the one at `one` is among them
-pub is-burst : (n : ℕ) (t s : Bytes) (one start : ℕ) → ltb one (n * 8) ≡ true → eqb (bitAt s one) (bitAt t one) ≡ false
-    → altersOnly n t s start (start + 16) ≡ true → Burst n t s
-is-burst n t s one start h d e = record {
-  one = one;
-  one-altered = (ltb-true _ _ h, eqb-false _ _ d);
-  start = start;
-  span = alters-only n t s start (start + 16) e;
-}
-
-pub is-wholly : {k : Kind} (n : ℕ) (t s : Bytes) (from to : ℕ) → Part k n from to → altersOnly n t s (from * 8) (to * 8) ≡ true → Wholly k n t s
-is-wholly n t s from to p e = record { from = from; to = to; part = p; inside = alters-only n t s (from * 8) (to * 8) e }
-
 unfoldable pub areOctets : Bytes → Bool
 areOctets l = below (λ i. ltb (byteAt l i) 256) (length l)
 
@@ -61,6 +48,46 @@ are-octets : (l : Bytes) → areOctets l ≡ true → Octets l
 unfolding areOctets
 are-octets l e = record { at = λ i h. ltb-true _ _ (below-at (λ i. ltb (byteAt l i) 256) (length l) e i h) }
 
-pub is-damaged : {k : Kind} (t s : Bytes) → IsKind k → areOctets t ≡ true → areOctets s ≡ true → acceptable k t ≡ true
-    → k .bodyLength s ≡ k .bodyLength t → Damaged k t s
-is-damaged t s i o u a e = record { kind = i; bytes-before = are-octets t o; bytes-after = are-octets s u; accepted = a; same-length = e }
+unfoldable pub isDamaged : Kind → Bytes → Bytes → Bool
+isDamaged k t s = areOctets t && (areOctets s && (acceptable k t && eqb (k .bodyLength s) (k .bodyLength t)))
+
+pub is-damaged : (k : Kind) (t s : Bytes) → IsKind k → isDamaged k t s ≡ true → Damaged k t s
+unfolding isDamaged
+is-damaged k t s i e =
+    let l = eqb (k .bodyLength s) (k .bodyLength t) in
+    let a = and-right (areOctets t) (areOctets s && (acceptable k t && l)) e in
+    let b = and-right (areOctets s) (acceptable k t && l) a in
+    record {
+      kind = i;
+      bytes-before = are-octets t (and-left (areOctets t) (areOctets s && (acceptable k t && l)) e);
+      bytes-after = are-octets s (and-left (areOctets s) (acceptable k t && l) a);
+      accepted = and-left (acceptable k t) l b;
+      same-length = eqb-true _ _ (and-right (acceptable k t) l b);
+    }
+
+-- whether the bit at the place `one` was altered, and all that were are within 16 from the place `start` on, and in the bytes from .. to
+unfoldable pub isBurst : ℕ → Bytes → Bytes → ℕ → ℕ → ℕ → ℕ → Bool
+isBurst n t s one start from to =
+    (ltb one (n * 8) && not (eqb (bitAt s one) (bitAt t one)))
+    && (altersOnly n t s start (start + 16) && altersOnly n t s (from * 8) (to * 8))
+
+pub is-sure : (k : Kind) (n : ℕ) (t s : Bytes) (one start from to : ℕ) → Part k n from to → isBurst n t s one start from to ≡ true → Sure k n t s
+unfolding isBurst
+is-sure k n t s one start from to part e =
+    let first = ltb one (n * 8) && not (eqb (bitAt s one) (bitAt t one)) in
+    let spans = altersOnly n t s start (start + 16) in
+    let lies = altersOnly n t s (from * 8) (to * 8) in
+    let a = and-left first (spans && lies) e in
+    let b = and-right first (spans && lies) e in
+    a-burst
+    (record {
+      one = one;
+      one-altered = (ltb-true _ _ (and-left (ltb one (n * 8)) _ a), eqb-false _ _ (not-true (eqb (bitAt s one) (bitAt t one)) (and-right (ltb one (n * 8)) _ a)));
+      start = start;
+      span = alters-only n t s start (start + 16) (and-left spans lies b);
+    })
+    (record { from = from; to = to; part = part; inside = alters-only n t s (from * 8) (to * 8) (and-right spans lies b) })
+  where
+    not-true : (b : Bool) → not b ≡ true → b ≡ false
+    not-true true e = sym e
+    not-true false e = refl

@@ -12,8 +12,8 @@ use borrow.Author.Tests.{eqb-true, eqb-false}
 use Rattle.format.specs.Crc.{crcBit}
 use Rattle.crc_laws.specs.Xor.{xor-none, xor-middle}
 use Rattle.crc_laws.specs.Register.{bit-linear, bit-injective, crcBits}
+use Rattle.crc_laws.specs.Order.{top-again}
 use Rattle.bursts.specs.Feed.{two-bits, step, step-lt, feed, Bits, none, more, feed-injective}
-use Rattle.bursts.specs.Order.{top-again}
 
 -- 1 where two bits are not the same
 abbrev pub other : ℕ → ℕ → ℕ
@@ -100,8 +100,8 @@ top-gone : crcBit 0x8000 ≡ 0x1021
 unfolding crcBit
 top-gone = refl
 
--- two places apart in less than 32,768 bits
-pub two-apart : (a : ℕ) {l m : List ℕ} → a < 65536 → Bits l → Bits m → length l ≡ length m → length l ≤ 32767 → dist l m ≡ 2 → feed a l ≡ feed a m → ⊥
+-- two places apart, in no more bits than a record can have
+pub two-apart : (a : ℕ) {l m : List ℕ} → a < 65536 → Bits l → Bits m → length l ≡ length m → length l ≤ 16576 → dist l m ≡ 2 → feed a l ≡ feed a m → ⊥
 unfolding dist feed
 two-apart a g none none e n d f = absurd (omega arith)
 two-apart a g none (more k t) e n d f = absurd (omega arith)

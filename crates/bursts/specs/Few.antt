@@ -1,7 +1,7 @@
--- One to three altered bits are caught, and so is an odd number of them, wherever they stand.
+-- One to three altered bits, wherever they stand, are caught; and the bits altered of a record that is still one of its kind are even in number.
 use Prim.Native.Nat.{ℕ, zero, suc, _+_, _-_, _*_, _%_, _≤_, _<_}
 use mathlib.Core.Path.{_≡_, refl, sym, ap, ap₂, _∙_}
-use mathlib.Core.Bool.{true, false}
+use mathlib.Core.Bool.{true}
 use mathlib.Core.List.{List, [], _∷_, _++_}
 use native.Mathlib.Omega.{arith}
 use native.Mathlib.Nat.{add-zero, add-suc}
@@ -9,12 +9,12 @@ use lib.ListN.{length, getD, take, drop, length-drop, take-append-drop}
 use lib.Seq.{length-take-le, drop-cons}
 use Rattle.format.specs.Bytes.{Bytes, byteAt}
 use Rattle.format.specs.Record.{Kind, declaredSize, acceptable, recordSize}
-use Rattle.bursts.specs.Words.{bitAt, alteredBits, Few, Damaged, codeword}
+use Rattle.bursts.specs.Words.{bitAt, alteredBits, Few, Damaged}
 use Rattle.bursts.specs.Feed.{feed}
 use Rattle.bursts.specs.Bits.{bits, bits-bits, length-bits, bits-at, feed-bits, take-bit}
-use Rattle.bursts.specs.Codeword.{code-long, code-bytes}
-use Rattle.bursts.specs.Accepted.{Checked, before, after}
-use Rattle.bursts.specs.Magics.{lawful, Turned, turned, refused, neither}
+use Rattle.bursts.specs.Codeword.{codeword, Checked, code-long, code-bytes, code-zero}
+use Rattle.bursts.specs.Accepted.{before, after}
+use Rattle.bursts.specs.Magics.{lawful, Turned, turned, neither}
 use Rattle.bursts.specs.Distance.{other, dist, dist-append, two-apart}
 use Rattle.bursts.specs.Parity.{even-apart}
 
@@ -69,7 +69,7 @@ apart-append a b d e h =
     let ld = length-bits d in
     ap₂ dist (bits-append a b) (bits-append d e) ∙ dist-append (bits a) (bits b) (bits d) (bits e) (omega arith)
 
-module _ (k : Kind) (n : ℕ) (x y : Bytes) (a : Checked k n x) (b : Checked k n y) where
+module _ {k : Kind} {n : ℕ} {x y : Bytes} (a : Checked k n x) (b : Checked k n y) where
   abbrev c : ℕ
   c = k .checkOffset
 
@@ -114,25 +114,24 @@ module _ (k : Kind) (n : ℕ) (x y : Bytes) (a : Checked k n x) (b : Checked k n
 
   -- ---- and those are an even number of bits apart, and not two
 
-  code-bits : (z : Bytes) → Checked k n z → length (bits (codeword k z)) ≡ n * 8
-  code-bits z w = length-bits (codeword k z) ∙ ap (λ (m : ℕ). m * 8) (code-long k (w .last) n (w .room) z (w .long))
+  code-bits : {z : Bytes} → Checked k n z → length (bits (codeword k z)) ≡ n * 8
+  code-bits {z} w = length-bits (codeword k z) ∙ ap (λ (m : ℕ). m * 8) (code-long w)
 
-  code-feed : (z : Bytes) → Checked k n z → feed 0 (bits (codeword k z)) ≡ 0
-  code-feed z w =
-      feed-bits 0 (codeword k z) (omega arith) (code-bytes k (w .last) n (w .room) z (w .long) (w .bytes)) ∙ w .zero-check
+  code-feed : {z : Bytes} → Checked k n z → feed 0 (bits (codeword k z)) ≡ 0
+  code-feed {z} w = feed-bits 0 (codeword k z) (omega arith) (code-bytes w) ∙ code-zero w
 
   pub even : apart x y % 2 ≡ 0
   even =
       rw same-apart
-      (even-apart 0 (omega arith) (bits-bits (codeword k x)) (bits-bits (codeword k y)) (code-bits x a ∙ sym (code-bits y b))
-      (code-feed x a ∙ sym (code-feed y b)))
+      (even-apart 0 (omega arith) (bits-bits (codeword k x)) (bits-bits (codeword k y)) (code-bits a ∙ sym (code-bits b))
+      (code-feed a ∙ sym (code-feed b)))
 
   pub not-two : apart x y ≡ 2 → ⊥
   not-two e =
       let s = a .short in
-      let l = code-bits x a in
-      two-apart 0 (omega arith) (bits-bits (codeword k x)) (bits-bits (codeword k y)) (code-bits x a ∙ sym (code-bits y b)) (omega arith)
-      (sym same-apart ∙ e) (code-feed x a ∙ sym (code-feed y b))
+      let l = code-bits a in
+      two-apart 0 (omega arith) (bits-bits (codeword k x)) (bits-bits (codeword k y)) (code-bits a ∙ sym (code-bits b)) (omega arith)
+      (sym same-apart ∙ e) (code-feed a ∙ sym (code-feed b))
 
 -- ---- a damaged record, if it were acceptable still
 
@@ -143,22 +142,21 @@ module _ (k : Kind) (t s : Bytes) (d : Damaged k t s) (c : acceptable k s ≡ tr
   as-apart : alteredBits (n * 8) t s ≡ apart (take n t) (take n s)
   as-apart = altered-apart n t s (before d .long) (after d c .long)
 
-  altered-even : alteredBits (n * 8) t s % 2 ≡ 0
-  altered-even = rw as-apart (even k n _ _ (before d) (after d c))
+  pub altered-even : alteredBits (n * 8) t s % 2 ≡ 0
+  altered-even = rw as-apart (even (before d) (after d c))
 
   not-few : Few n t s → ⊥
   not-few f =
       let e = altered-even in
       let l = f .least in
       let m = f .most in
-      not-two k n _ _ (before d) (after d c) (sym as-apart ∙ omega arith)
+      not-two (before d) (after d c) (sym as-apart ∙ omega arith)
 
 altered-more : (m j : ℕ) (t s : Bytes) → alteredBits m t s ≤ alteredBits (m + j) t s
 unfolding alteredBits
 altered-more m zero t s = rw (add-zero m) (omega arith)
 altered-more m (suc j) t s = rw (add-suc m j) (omega (arith, altered-more m j t s))
 
--- One, two or three altered bits, wherever they stand: no acceptable record of either kind starts there
 pub few-caught : (k : Kind) (t s : Bytes) → Damaged k t s → Few (declaredSize k t) t s → recordSize s ≡ 0
 few-caught k t s d f =
     neither (d .kind) s (λ c. not-few k t s d c f) (λ c. many (turned d c))
@@ -170,7 +168,3 @@ few-caught k t s d f =
         let h = lawful (d .kind) .magic-inside in
         let q : 32 + (n * 8 - 32) ≡ n * 8 = omega arith in
         omega (arith, m .sixteen, f .most, rw q at (altered-more 32 (n * 8 - 32) t s))
-
--- An odd number of altered bits: no acceptable record of that kind starts there
-pub odd-caught : (k : Kind) (t s : Bytes) → Damaged k t s → alteredBits (declaredSize k t * 8) t s % 2 ≡ 1 → acceptable k s ≡ false
-odd-caught k t s d o = refused k s (λ c. omega (arith, altered-even k t s d c))

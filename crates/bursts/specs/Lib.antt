@@ -1,4 +1,4 @@
--- T-11. What it says is in Words, and at the ends of Bursts and Few; the other files are the proof, and the last two examples.
+-- T-11. What it says is in Words and Caught; the files between are its proof, from the bits of the check up to a record, and the last two examples.
 pub mod Words
 pub mod Feed
 pub mod Bits
@@ -6,3 +6,9 @@ pub mod Codeword
 pub mod Accepted
 pub mod Magics
 pub mod Bursts
+pub mod Distance
+pub mod Parity
+pub mod Few
+pub mod Caught
+pub mod Decide
+pub mod Example

@@ -3,9 +3,7 @@ use Prim.Native.Nat.{ℕ, zero, suc, _+_, _-_, _*_, _/_, _%_, _^_, _≤_, _<_}
 use mathlib.Core.Path.{_≡_}
 use mathlib.Core.Logic.{_≢_}
 use mathlib.Core.Bool.{true, cond}
-use mathlib.Core.List.{[], _∷_, _++_}
 use lib.Dec.{eqb}
-use lib.ListN.{take, drop}
 use Rattle.format.specs.Bytes.{Bytes, byteAt}
 use Rattle.format.specs.Record.{Kind, inode, block, acceptable}
 use Rattle.format_laws.specs.Crc.{Octets}
@@ -53,19 +51,17 @@ pub record Damaged (k : Kind) (t s : Bytes) : Type 0 where
   pub accepted : acceptable k t ≡ true
   pub same-length : k .bodyLength s ≡ k .bodyLength t
 
--- Beyond the request.
-
--- a whole record's bytes in the order in which the check takes them, and then the check field, its high byte first
-unfoldable pub codeword : Kind → Bytes → Bytes
-codeword k b =
-    take (k .checkOffset) b ++ (drop (k .headerSize) b ++ (byteAt b (k .checkOffset + 1) ∷ byteAt b (k .checkOffset) ∷ []))
-
--- how many of the first m bits were altered
+-- Beyond the request: how many of the first m bits were altered
 unfoldable pub alteredBits : ℕ → Bytes → Bytes → ℕ
 alteredBits zero t s = 0
 alteredBits (suc m) t s = alteredBits m t s + cond (eqb (bitAt t m) (bitAt s m)) 0 1
 
--- one to three bits of n bytes were
+-- of the bits of n bytes one, two or three were altered, wherever they stand
 pub record Few (n : ℕ) (t s : Bytes) : Type 0 where
   pub least : 1 ≤ alteredBits (n * 8) t s
   pub most : alteredBits (n * 8) t s ≤ 3
+
+-- the damage to a record of n bytes that is surely caught
+pub data Sure (k : Kind) (n : ℕ) (t s : Bytes) : Type 0 where
+  a-burst : Burst n t s → Wholly k n t s → Sure k n t s
+  few-bits : Few n t s → Sure k n t s

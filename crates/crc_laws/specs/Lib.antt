@@ -5,3 +5,4 @@ pub mod Register
 pub mod Bytes
 pub mod Remainder
 pub mod Table
+pub mod Order

@@ -1,4 +1,5 @@
--- A bit alone at the top of the register, 8000 hex, is not there again within 32,766 bits: computed. (The first leads to 1021 hex.)
+-- A bit alone at the top of the register, 8000 hex, is not there again within 16,575 bits: computed. The first leads to 1021 hex. A record has
+-- 16,576 bits at most.
 use Prim.Native.Nat.{ℕ, zero, suc, _<_}
 use mathlib.Core.Path.{_≡_, refl}
 use mathlib.Core.Bool.{Bool, true, false}
@@ -26,9 +27,9 @@ none-is (suc n) r t j h = go (eqb r 0x8000) refl t (none-is n (crcBit r)) j h
     go false e t ih zero h = eqb-false r 0x8000 e
     go false e t ih (suc j) h = ih t j (le-of-suc-le-suc h)
 
-computed : never 32766 0x1021 ≡ true
+computed : never 16575 0x1021 ≡ true
 unfolding never crcBit
 computed = refl
 
-pub top-again : (j : ℕ) → j < 32766 → crcBits j 0x1021 ≡ 0x8000 → ⊥
-top-again = none-is 32766 0x1021 computed
+pub top-again : (j : ℕ) → j < 16575 → crcBits j 0x1021 ≡ 0x8000 → ⊥
+top-again = none-is 16575 0x1021 computed
