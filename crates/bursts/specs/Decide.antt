@@ -18,7 +18,7 @@ unfoldable pub below : (ℕ → Bool) → ℕ → Bool
 below f zero = true
 below f (suc m) = f m && below f m
 
-below-at : (f : ℕ → Bool) (m : ℕ) → below f m ≡ true → (p : ℕ) → p < m → f p ≡ true
+pub below-at : (f : ℕ → Bool) (m : ℕ) → below f m ≡ true → (p : ℕ) → p < m → f p ≡ true
 unfolding below
 below-at f zero e p h = absurd (omega arith)
 below-at f (suc m) e p h = go (ltb p m) refl (below-at f m (and-right (f m) (below f m) e) p)
