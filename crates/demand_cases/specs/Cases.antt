@@ -6,7 +6,7 @@ use mathlib.Core.Path.{_≡_, refl}
 use mathlib.Core.Bool.{true}
 use mathlib.Core.List.{List, [], _∷_}
 use mathlib.Core.Option.{some}
-use lib.ListN.{replicate}
+use lib.ListN.{set, replicate}
 use lib.Dec.{leb}
 use Rattle.format.specs.Bytes.{Bytes, le16, le32}
 use Rattle.format.specs.Crc.{crcBit, crcByte, crcOver, check}
@@ -56,6 +56,8 @@ pub record Cases : Type 0 where
   pub format-writes-the-root : acceptedRecords (imageFormatted (replicate 320 0) two) two ≡ rootRecord ∷ []
   -- AreasKept.reads: the untouched records, at their old places
   pub untouched-read : bytesOf (recordsOf firstHit area₀) ≡ rootRecord ∷ inodeBytes other 0 0 b ∷ []
+  -- T-11, `caught`: one bit of the check field
+  pub altered-check-caught : recordSize (set (inodeBytes file 0 0 a) 19 0xc4) ≡ 0
   -- Greatest.top
   pub greatest-counts : inodeOf byBytes (volume olderLast two) file ≡ some (inodeBytes file 1 0 a)
   -- "no missing or looping parent"; were it live, FileKept.path would have it found at the names above it, which lead nowhere
@@ -103,6 +105,7 @@ unfolding
 cases = record {
   format-writes-the-root = refl;
   untouched-read = refl;
+  altered-check-caught = refl;
   greatest-counts = refl;
   loop-orphan = refl;
   twins-ambiguous = refl;
