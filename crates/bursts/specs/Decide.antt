@@ -44,7 +44,7 @@ alters-only n t s from to e p a =
 unfoldable pub areOctets : Bytes → Bool
 areOctets l = below (λ i. ltb (byteAt l i) 256) (length l)
 
-are-octets : (l : Bytes) → areOctets l ≡ true → Octets l
+pub are-octets : (l : Bytes) → areOctets l ≡ true → Octets l
 unfolding areOctets
 are-octets l e = record { at = λ i h. ltb-true _ _ (below-at (λ i. ltb (byteAt l i) 256) (length l) e i h) }
 
