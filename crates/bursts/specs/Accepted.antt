@@ -1,7 +1,7 @@
--- What an acceptable record is to the check, and to one of the other kind.
-use Prim.Native.Nat.{ℕ, zero, suc, _+_, _*_, _≤_, _<_}
-use mathlib.Core.Path.{_≡_, refl, sym, ap, _∙_}
-use mathlib.Core.Bool.{Bool, true, false, _&&_}
+-- What an acceptable record is to the check.
+use Prim.Native.Nat.{ℕ, _+_, _≤_, _<_}
+use mathlib.Core.Path.{_≡_, refl, ap}
+use mathlib.Core.Bool.{true, _&&_}
 use native.Mathlib.Omega.{arith}
 use native.Mathlib.Decide.{decLt}
 use lib.Dec.{eqb, ltb, leb}
@@ -13,7 +13,6 @@ use Rattle.format.specs.Crc.{check}
 use Rattle.format.specs.Ids.{isBlockId, isFileId}
 use Rattle.format.specs.Record.{
   Kind,
-  inode,
   block,
   recordId,
   recordLink,
@@ -27,11 +26,10 @@ use Rattle.format.specs.Record.{
   wellFormed,
   declaredSize,
   acceptable,
-  recordSize,
 }
 use Rattle.format_laws.specs.Bytes.{take-le16}
 use Rattle.format_laws.specs.Crc.{Octets}
-use Rattle.format_laws.specs.Record.{and-right, inode-lawful, block-lawful, kind-inside, kind-formed, kind-magic, formed-rules, size-none}
+use Rattle.format_laws.specs.Record.{and-right, kind-inside, kind-formed, formed-rules}
 use Rattle.bursts.specs.Words.{IsKind, an-inode, a-block, Damaged}
 use Rattle.bursts.specs.Bits.{AllBytes}
 use Rattle.bursts.specs.Codeword.{take-bytes, Checked}

@@ -1,12 +1,10 @@
 -- A burst of altered bits is caught.
 use Prim.Native.Nat.{ℕ, _+_, _-_, _*_, _≤_, _<_}
-use mathlib.Core.Path.{_≡_, refl, sym, ap, _∙_}
+use mathlib.Core.Path.{_≡_, sym, ap, _∙_}
 use mathlib.Core.Logic.{_⊎_, inl, inr}
-use mathlib.Core.Bool.{Bool, true, false}
 use native.Mathlib.Omega.{arith}
-use lib.Dec.{eqb}
-use lib.ListN.{length, take}
-use borrow.Author.Tests.{eqb-true, eqb-false}
+use native.Mathlib.Decide.{ℕ-discrete}
+use lib.ListN.{take}
 use Rattle.format.specs.Bytes.{Bytes}
 use Rattle.format.specs.Record.{Kind, declaredSize, recordSize}
 use Rattle.bursts.specs.Words.{bitAt, Altered, Burst, Part, covered-header, check-field, body, Wholly, Damaged}
@@ -17,11 +15,11 @@ use Rattle.bursts.specs.Magics.{lawful, Turned, turned, neither}
 
 -- a bit that is not altered
 unaltered : (n : ℕ) (t s : Bytes) (p : ℕ) → p < n * 8 → (Altered n t s p → ⊥) → bitAt t p ≡ bitAt s p
-unaltered n t s p h f = go (eqb (bitAt s p) (bitAt t p)) refl
+unaltered n t s p h f = go (ℕ-discrete (bitAt s p) (bitAt t p))
   where
-    go : (b : Bool) → eqb (bitAt s p) (bitAt t p) ≡ b → bitAt t p ≡ bitAt s p
-    go true e = sym (eqb-true _ _ e)
-    go false e = absurd (f (omega arith, eqb-false _ _ e))
+    go : Dec (bitAt s p ≡ bitAt t p) → bitAt t p ≡ bitAt s p
+    go (yes e) = sym e
+    go (no e) = absurd (f (h, e))
 
 -- two codewords are no burst apart
 apart : {k : Kind} {n : ℕ} {x y : Bytes} → Checked k n x → Checked k n y → Burst n (codeword k x) (codeword k y) → ⊥

@@ -15,6 +15,6 @@ pub caught : (k : Kind) (t s : Bytes) → Damaged k t s → Sure k (declaredSize
 caught k t s d (a-burst u w) = burst-caught k t s d u w
 caught k t s d (few-bits f) = few-caught k t s d f
 
--- after an odd number of altered bits, wherever they stand, none of that kind does
+-- after an odd number of altered bits, in whichever parts they stand, none of that kind does
 pub odd-caught : (k : Kind) (t s : Bytes) → Damaged k t s → alteredBits (declaredSize k t * 8) t s % 2 ≡ 1 → acceptable k s ≡ false
 odd-caught k t s d o = refused k s (λ c. omega (arith, altered-even k t s d c))

@@ -1,12 +1,12 @@
 -- What T-11 supposes, as tests that compute.
 use Prim.Native.Nat.{ℕ, zero, suc, _+_, _*_, _≤_, _<_}
-use mathlib.Core.Path.{_≡_, refl, sym}
+use mathlib.Core.Path.{_≡_, refl}
 use mathlib.Core.Logic.{⊎-elim}
 use mathlib.Core.Bool.{Bool, true, false, not, _&&_, _||_}
 use native.Mathlib.Omega.{arith}
 use lib.Dec.{ltb, leb, eqb}
 use lib.ListN.{length}
-use borrow.Author.Tests.{leb-true, ltb-true, ltb-false, eqb-true, eqb-false}
+use borrow.Author.Tests.{leb-true, ltb-true, ltb-false, eqb-true, eqb-false, not-true}
 use Rattle.format.specs.Bytes.{Bytes, byteAt}
 use Rattle.format.specs.Record.{Kind, acceptable}
 use Rattle.format_laws.specs.Crc.{Octets}
@@ -44,7 +44,7 @@ alters-only n t s from to e p a =
 unfoldable pub areOctets : Bytes → Bool
 areOctets l = below (λ i. ltb (byteAt l i) 256) (length l)
 
-are-octets : (l : Bytes) → areOctets l ≡ true → Octets l
+pub are-octets : (l : Bytes) → areOctets l ≡ true → Octets l
 unfolding areOctets
 are-octets l e = record { at = λ i h. ltb-true _ _ (below-at (λ i. ltb (byteAt l i) 256) (length l) e i h) }
 
@@ -87,7 +87,3 @@ is-sure k n t s one start from to part e =
       span = alters-only n t s start (start + 16) (and-left spans lies b);
     })
     (record { from = from; to = to; part = part; inside = alters-only n t s (from * 8) (to * 8) (and-right spans lies b) })
-  where
-    not-true : (b : Bool) → not b ≡ true → b ≡ false
-    not-true true e = sym e
-    not-true false e = refl

@@ -1,8 +1,9 @@
 -- Damage that T-11 catches, one burst for each part and edge of a record; and its limits: damage that goes just beyond it and is accepted.
 use Prim.Native.Nat.{ℕ, _+_, _*_}
 use mathlib.Core.Path.{_≡_, refl}
-use mathlib.Core.Bool.{Bool, true, false}
+use mathlib.Core.Bool.{Bool, true, false, _&&_}
 use mathlib.Core.List.{[], _∷_, _++_}
+use lib.Dec.{eqb}
 use lib.Seq.{sets}
 use Rattle.format.specs.Bytes.{Bytes, le16, le32}
 use Rattle.format.specs.Crc.{crcBit, crcByte, crcOver, check}
@@ -116,10 +117,12 @@ named = inodeBytes 0x10000000 0 0 (0x61 ∷ 0x62 ∷ 0x63 ∷ 0x64 ∷ 0x65 ∷ 
 unfoldable pub renamed : Bytes
 renamed = blockBytes 0x80000000 0 0x10000000 0x80000a00 (0x41 ∷ 0x41 ∷ 0x41 ∷ 0x41 ∷ 0x41 ∷ []) ++ (0x01 ∷ [])
 
--- damage to a record, of so many bits, in so many in a row from `start` on, with the length field kept or not: afterwards a record of
--- `left` bytes stands there
+-- damage to an acceptable record, of so many bits, in so many in a row from `start` on, with the length field kept or not: afterwards a
+-- record of `left` bytes stands there
 pub record Limit (k : Kind) (t s : Bytes) (kept : Bool) (bits start row left : ℕ) : Type 0 where
-  pub damaged : isDamaged k t s ≡ kept
+  pub bytes : (areOctets t && areOctets s) ≡ true
+  pub before : acceptable k t ≡ true
+  pub same-length : eqb (k .bodyLength s) (k .bodyLength t) ≡ kept
   pub many : alteredBits (declaredSize k t * 8) t s ≡ bits
   pub span : altersOnly (declaredSize k t) t s start (start + row) ≡ true
   pub after : recordSize s ≡ left
@@ -134,10 +137,10 @@ pub limits : Limits
 unfolding
     three seventeen two across long shorter named renamed inodeBytes blockBytes sealed inodeFront blockFront le16 le32 crcBit crcByte crcOver
     check isDirectoryId isFileId isInodeId isBlockId nameGood inodeRule previousRule blockRule inodeRules blockRules checkRight wellFormed
-    acceptable recordSize bitAt alteredBits below altersOnly areOctets isDamaged
+    acceptable recordSize bitAt alteredBits below altersOnly areOctets
 limits = record {
-  seventeen-bits = record { damaged = refl; many = refl; span = refl; after = refl };
-  border-crossed = record { damaged = refl; many = refl; span = refl; after = refl };
-  length-field = record { damaged = refl; many = refl; span = refl; after = refl };
-  other-kind = record { damaged = refl; many = refl; span = refl; after = refl };
+  seventeen-bits = record { bytes = refl; before = refl; same-length = refl; many = refl; span = refl; after = refl };
+  border-crossed = record { bytes = refl; before = refl; same-length = refl; many = refl; span = refl; after = refl };
+  length-field = record { bytes = refl; before = refl; same-length = refl; many = refl; span = refl; after = refl };
+  other-kind = record { bytes = refl; before = refl; same-length = refl; many = refl; span = refl; after = refl };
 }

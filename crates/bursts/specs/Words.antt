@@ -31,7 +31,8 @@ pub data Part (k : Kind) (n : ℕ) : ℕ → ℕ → Type 0 where
   check-field : Part k n (k .checkOffset) (k .headerSize)
   body : Part k n (k .headerSize) n
 
--- they "lie wholly in the covered header, wholly in the check field or wholly in the body"
+-- they "lie wholly in the covered header, wholly in the check field or wholly in the body": the 16 bits of the check field stand between the
+-- other two, so that no burst has bits of both, and the last byte of the covered header is the length field's
 pub record Wholly (k : Kind) (n : ℕ) (t s : Bytes) : Type 0 where
   pub from : ℕ
   pub to : ℕ
@@ -56,7 +57,7 @@ unfoldable pub alteredBits : ℕ → Bytes → Bytes → ℕ
 alteredBits zero t s = 0
 alteredBits (suc m) t s = alteredBits m t s + cond (eqb (bitAt t m) (bitAt s m)) 0 1
 
--- of the bits of n bytes one, two or three were altered, wherever they stand
+-- of the bits of n bytes one, two or three were altered, in whichever parts they stand
 pub record Few (n : ℕ) (t s : Bytes) : Type 0 where
   pub least : 1 ≤ alteredBits (n * 8) t s
   pub most : alteredBits (n * 8) t s ≤ 3

@@ -1,8 +1,8 @@
--- A bit alone at the top of the register, 8000 hex, is not there again within 16,575 bits: computed. The first leads to 1021 hex. A record has
--- 16,576 bits at most.
+-- A bit alone at the top of the register, 8000 hex, is not there again within 16,575 bits, of which the first leads to 1021 hex: computed.
+-- Two bits of a record are no further apart: it has 16,576 at most.
 use Prim.Native.Nat.{ℕ, zero, suc, _<_}
 use mathlib.Core.Path.{_≡_, refl}
-use mathlib.Core.Bool.{Bool, true, false}
+use mathlib.Core.Bool.{Bool, true, false, false≢true}
 use native.Mathlib.Omega.{arith}
 use native.Mathlib.Nat.{le-of-suc-le-suc}
 use lib.Dec.{eqb}
@@ -23,7 +23,7 @@ none-is (suc n) r t j h = go (eqb r 0x8000) refl t (none-is n (crcBit r)) j h
     go : (b : Bool) → eqb r 0x8000 ≡ b → (elim b as (λ (x : Bool). Bool) [ true ↦ false | false ↦ never n (crcBit r) ]) ≡ true
         → (never n (crcBit r) ≡ true → (j : ℕ) → j < n → crcBits j (crcBit r) ≡ 0x8000 → ⊥)
         → (j : ℕ) → j < suc n → crcBits j r ≡ 0x8000 → ⊥
-    go true e t ih j h = absurd (let z : _≡_ {A = ℕ} 0 1 = cc in omega arith)
+    go true e t ih j h = absurd (false≢true t)
     go false e t ih zero h = eqb-false r 0x8000 e
     go false e t ih (suc j) h = ih t j (le-of-suc-le-suc h)
 

@@ -1,34 +1,44 @@
 -- T-11 with demand 3: "Demand 3 assumes that no acceptable record starts in an overwritten one. For the record's own start, give us that
 -- without assuming it".
-use Prim.Native.Nat.{ℕ}
-use mathlib.Core.Path.{_≡_, ap, _∙_}
+use Prim.Native.Nat.{ℕ, _+_}
+use mathlib.Core.Path.{_≡_, refl, ap, _∙_}
 use mathlib.Core.Logic.{_≢_}
-use mathlib.Core.Bool.{true}
-use mathlib.Core.List.{List}
+use mathlib.Core.Bool.{Bool, true, false}
+use mathlib.Core.List.{List, List·Memᴰ}
+use native.Mathlib.Omega.{arith}
 use native.Mathlib.Decide.{ℕ-discrete}
-use lib.ListN.{drop}
-use Rattle.format.specs.Bytes.{Bytes}
-use Rattle.format.specs.Record.{Kind, declaredSize, recordSize}
-use Rattle.format.specs.Reading.{Placed}
-use Rattle.calls.specs.Areas.{areaBytes}
+use lib.ListN.{length, drop, length-take, length-drop}
+use lib.Seq.{getD-take, getD-drop}
+use Rattle.format.specs.Bytes.{Bytes, byteAt}
+use Rattle.format.specs.AreaHeader.{areaHeaderSize}
+use Rattle.format.specs.Record.{Kind, inode, block, declaredSize, acceptable, recordSize}
+use Rattle.format.specs.Reading.{Placed, areaClean}
+use Rattle.format_laws.specs.Crc.{Octets}
+use Rattle.format_laws.specs.Record.{size-none}
+use Rattle.format_laws.specs.Reading.{records-lawful}
+use Rattle.format_laws.specs.Taken.{records-from, Taken, from-each}
+use Rattle.calls.specs.Areas.{areaBytes, fileAreas}
+use Rattle.calls.specs.Mount.{mountNumber}
 use Rattle.calls.specs.declared.Descriptor.{Descriptor}
-use Rattle.bursts.specs.Words.{Damaged, Sure}
+use Rattle.bursts.specs.Words.{IsKind, an-inode, a-block, Sure}
 use Rattle.bursts.specs.Caught.{caught}
-use Rattle.demand3.specs.Words.{IsRecord, Within, touched}
+use Rattle.demand3.specs.Words.{IsRecord, Within, InRecord, touched, Demand3}
+use Rattle.demand3.specs.Demand3.{demand3}
 
 -- the rest of an area, from a record's place on
 abbrev pub restAt : Bytes → Descriptor → Placed → Bytes
 restAt image d r = drop (r .place) (areaBytes image d)
 
--- the damage to the record at the front of t is surely caught
-pub record SurelyCaught (t s : Bytes) : Type 0 where
-  pub kind : Kind
-  pub damaged : Damaged kind t s
-  pub sure : Sure kind (declaredSize kind t) t s
+-- the damage to the record of the kind k at the front of t is surely caught
+pub record SurelyCaught (k : Kind) (t s : Bytes) : Type 0 where
+  pub same-length : k .bodyLength s ≡ k .bodyLength t
+  pub sure : Sure k (declaredSize k t) t s
 
--- every overwritten record was damaged so: by one burst, or in one to three bits
+-- every overwritten record, of whichever kind it is, was damaged so: by one burst, or in one to three bits
 abbrev pub AllSure : Bytes → Bytes → List Descriptor → Type 0
-AllSure xs ys ds = (d : Descriptor) (r : Placed) → IsRecord xs ds d r → touched xs ys d r ≡ true → SurelyCaught (restAt xs d r) (restAt ys d r)
+AllSure xs ys ds =
+    (d : Descriptor) (r : Placed) → IsRecord xs ds d r → touched xs ys d r ≡ true
+    → (k : Kind) → IsKind k → acceptable k (restAt xs d r) ≡ true → SurelyCaught k (restAt xs d r) (restAt ys d r)
 
 -- what is left to be assumed: "No acceptable record starts at any of its bytes afterwards", its first apart
 abbrev pub NoneBehind : Bytes → Bytes → List Descriptor → Type 0
@@ -36,14 +46,74 @@ NoneBehind xs ys ds =
     (d : Descriptor) (r : Placed) → IsRecord xs ds d r → touched xs ys d r ≡ true
     → (j : ℕ) → Within r j → j ≢ r .place → recordSize (drop j (areaBytes ys d)) ≡ 0
 
--- then what demand 3 assumes holds: this is its `Damage.no-new`
-pub none-new : (xs ys : Bytes) (ds : List Descriptor) → AllSure xs ys ds → NoneBehind xs ys ds
+-- What is given, of images of bytes: as demand 3 has it (`Damage`), but that no acceptable record starts at an overwritten one's first byte
+pub record SureDamage (xs ys : Bytes) (ds : List Descriptor) : Type 0 where
+  pub bytes-before : Octets xs
+  pub bytes-after : Octets ys
+  pub one-length : length ys ≡ length xs
+  pub mounts : mountNumber xs ds ≡ 0
+  pub clean : (d : Descriptor) → List·Memᴰ d (fileAreas xs ds) → areaClean recordSize (areaBytes xs d) ≡ true
+  pub inside : (i : ℕ) → byteAt xs i ≢ byteAt ys i → InRecord xs ds i
+  pub all-sure : AllSure xs ys ds
+  pub none-behind : NoneBehind xs ys ds
+
+rest-octets : (image : Bytes) (d : Descriptor) (r : Placed) → Octets image → Octets (restAt image d r)
+rest-octets image d r o = record {
+  at = λ i h.
+      let g = simp (length-drop, length-take) at h in
+      rw (
+        getD-drop (r .place) (areaBytes image d) i 0,
+        getD-take (d .length) (drop (d .offset) image) (r .place + i) 0 (omega arith),
+        getD-drop (d .offset) image (r .place + i) 0,
+      )
+      (o .at (d .offset + (r .place + i)) (omega arith));
+}
+
+-- of an overwritten record's own start nothing is assumed
+module _ (xs ys : Bytes) (ds : List Descriptor) (before : Octets xs) (after : Octets ys) (s : AllSure xs ys ds) (d : Descriptor) (r : Placed)
+    (o : IsRecord xs ds d r) (t : touched xs ys d r ≡ true) where
+  stood : Taken recordSize (areaBytes xs d) areaHeaderSize r
+  stood = from-each recordSize records-lawful (areaBytes xs d) areaHeaderSize r (rw (records-from recordSize (areaBytes xs d)) at (o .1))
+
+  of-kind : (k : Kind) → IsKind k → acceptable k (restAt xs d r) ≡ true → recordSize (restAt ys d r) ≡ 0
+  of-kind k i a =
+      let c = s d r o t k i a in
+      caught k (restAt xs d r) (restAt ys d r)
+      (record {
+        kind = i;
+        bytes-before = rest-octets xs d r before;
+        bytes-after = rest-octets ys d r after;
+        accepted = a;
+        same-length = c .same-length;
+      })
+      (c .sure)
+
+  none-at-start : recordSize (restAt ys d r) ≡ 0
+  none-at-start = go (acceptable inode (restAt xs d r)) refl (acceptable block (restAt xs d r)) refl
+    where
+      go : (a : Bool) → acceptable inode (restAt xs d r) ≡ a → (b : Bool) → acceptable block (restAt xs d r) ≡ b → recordSize (restAt ys d r) ≡ 0
+      go true e b f = of-kind inode an-inode e
+      go false e true f = of-kind block a-block f
+      go false e false f = absurd (omega (arith, stood .accepted, size-none (restAt xs d r) e f))
+
+-- then what demand 3 assumes of an overwritten record holds
+pub none-new : (xs ys : Bytes) (ds : List Descriptor) → Octets xs → Octets ys → AllSure xs ys ds → NoneBehind xs ys ds
     → (d : Descriptor) (r : Placed) → IsRecord xs ds d r → touched xs ys d r ≡ true
     → (j : ℕ) → Within r j → recordSize (drop j (areaBytes ys d)) ≡ 0
-none-new xs ys ds a b d r o t j w = go (ℕ-discrete j (r .place))
+none-new xs ys ds before after s b d r o t j w = go (ℕ-discrete j (r .place))
   where
     go : Dec (j ≡ r .place) → recordSize (drop j (areaBytes ys d)) ≡ 0
-    go (yes e) =
-        let c = a d r o t in
-        ap (λ (i : ℕ). recordSize (drop i (areaBytes ys d))) e ∙ caught (c .kind) (restAt xs d r) (restAt ys d r) (c .damaged) (c .sure)
+    go (yes e) = ap (λ (i : ℕ). recordSize (drop i (areaBytes ys d))) e ∙ none-at-start xs ys ds before after s d r o t
     go (no e) = b d r o t j w e
+
+-- and so does all that it says
+pub demand3-sure : (xs ys : Bytes) (ds : List Descriptor) → SureDamage xs ys ds → Demand3 xs ys ds
+demand3-sure xs ys ds g =
+    demand3 xs ys ds
+    (record {
+      one-length = g .one-length;
+      mounts = g .mounts;
+      clean = g .clean;
+      inside = g .inside;
+      no-new = none-new xs ys ds (g .bytes-before) (g .bytes-after) (g .all-sure) (g .none-behind);
+    })
