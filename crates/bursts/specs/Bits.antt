@@ -10,14 +10,11 @@ use lib.Seq.{ext-getD, getD-take, getD-drop, take-nil, drop-nil}
 use lib.Bits.{bitXor}
 use Rattle.format.specs.Bytes.{Bytes, byteAt}
 use Rattle.format.specs.Crc.{crcByte, crcOver}
-use Rattle.format_laws.specs.Crc.{crc-byte-lt}
+use Rattle.format_laws.specs.Crc.{Octets, crc-byte-lt}
+use Rattle.format_laws.specs.Octets.{octet-at, octets-drop}
 use Rattle.crc_laws.specs.Register.{crcBits, byte-bits}
 use Rattle.bursts.specs.Words.{bitAt}
 use Rattle.bursts.specs.Feed.{feed, Bits, none, more, feed-append, feed-lt, feed-injective, feed-window, feed-value, value}
-
--- every number is a byte, past the end too
-abbrev pub AllBytes : Bytes → Type 0
-AllBytes l = (i : ℕ) → byteAt l i < 256
 
 unfoldable pub bits : Bytes → List ℕ
 bits [] = []
@@ -87,12 +84,12 @@ byte-feed r b g h =
     at-top : (x₇ x₆ x₅ x₄ x₃ x₂ x₁ x₀ : ℕ) → value 16 (x₇ ∷ x₆ ∷ x₅ ∷ x₄ ∷ x₃ ∷ x₂ ∷ x₁ ∷ x₀ ∷ []) ≡ form x₇ x₆ x₅ x₄ x₃ x₂ x₁ x₀ * 256
     at-top x₇ x₆ x₅ x₄ x₃ x₂ x₁ x₀ = omega arith
 
-pub feed-bits : (r : ℕ) (l : Bytes) → r < 65536 → AllBytes l → feed r (bits l) ≡ crcOver r l
+pub feed-bits : (r : ℕ) (l : Bytes) → r < 65536 → Octets l → feed r (bits l) ≡ crcOver r l
 unfolding feed bits crcOver
 feed-bits r [] g o = refl
 feed-bits r (b ∷ l) g o =
-    ap (λ (x : ℕ). feed x (bits l)) (byte-feed r b g (o 0))
-    ∙ feed-bits (crcByte r b) l (crc-byte-lt r b g (o 0)) (λ i. o (suc i))
+    let h = o .at 0 (omega arith) in
+    ap (λ (x : ℕ). feed x (bits l)) (byte-feed r b g h) ∙ feed-bits (crcByte r b) l (crc-byte-lt r b g h) (octets-drop 1 (b ∷ l) o)
 
 -- bytes whose bits are the same are the same
 byte-at : (l : Bytes) (i j : ℕ) → j < 8 → bitAt l (i * 8 + j) ≡ byteAt l i / 2 ^ (7 - j) % 2
@@ -102,7 +99,7 @@ byte-at l i j h =
     let r : (i * 8 + j) % 8 ≡ j = omega arith in
     rw (q, r)
 
-byte-sum : (l : Bytes) → AllBytes l → (i : ℕ)
+byte-sum : (l : Bytes) → Octets l → (i : ℕ)
     → byteAt l i
     ≡ form (bitAt l (i * 8 + 0)) (bitAt l (i * 8 + 1)) (bitAt l (i * 8 + 2)) (bitAt l (i * 8 + 3))
     (bitAt l (i * 8 + 4)) (bitAt l (i * 8 + 5)) (bitAt l (i * 8 + 6)) (bitAt l (i * 8 + 7))
@@ -117,9 +114,9 @@ byte-sum l o i =
       byte-at l i 6 (omega arith),
       byte-at l i 7 (omega arith),
     )
-    (byte-form (byteAt l i) (o i))
+    (byte-form (byteAt l i) (octet-at l o i))
 
-pub byte-same : (x y : Bytes) → AllBytes x → AllBytes y → (i : ℕ)
+pub byte-same : (x y : Bytes) → Octets x → Octets y → (i : ℕ)
     → ((p : ℕ) → i * 8 ≤ p → p < i * 8 + 8 → bitAt x p ≡ bitAt y p) → byteAt x i ≡ byteAt y i
 byte-same x y o u i e =
     byte-sum x o i
@@ -129,7 +126,7 @@ byte-same x y o u i e =
     at : (j : ℕ) → j < 8 → bitAt x (i * 8 + j) ≡ bitAt y (i * 8 + j)
     at j h = e (i * 8 + j) (omega arith) (omega arith)
 
-pub bytes-same : (x y : Bytes) → AllBytes x → AllBytes y → length x ≡ length y
+pub bytes-same : (x y : Bytes) → Octets x → Octets y → length x ≡ length y
     → ((p : ℕ) → p < length x * 8 → bitAt x p ≡ bitAt y p) → x ≡ y
 bytes-same x y o u n e =
     ext-getD 0 x y n (λ i h. byte-same x y o u i (λ p g k. e p (omega arith)))
@@ -198,7 +195,7 @@ module _ (r q : ℕ) (x y : List ℕ) (small : r < 65536) (o : Bits x) (u : Bits
       ∙ sym (parted q y)
 
 -- the same for bytes
-module _ (r : ℕ) (x y : Bytes) (small : r < 65536) (o : AllBytes x) (u : AllBytes y) (long : length x ≡ length y) (q : ℕ)
+module _ (r : ℕ) (x y : Bytes) (small : r < 65536) (o : Octets x) (u : Octets y) (long : length x ≡ length y) (q : ℕ)
     (outside : (p : ℕ) → p < length x * 8 → (p < q) ⊎ (q + 16 ≤ p) → bitAt x p ≡ bitAt y p) where
   pub crc-burst : crcOver r x ≡ crcOver r y → x ≡ y
   crc-burst e =

@@ -10,40 +10,17 @@ use lib.Bits.{bitXor, xor-self}
 use Rattle.format.specs.Bytes.{Bytes, byteAt, le16}
 use Rattle.format.specs.Crc.{crcBit, crcOver, check}
 use Rattle.format.specs.Record.{Kind}
-use Rattle.format_laws.specs.Crc.{crc-append}
+use Rattle.format_laws.specs.Crc.{Octets, crc-append}
+use Rattle.format_laws.specs.Encoding.{octets-none, octets-cons}
+use Rattle.format_laws.specs.Octets.{octet-at, octets-take, octets-drop, octets-append}
 use Rattle.crc_laws.specs.Register.{crcBits}
 use Rattle.crc_laws.specs.Bytes.{two-bytes}
 use Rattle.bursts.specs.Words.{bitAt}
-use Rattle.bursts.specs.Bits.{AllBytes}
 
 -- a whole record's bytes in the order in which the check takes them, and then the check field, its high byte first
 unfoldable pub codeword : Kind → Bytes → Bytes
 codeword k b =
     take (k .checkOffset) b ++ (drop (k .headerSize) b ++ (byteAt b (k .checkOffset + 1) ∷ byteAt b (k .checkOffset) ∷ []))
-
--- ---- bytes of parts
-
-pub take-bytes : (n : ℕ) (l : Bytes) → AllBytes l → AllBytes (take n l)
-take-bytes n l o i = go (decLt i n)
-  where
-    go : Dec (i < n) → byteAt (take n l) i < 256
-    go (yes h) = rw (getD-take n l i 0 h) (o i)
-    go (no h) =
-        let g = length-take n l in
-        rw (List·getD-eq-default (take n l) 0 {n = i} (omega arith)) (omega arith)
-
-drop-bytes : (n : ℕ) (l : Bytes) → AllBytes l → AllBytes (drop n l)
-drop-bytes n l o i = rw (getD-drop n l i 0) (o (n + i))
-
-pair-bytes : (a b : ℕ) → a < 256 → b < 256 → AllBytes (a ∷ b ∷ [])
-pair-bytes a b g h zero = g
-pair-bytes a b g h (suc zero) = h
-pair-bytes a b g h (suc (suc i)) = omega arith
-
-append-bytes : (a b : Bytes) → AllBytes a → AllBytes b → AllBytes (a ++ b)
-append-bytes [] b o u i = u i
-append-bytes (x ∷ a) b o u zero = o 0
-append-bytes (x ∷ a) b o u (suc i) = append-bytes a b (λ j. o (suc j)) u i
 
 -- a byte of the second of two parts
 behind : (a b : Bytes) (n i : ℕ) → length a ≡ n → n ≤ i → byteAt (a ++ b) i ≡ byteAt b (i - n)
@@ -102,7 +79,7 @@ pub record Checked (k : Kind) (n : ℕ) (x : Bytes) : Type 0 where
   pub room : k .headerSize ≤ n
   pub short : n ≤ 2072
   pub long : length x ≡ n
-  pub bytes : AllBytes x
+  pub bytes : Octets x
   pub right : le16 x (k .checkOffset) ≡ check (take (k .checkOffset) x) (drop (k .headerSize) x)
 
 module _ {k : Kind} {n : ℕ} {x : Bytes} (w : Checked k n x) where
@@ -130,11 +107,15 @@ module _ {k : Kind} {n : ℕ} {x : Bytes} (w : Checked k n x) where
       ∙ ap₂ _+_ header-long (length-append (drop h x) field ∙ ap (λ (m : ℕ). m + 2) body-long)
       ∙ omega arith
 
-  pub code-bytes : AllBytes (codeword k x)
+  byte-lt : (i : ℕ) → byteAt x i < 256
+  byte-lt = octet-at x bytes
+
+  pub code-bytes : Octets (codeword k x)
   unfolding codeword
   code-bytes =
-      append-bytes (take c x) (drop h x ++ field) (take-bytes c x bytes)
-      (append-bytes (drop h x) field (drop-bytes h x bytes) (pair-bytes (byteAt x (c + 1)) (byteAt x c) (bytes (c + 1)) (bytes c)))
+      octets-append (take c x) (drop h x ++ field) (octets-take c x bytes)
+      (octets-append (drop h x) field (octets-drop h x bytes)
+      (octets-cons (byteAt x (c + 1)) (byte-lt (c + 1)) (octets-cons (byteAt x c) (byte-lt c) octets-none)))
 
   -- the bytes of the codeword
   header-byte : (i : ℕ) → i < c → byteAt (codeword k x) i ≡ byteAt x i
@@ -186,4 +167,4 @@ module _ {k : Kind} {n : ℕ} {x : Bytes} (w : Checked k n x) where
       crc-append 0 (take c x) (drop h x ++ field)
       ∙ crc-append (crcOver 0 (take c x)) (drop h x) field
       ∙ ap (λ (r : ℕ). crcOver r field) (sym (w .right))
-      ∙ own-bytes (byteAt x (c + 1)) (byteAt x c) (bytes (c + 1)) (bytes c)
+      ∙ own-bytes (byteAt x (c + 1)) (byteAt x c) (byte-lt (c + 1)) (byte-lt c)

@@ -11,7 +11,7 @@ use Rattle.format.specs.Encoding.{inodeFront, blockFront, sealed, inodeBytes, b
 use Rattle.format.specs.Ids.{NONE, isDirectoryId, isFileId, isInodeId, isBlockId}
 use Rattle.format.specs.Record.{Kind, inode, block, nameGood, inodeRule, previousRule, blockRule, inodeRules, blockRules, checkRight, wellFormed}
 use Rattle.format.specs.Record.{declaredSize, acceptable, recordSize}
-use Rattle.bursts.specs.Words.{bitAt, Part, covered-header, check-field, body, IsKind, an-inode, a-block, alteredBits}
+use Rattle.bursts.specs.Words.{bitAt, Part, covered-header, check-field, body, IsKind, is-inode, is-block, alteredBits}
 use Rattle.bursts.specs.Caught.{caught}
 use Rattle.bursts.specs.Decide.{below, altersOnly, areOctets, isDamaged, is-damaged, isBurst, is-sure}
 
@@ -83,11 +83,11 @@ so-caught {k} i {t} {s} {one} {start} {from} {to} part c =
 pub all-caught : AllCaught
 unfolding le16 three blockBytes sealed blockFront
 all-caught = record {
-  half-magic = so-caught an-inode covered-header (computed .half-magic);
-  reserved-byte = so-caught an-inode covered-header (computed .reserved-byte);
-  check-field = so-caught an-inode check-field (computed .check-field);
-  two-bytes = so-caught a-block covered-header (computed .two-bytes);
-  three-bytes = so-caught a-block body (computed .three-bytes);
+  half-magic = so-caught is-inode covered-header (computed .half-magic);
+  reserved-byte = so-caught is-inode covered-header (computed .reserved-byte);
+  check-field = so-caught is-inode check-field (computed .check-field);
+  two-bytes = so-caught is-block covered-header (computed .two-bytes);
+  three-bytes = so-caught is-block body (computed .three-bytes);
 }
 
 -- ---- accepted

@@ -8,23 +8,23 @@ use native.Mathlib.Omega.{arith}
 use lib.Dec.{eqb}
 use Rattle.format.specs.Bytes.{Bytes, byteAt, le32, enc32}
 use Rattle.format.specs.Record.{Kind, inode, block, acceptable, recordSize}
+use Rattle.format_laws.specs.Crc.{Octets}
+use Rattle.format_laws.specs.Octets.{octet-at}
 use Rattle.format_laws.specs.Record.{LawfulKind, inode-lawful, block-lawful, kind-magic, size-none}
-use Rattle.bursts.specs.Words.{bitAt, alteredBits, IsKind, an-inode, a-block, Damaged}
-use Rattle.bursts.specs.Bits.{AllBytes}
-use Rattle.bursts.specs.Accepted.{octets-all}
+use Rattle.bursts.specs.Words.{bitAt, alteredBits, IsKind, is-inode, is-block, Damaged}
 
 pub otherKind : {k : Kind} → IsKind k → Kind
-otherKind an-inode = block
-otherKind a-block = inode
+otherKind is-inode = block
+otherKind is-block = inode
 
 is-other : {k : Kind} (i : IsKind k) → IsKind (otherKind i)
 unfolding otherKind
-is-other an-inode = a-block
-is-other a-block = an-inode
+is-other is-inode = is-block
+is-other is-block = is-inode
 
 pub lawful : {k : Kind} → IsKind k → LawfulKind k
-lawful an-inode = inode-lawful
-lawful a-block = block-lawful
+lawful is-inode = inode-lawful
+lawful is-block = block-lawful
 
 -- what became a record of the other kind was altered in its second bit, in its 32nd, and in 16 of its first 32
 pub record Turned (t s : Bytes) : Type 0 where
@@ -37,8 +37,8 @@ magicBytes k = enc32 (k .magic) []
 
 magics : {k : Kind} (i : IsKind k) → Turned (magicBytes k) (magicBytes (otherKind i))
 unfolding otherKind bitAt alteredBits
-magics an-inode = record { second = λ e. omega arith; last = λ e. omega arith; sixteen = refl }
-magics a-block = record { second = λ e. omega arith; last = λ e. omega arith; sixteen = refl }
+magics is-inode = record { second = λ e. omega arith; last = λ e. omega arith; sixteen = refl }
+magics is-block = record { second = λ e. omega arith; last = λ e. omega arith; sixteen = refl }
 
 -- only the first 32 bits matter
 altered-alike : (m : ℕ) (t s v w : Bytes) → ((p : ℕ) → p < m → bitAt t p ≡ bitAt v p) → ((p : ℕ) → p < m → bitAt s p ≡ bitAt w p)
@@ -56,15 +56,15 @@ alike-turned t s v w e f r = record {
   sixteen = altered-alike 32 t s v w e f ∙ r .sixteen;
 }
 
-magic-byte : (t : Bytes) (m : ℕ) → AllBytes t → le32 t 0 ≡ m → (i : ℕ) → i < 4 → byteAt t i ≡ byteAt (enc32 m []) i
+magic-byte : (t : Bytes) (m : ℕ) → Octets t → le32 t 0 ≡ m → (i : ℕ) → i < 4 → byteAt t i ≡ byteAt (enc32 m []) i
 unfolding le32
-magic-byte t m o e zero h = omega (arith, o 0, o 1, o 2, o 3)
-magic-byte t m o e (suc zero) h = omega (arith, o 0, o 1, o 2, o 3)
-magic-byte t m o e (suc (suc zero)) h = omega (arith, o 0, o 1, o 2, o 3)
-magic-byte t m o e (suc (suc (suc zero))) h = omega (arith, o 0, o 1, o 2, o 3)
+magic-byte t m o e zero h = omega (arith, octet-at t o 0, octet-at t o 1, octet-at t o 2, octet-at t o 3)
+magic-byte t m o e (suc zero) h = omega (arith, octet-at t o 0, octet-at t o 1, octet-at t o 2, octet-at t o 3)
+magic-byte t m o e (suc (suc zero)) h = omega (arith, octet-at t o 0, octet-at t o 1, octet-at t o 2, octet-at t o 3)
+magic-byte t m o e (suc (suc (suc zero))) h = omega (arith, octet-at t o 0, octet-at t o 1, octet-at t o 2, octet-at t o 3)
 magic-byte t m o e (suc (suc (suc (suc i)))) h = absurd (omega arith)
 
-magic-bit : (t : Bytes) (m : ℕ) → AllBytes t → le32 t 0 ≡ m → (p : ℕ) → p < 32 → bitAt t p ≡ bitAt (enc32 m []) p
+magic-bit : (t : Bytes) (m : ℕ) → Octets t → le32 t 0 ≡ m → (p : ℕ) → p < 32 → bitAt t p ≡ bitAt (enc32 m []) p
 unfolding bitAt
 magic-bit t m o e p h = rw (magic-byte t m o e (p / 8) (omega arith))
 
@@ -72,8 +72,8 @@ pub turned : {k : Kind} {t s : Bytes} (d : Damaged k t s) → acceptable (otherK
 turned {k} {t} {s} d a =
     let i = d .kind in
     alike-turned t s (magicBytes k) (magicBytes (otherKind i))
-    (magic-bit t (k .magic) (octets-all t (d .bytes-before)) (kind-magic k (lawful i) t (d .accepted)))
-    (magic-bit s (otherKind i .magic) (octets-all s (d .bytes-after)) (kind-magic (otherKind i) (lawful (is-other i)) s a))
+    (magic-bit t (k .magic) (d .bytes-before) (kind-magic k (lawful i) t (d .accepted)))
+    (magic-bit s (otherKind i .magic) (d .bytes-after) (kind-magic (otherKind i) (lawful (is-other i)) s a))
     (magics i)
 
 -- not acceptable
@@ -86,5 +86,5 @@ refused k s f = go (acceptable k s) refl
 
 pub neither : {k : Kind} (i : IsKind k) (s : Bytes) → (acceptable k s ≡ true → ⊥) → (acceptable (otherKind i) s ≡ true → ⊥) → recordSize s ≡ 0
 unfolding otherKind
-neither an-inode s f g = size-none s (refused inode s f) (refused block s g)
-neither a-block s f g = size-none s (refused inode s g) (refused block s f)
+neither is-inode s f g = size-none s (refused inode s f) (refused block s g)
+neither is-block s f g = size-none s (refused inode s g) (refused block s f)

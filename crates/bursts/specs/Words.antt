@@ -41,8 +41,8 @@ pub record Wholly (k : Kind) (n : ℕ) (t s : Bytes) : Type 0 where
 
 -- the kinds of records that there are
 pub data IsKind : Kind → Type 0 where
-  an-inode : IsKind inode
-  a-block : IsKind block
+  is-inode : IsKind inode
+  is-block : IsKind block
 
 -- "an acceptable record", of which any bytes may have been altered, but "the length field is unaltered"
 pub record Damaged (k : Kind) (t s : Bytes) : Type 0 where

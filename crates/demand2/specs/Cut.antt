@@ -10,6 +10,7 @@ use Rattle.format.specs.Record.{longestData}
 use Rattle.format.specs.BlockSize.{greatestBlock}
 use Rattle.format_laws.specs.BlockSize.{TwoGreatest, two-greatest}
 use Rattle.format_laws.specs.Crc.{Octets}
+use Rattle.format_laws.specs.Octets.{octets-take, octets-drop}
 use Rattle.volume_laws.specs.Tests.{or-is-false, eqb-false}
 use Rattle.calls.specs.Areas.{fileAreas, shortestArea}
 use Rattle.calls.specs.Mount.{wrongAreas}
@@ -19,7 +20,6 @@ use Rattle.calls.specs.declared.Descriptor.{Descriptor}
 use Rattle.calls_laws.specs.Checks.{Passes}
 use Rattle.demand2.specs.Store.{file-listed}
 use Rattle.demand2.specs.Places.{area-lengths}
-use Rattle.demand2.specs.Octet.{octets-take, octets-drop}
 
 -- a piece that a block can hold
 pub record GoodPiece (p : Bytes) : Type 0 where

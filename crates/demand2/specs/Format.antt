@@ -21,6 +21,7 @@ use Rattle.format.specs.Reading.{ERASED, areaClean, areaFree}
 use Rattle.format.specs.Encoding.{areaHeader, inodeBytes, sealed, inodeFront}
 use Rattle.format_laws.specs.Crc.{Octets}
 use Rattle.format_laws.specs.Encoding.{header-size, header-valid, header-count, header-id, MeantInode, octets-none}
+use Rattle.format_laws.specs.Octets.{octets-append}
 use Rattle.format_laws.specs.Bytes.{same-byte}
 use Rattle.format_laws.specs.Reading.{records-lawful}
 use Rattle.volume.specs.Lists.{keep, all, once, same, only}
@@ -49,7 +50,7 @@ use Rattle.calls_laws.specs.Checks.{Passes, mounts, InArea, area-fits, areas-ap
 use Rattle.image_laws.specs.Apart.{Apart}
 use Rattle.image_laws.specs.Laws.{length-put, part-put, part-outside, part-around, byte-outside}
 use Rattle.image_laws.specs.Stores.{drop-erased}
-use Rattle.demand2.specs.Octet.{octets-append, octets-erased, octets-put, octets-inode, octets-header}
+use Rattle.demand2.specs.Octet.{octets-erased, octets-put, octets-inode, octets-header}
 use Rattle.demand2.specs.Area.{Whole, erased-clean, erased-starts, erased-empty}
 use Rattle.demand2.specs.Store.{freePlace, RecordFits, OneStored, one-stored, same-file-areas, same-scratch-areas, same-area-ids}
 use Rattle.demand2.specs.Store.{same-described, file-listed, same-area}

@@ -11,13 +11,13 @@ use lib.Dec.{T, eqb, leb, leb→le, T-not}
 use Rattle.format.specs.Bytes.{Bytes}
 use Rattle.format.specs.Record.{nameGood}
 use Rattle.format_laws.specs.Crc.{Octets}
+use Rattle.format_laws.specs.Octets.{octet, octets}
 use Rattle.volume.specs.Lists.{all}
 use Rattle.volume.specs.Path.{SLASH, longestPath, longestName, splitByte, segments, goodSegment, goodSegments, isAbsolute, absoluteNames, goodAbsolute}
 use Rattle.volume.specs.Path.{goodRelative, goodPath, pathNames}
 use Rattle.volume_laws.specs.Tests.{true→T, and-T, eqb-false, eqb-differ}
 use Rattle.volume_laws.specs.Lists.{all-mem}
 use Rattle.calls.specs.Create.{lastName, namesBefore}
-use Rattle.demand2.specs.Octet.{octet, octets}
 
 -- ---- segments
 

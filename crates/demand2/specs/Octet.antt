@@ -1,13 +1,9 @@
--- Lists of bytes, each below 256: by their members, in parts, joined, and as records are written and read.
+-- Lists of bytes, each below 256, as they are stored, and as records are written and read.
 use Prim.Native.Nat.{ℕ, zero, suc, _+_, _^_, _<_}
-use mathlib.Core.Path.{refl}
-use mathlib.Core.Logic.{⊎-elim}
-use mathlib.Core.List.{List, [], _∷_, _++_, List·Memᴰ, List·Memᴰ·head, List·Memᴰ·tail, List·Memᴰ·append-cases}
+use mathlib.Core.List.{List, _++_, List·Memᴰ}
 use native.Mathlib.Omega.{arith}
-use native.Mathlib.Decide.{decLt}
-use lib.ListN.{length, take, drop, length-take, length-drop, List·getD-eq-default}
-use lib.Seq.{getD-take, getD-drop}
-use Rattle.format.specs.Bytes.{Bytes, byteAt, le32, enc16}
+use lib.ListN.{length, take, drop}
+use Rattle.format.specs.Bytes.{Bytes, le32, enc16}
 use Rattle.format.specs.Crc.{check}
 use Rattle.format.specs.Reading.{ERASED}
 use Rattle.format.specs.Record.{recordSize}
@@ -15,6 +11,7 @@ use Rattle.format.specs.AreaHeader.{areaMagic1, areaMagic2, areaMagic3, areaMag
 use Rattle.format.specs.Encoding.{inodeFront, blockFront, sealed, inodeBytes, blockBytes, areaHeader}
 use Rattle.format_laws.specs.Crc.{Octets}
 use Rattle.format_laws.specs.Encoding.{octets-none, octets-cons, octets16, octets32, inode-front-octets, block-front-octets}
+use Rattle.format_laws.specs.Octets.{octet-at, octets-take, octets-drop, octets-append}
 use Rattle.format_laws.specs.Reading.{records-lawful}
 use Rattle.format_laws.specs.Taken.{records-from, from-each}
 use Rattle.calls.specs.Image.{put, erased}
@@ -22,27 +19,6 @@ use Rattle.calls.specs.Areas.{areaBytes, fileAreas}
 use Rattle.calls.specs.Mount.{acceptedRecords}
 use Rattle.calls.specs.declared.Descriptor.{Descriptor}
 use Rattle.calls_laws.specs.Records.{stored}
-
-pub octet : (l : Bytes) → Octets l → {x : ℕ} → List·Memᴰ x l → x < 256
-octet (y ∷ l) o (List·Memᴰ·head e) = rw e (o .at 0 (omega arith))
-octet (y ∷ l) o (List·Memᴰ·tail m) = octet l (record { at = λ i h. o .at (suc i) (omega arith) }) m
-
-pub octets : (l : Bytes) → ((x : ℕ) → List·Memᴰ x l → x < 256) → Octets l
-octets [] h = octets-none
-octets (y ∷ l) h = octets-cons y (h y (List·Memᴰ·head refl)) (octets l (λ x m. h x (List·Memᴰ·tail m)))
-
-module _ (n : ℕ) (l : Bytes) (o : Octets l) where
-  pub octets-take : Octets (take n l)
-  octets-take = record {
-    at = λ i h. let f : i < n = omega (arith, length-take n l) in rw (getD-take n l i 0 f)
-        (o .at i (omega (arith, length-take n l)));
-  }
-
-  pub octets-drop : Octets (drop n l)
-  octets-drop = record { at = λ i h. rw (getD-drop n l i 0) (o .at (n + i) (omega (arith, length-drop n l))) }
-
-pub octets-append : (a b : Bytes) → Octets a → Octets b → Octets (a ++ b)
-octets-append a b h k = octets (a ++ b) (λ x m. ⊎-elim (octet a h) (octet b k) (List·Memᴰ·append-cases a m))
 
 pub octets-erased : (n : ℕ) → Octets (erased n)
 octets-erased zero = octets-none
@@ -75,13 +51,6 @@ unfolding areaHeader
 octets-header size count id c i =
     octets32 areaMagic1 (octets32 areaMagic2 (octets32 areaMagic3 (octets32 areaMagic4 (octets32 size
     (octets-cons 0 (omega arith) (octets-cons count c (octets-cons 0 (omega arith) (octets-cons id i octets-none))))))))
-
-octet-at : (l : Bytes) → Octets l → (i : ℕ) → byteAt l i < 256
-octet-at l o i = go (decLt i (length l))
-  where
-    go : Dec (i < length l) → byteAt l i < 256
-    go (yes h) = o .at i h
-    go (no h) = omega (arith, List·getD-eq-default l 0 {n = i} (omega arith))
 
 -- a number of four bytes fits into 32 bits
 pub le32-fits : (l : Bytes) → Octets l → (i : ℕ) → le32 l i < 2 ^ 32

@@ -16,6 +16,7 @@ use Rattle.format.specs.Record.{recordSize}
 use Rattle.format.specs.Reading.{Placed, areaClean}
 use Rattle.format_laws.specs.Crc.{Octets}
 use Rattle.format_laws.specs.Encoding.{octets-none, octets-cons}
+use Rattle.format_laws.specs.Octets.{octets-take, octets-drop, octets-append}
 use Rattle.format_laws.specs.Reading.{records-lawful}
 use Rattle.volume.specs.Lists.{keep}
 use Rattle.volume_laws.specs.Tests.{true→T, T→true, not-T→false, and-T, not-is-false, or-is-false, T-other}
@@ -40,7 +41,7 @@ use Rattle.collect_laws.specs.Stores.{filledScratch, filled-long}
 use Rattle.collect_laws.specs.Mounted.{scratch-is, file-is, copied-survive, copied-fit, collected-is}
 use Rattle.demand2.specs.Store.{same-area, area-length}
 use Rattle.demand2.specs.Places.{area-lengths}
-use Rattle.demand2.specs.Octet.{octets-take, octets-drop, octets-append, octets-erased, octets-put, record-octets}
+use Rattle.demand2.specs.Octet.{octets-erased, octets-put, record-octets}
 use Rattle.demand2.specs.Format.{empty-length, empty-scratch, octets-empty}
 use Rattle.demand2_collect.specs.Copies.{Moved}
 use Rattle.demand2_collect.specs.Filled.{reads-back}

@@ -26,7 +26,7 @@ use Rattle.calls.specs.Mount.{noRoot, mountChecks, mountNumber}
 use Rattle.calls.specs.Lookup.{resolve}
 use Rattle.calls.specs.Read.{given, giveBlocks, give}
 use Rattle.calls.specs.declared.Descriptor.{Descriptor}
-use Rattle.demand3.specs.Words.{touched, stepsTo, crowded, ambiguous, FileKept}
+use Rattle.demand3.specs.Words.{touched, stepsTo, crowded, ambiguous, Damage, FileKept}
 use Rattle.demand3.specs.Demand3.{demand3}
 use Rattle.demand3.specs.Decide.{below, isInside, outside, onlyInside, allClean, emptied, noneNew, isDamage, isSpared, isUnharmed}
 use Rattle.demand3.specs.Decide.{damage, unharmed}
@@ -86,6 +86,9 @@ computed = (
   record { damaged-image = refl; harmless = refl; good = refl; named = refl; read = refl; crowd = refl },
   record { damaged-image = refl; harmless = refl; good = refl; named = refl; read = refl; crowd = refl },
 )
+
+pub newer-damaged : Damage image newerLost areas
+newer-damaged = damage image newerLost areas (computed .0 .damaged-image)
 
 module _ (ys : Bytes) (lost : Bool) (c : Computed ys lost) where
   kept : FileKept image ys areas file

@@ -1,6 +1,6 @@
 -- The first damaged image of demand 3's example is such damage: a burst in one record. What is left to be assumed is computed. And why
 -- something is left: a block may hold a record.
-use Prim.Native.Nat.{ℕ, _+_, _-_, _*_}
+use Prim.Native.Nat.{_+_, _-_, _*_}
 use mathlib.Core.Path.{_≡_, refl}
 use mathlib.Core.Bool.{Bool, true, not, _&&_, _||_}
 use mathlib.Core.List.{[], _∷_}
@@ -22,11 +22,11 @@ use Rattle.volume_laws.specs.Lists.{all-mem}
 use Rattle.calls.specs.Areas.{areaBytes, fileAreas}
 use Rattle.calls.specs.Mount.{recordsOf}
 use Rattle.calls.specs.declared.Descriptor.{Descriptor}
-use Rattle.bursts.specs.Words.{bitAt, alteredBits, covered-header, IsKind, an-inode, a-block}
+use Rattle.bursts.specs.Words.{bitAt, alteredBits, covered-header, IsKind, is-inode, is-block}
 use Rattle.bursts.specs.Decide.{below, below-at, altersOnly, areOctets, are-octets, isBurst, is-sure}
-use Rattle.demand3.specs.Words.{IsRecord, Within, touched}
-use Rattle.demand3.specs.Example.{areas, image, newerLost}
-use Rattle.demand3_bursts.specs.Start.{restAt, SurelyCaught, AllSure, NoneBehind, none-new}
+use Rattle.demand3.specs.Words.{IsRecord, touched, Demand3}
+use Rattle.demand3.specs.Example.{areas, image, newerLost, newer-damaged}
+use Rattle.demand3_bursts.specs.Start.{restAt, SurelyCaught, AllSure, NoneBehind, demand3-sure}
 
 -- the altered bits of a record, which is no block, are among the first eight of an inode's id
 isSure : Descriptor → Placed → Bool
@@ -76,11 +76,11 @@ all-sure d r o t k i a =
         → eqb (nameLength (restAt newerLost d r)) (nameLength (restAt image d r)) ≡ true
         → isBurst (declaredSize inode (restAt image d r)) (restAt image d r) (restAt newerLost d r) 32 32 0 18 ≡ true
         → SurelyCaught k (restAt image d r) (restAt newerLost d r)
-    of-kind k an-inode a n l b = record {
+    of-kind k is-inode a n l b = record {
       same-length = eqb-true _ _ l;
       sure = is-sure inode (declaredSize inode (restAt image d r)) (restAt image d r) (restAt newerLost d r) 32 32 0 18 covered-header b;
     }
-    of-kind k a-block a n l b = absurd (T-not (acceptable block (restAt image d r)) n (true→T a))
+    of-kind k is-block a n l b = absurd (T-not (acceptable block (restAt image d r)) n (true→T a))
 
 none-behind : NoneBehind image newerLost areas
 unfolding emptyBehind
@@ -91,10 +91,20 @@ none-behind d r o t j w n =
     (T→true (at-record d r o t .1)) i (omega (arith, w .0, w .1)) in
     rw q at (eqb-true (recordSize (drop (r .place + 1 + i) (areaBytes newerLost d))) 0 e)
 
--- so what demand 3 assumes holds of it
-pub example : (d : Descriptor) (r : Placed) → IsRecord image areas d r → touched image newerLost d r ≡ true
-    → (j : ℕ) → Within r j → recordSize (drop j (areaBytes newerLost d)) ≡ 0
-example = none-new image newerLost areas (are-octets image (computed .octets-before)) (are-octets newerLost (computed .octets-after)) all-sure none-behind
+-- so demand 3 holds of it, and nothing was assumed of the record's own start
+pub example : Demand3 image newerLost areas
+example =
+    demand3-sure image newerLost areas
+    (record {
+      bytes-before = are-octets image (computed .octets-before);
+      bytes-after = are-octets newerLost (computed .octets-after);
+      one-length = newer-damaged .one-length;
+      mounts = newer-damaged .mounts;
+      clean = newer-damaged .clean;
+      inside = newer-damaged .inside;
+      all-sure = all-sure;
+      none-behind = none-behind;
+    })
 
 -- ---- what is left must be assumed
 

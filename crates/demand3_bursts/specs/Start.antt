@@ -1,26 +1,26 @@
 -- T-11 with demand 3: "Demand 3 assumes that no acceptable record starts in an overwritten one. For the record's own start, give us that
 -- without assuming it".
-use Prim.Native.Nat.{ℕ, _+_}
+use Prim.Native.Nat.{ℕ}
 use mathlib.Core.Path.{_≡_, refl, ap, _∙_}
 use mathlib.Core.Logic.{_≢_}
 use mathlib.Core.Bool.{Bool, true, false}
 use mathlib.Core.List.{List, List·Memᴰ}
 use native.Mathlib.Omega.{arith}
 use native.Mathlib.Decide.{ℕ-discrete}
-use lib.ListN.{length, drop, length-take, length-drop}
-use lib.Seq.{getD-take, getD-drop}
+use lib.ListN.{length, drop}
 use Rattle.format.specs.Bytes.{Bytes, byteAt}
 use Rattle.format.specs.AreaHeader.{areaHeaderSize}
 use Rattle.format.specs.Record.{Kind, inode, block, declaredSize, acceptable, recordSize}
 use Rattle.format.specs.Reading.{Placed, areaClean}
 use Rattle.format_laws.specs.Crc.{Octets}
+use Rattle.format_laws.specs.Octets.{octets-take, octets-drop}
 use Rattle.format_laws.specs.Record.{size-none}
 use Rattle.format_laws.specs.Reading.{records-lawful}
 use Rattle.format_laws.specs.Taken.{records-from, Taken, from-each}
 use Rattle.calls.specs.Areas.{areaBytes, fileAreas}
 use Rattle.calls.specs.Mount.{mountNumber}
 use Rattle.calls.specs.declared.Descriptor.{Descriptor}
-use Rattle.bursts.specs.Words.{IsKind, an-inode, a-block, Sure}
+use Rattle.bursts.specs.Words.{IsKind, is-inode, is-block, Sure}
 use Rattle.bursts.specs.Caught.{caught}
 use Rattle.demand3.specs.Words.{IsRecord, Within, InRecord, touched, Demand3}
 use Rattle.demand3.specs.Demand3.{demand3}
@@ -58,16 +58,7 @@ pub record SureDamage (xs ys : Bytes) (ds : List Descriptor) : Type 0 where
   pub none-behind : NoneBehind xs ys ds
 
 rest-octets : (image : Bytes) (d : Descriptor) (r : Placed) → Octets image → Octets (restAt image d r)
-rest-octets image d r o = record {
-  at = λ i h.
-      let g = simp (length-drop, length-take) at h in
-      rw (
-        getD-drop (r .place) (areaBytes image d) i 0,
-        getD-take (d .length) (drop (d .offset) image) (r .place + i) 0 (omega arith),
-        getD-drop (d .offset) image (r .place + i) 0,
-      )
-      (o .at (d .offset + (r .place + i)) (omega arith));
-}
+rest-octets image d r o = octets-drop (r .place) (areaBytes image d) (octets-take (d .length) (drop (d .offset) image) (octets-drop (d .offset) image o))
 
 -- of an overwritten record's own start nothing is assumed
 module _ (xs ys : Bytes) (ds : List Descriptor) (before : Octets xs) (after : Octets ys) (s : AllSure xs ys ds) (d : Descriptor) (r : Placed)
@@ -92,8 +83,8 @@ module _ (xs ys : Bytes) (ds : List Descriptor) (before : Octets xs) (after : Oc
   none-at-start = go (acceptable inode (restAt xs d r)) refl (acceptable block (restAt xs d r)) refl
     where
       go : (a : Bool) → acceptable inode (restAt xs d r) ≡ a → (b : Bool) → acceptable block (restAt xs d r) ≡ b → recordSize (restAt ys d r) ≡ 0
-      go true e b f = of-kind inode an-inode e
-      go false e true f = of-kind block a-block f
+      go true e b f = of-kind inode is-inode e
+      go false e true f = of-kind block is-block f
       go false e false f = absurd (omega (arith, stood .accepted, size-none (restAt xs d r) e f))
 
 -- then what demand 3 assumes of an overwritten record holds

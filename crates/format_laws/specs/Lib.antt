@@ -6,5 +6,6 @@ pub mod Reading
 pub mod Taken
 pub mod Clean
 pub mod Encoding
+pub mod Octets
 pub mod Tests
 pub mod BlockSize

@@ -4,10 +4,11 @@ use mathlib.Core.Path.{_≡_, refl, sym, ap, _∙_}
 use mathlib.Core.Logic.{_⊎_, inl, inr, _≢_, ⊎-elim}
 use mathlib.Core.Bool.{Bool, true, false, cond, _&&_, _||_}
 use native.Mathlib.Omega.{arith}
-use lib.ListN.{length, take}
+use lib.ListN.{length, take, drop}
 use lib.Dec.{leb, eqb}
 use borrow.Author.Tests.{leb-true, le-leb, lt-leb, eqb-true, eq-eqb}
-use Rattle.format.specs.Bytes.{Bytes, byteAt, le32}
+use Rattle.format.specs.Bytes.{Bytes, byteAt, le16, le32}
+use Rattle.format.specs.Crc.{check}
 use Rattle.format.specs.Record.{Kind, inode, block, checkRight, wellFormed, declaredSize, acceptable, recordSize}
 use Rattle.format_laws.specs.Bytes.{same-byte, same-le16, same-take, same-long, take-le32}
 
@@ -70,6 +71,10 @@ module _ (k : Kind) (b : Bytes) (w : wellFormed k b ≡ true) where
   pub formed-rules : k .rules b ≡ true
   unfolding wellFormed
   formed-rules = and-right (eqb (le32 b 0) (k .magic)) (k .rules b) (and-left (eqb (le32 b 0) (k .magic) && k .rules b) (checkRight k b) w)
+
+  pub formed-check : le16 b (k .checkOffset) ≡ check (take (k .checkOffset) b) (drop (k .headerSize) b)
+  unfolding wellFormed checkRight
+  formed-check = eqb-true _ _ (and-right (eqb (le32 b 0) (k .magic) && k .rules b) (checkRight k b) w)
 
 module _ (k : Kind) (lk : LawfulKind k) (t : Bytes) (a : acceptable k t ≡ true) where
   pub kind-magic : le32 t 0 ≡ k .magic
