@@ -114,8 +114,8 @@ shorter = sets long 20 (0x01 ∷ [])
 unfoldable pub named : Bytes
 named = inodeBytes 0x10000000 0 0 (0x61 ∷ 0x62 ∷ 0x63 ∷ 0x64 ∷ 0x65 ∷ 0x66 ∷ 0x67 ∷ 0x68 ∷ 0x69 ∷ 0x6a ∷ [])
 
-unfoldable pub renamed : Bytes
-renamed = blockBytes 0x80000000 0 0x10000000 0x80000a00 (0x41 ∷ 0x41 ∷ 0x41 ∷ 0x41 ∷ 0x41 ∷ []) ++ (0x01 ∷ [])
+unfoldable pub asBlock : Bytes
+asBlock = blockBytes 0x80000000 0 0x10000000 0x80000a00 (0x41 ∷ 0x41 ∷ 0x41 ∷ 0x41 ∷ 0x41 ∷ []) ++ (0x01 ∷ [])
 
 -- damage to an acceptable record, of so many bits, in so many in a row from `start` on, with the length field kept or not: afterwards a
 -- record of `left` bytes stands there
@@ -131,11 +131,11 @@ pub record Limits : Type 0 where
   pub seventeen-bits : Limit block three seventeen true 4 194 17 27
   pub border-crossed : Limit block two across true 10 180 16 26
   pub length-field : Limit block long shorter false 1 166 1 25
-  pub other-kind : Limit inode named renamed true 61 1 239 29
+  pub other-kind : Limit inode named asBlock true 61 1 239 29
 
 pub limits : Limits
 unfolding
-    three seventeen two across long shorter named renamed inodeBytes blockBytes sealed inodeFront blockFront le16 le32 crcBit crcByte crcOver
+    three seventeen two across long shorter named asBlock inodeBytes blockBytes sealed inodeFront blockFront le16 le32 crcBit crcByte crcOver
     check isDirectoryId isFileId isInodeId isBlockId nameGood inodeRule previousRule blockRule inodeRules blockRules checkRight wellFormed
     acceptable recordSize bitAt alteredBits below altersOnly areOctets
 limits = record {
