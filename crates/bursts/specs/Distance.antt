@@ -1,4 +1,4 @@
--- In how many places two lists of bits differ, and what the check makes of it: an odd number of places is seen, and so are two.
+-- In how many places two lists of bits differ; and two places that differ are seen.
 use Prim.Native.Nat.{ℕ, suc, _+_, _*_, _≤_, _<_}
 use mathlib.Core.Path.{_≡_, refl, sym, ap, ap₂, _∙_}
 use mathlib.Core.List.{List, [], _∷_, _++_}
