@@ -141,12 +141,7 @@ impl Copies {
 
     /// Every burst of up to `span` bits in some bits.
     fn bursts(&mut self, bits: Range<usize>, span: usize) {
-        for first in bits.clone() {
-            let width = span.min(bits.end - first);
-            for others in 0..1_u32 << (width - 1) {
-                self.alter(|copy| flip(copy, first, 1 << 31 | others << (32 - width)));
-            }
-        }
+        each_burst(bits, span, |first, burst| self.alter(|copy| flip(copy, first, burst)));
     }
 }
 
@@ -155,10 +150,21 @@ fn bits(bytes: Range<usize>) -> Range<usize> {
     8 * bytes.start..8 * bytes.end
 }
 
+/// Every burst of up to `span` bits in some bits, as `flip` takes it.
+#[inline(always)]
+fn each_burst(bits: Range<usize>, span: usize, mut each: impl FnMut(usize, u32)) {
+    for first in bits.clone() {
+        let width = span.min(bits.end - first);
+        for others in 0..1 << (width - 1) {
+            each(first, 1 << 31 | others << (32 - width));
+        }
+    }
+}
+
 /// Alters the bits that are set in `burst`, whose highest stands for the bit `first`.
 #[inline(always)]
-fn flip(copy: &mut [u8], first: usize, burst: u32) {
-    for (byte, altered) in copy[first / 8..].iter_mut().zip((burst >> (first % 8)).to_be_bytes()) {
+fn flip(record: &mut [u8], first: usize, burst: u32) {
+    for (byte, altered) in record[first / 8..].iter_mut().zip((burst >> (first % 8)).to_be_bytes()) {
         *byte ^= altered;
     }
 }
@@ -258,6 +264,35 @@ fn bursts_of_the_longest() {
 #[ignore = "takes half an hour"]
 fn every_burst_of_the_longest() {
     all_caught(&[inode(255), block(2048)]);
+}
+
+/// One by one: every burst of the check field of a record that is alone in a volume, and of a root alone, without which a report answers 7.
+#[test]
+fn alone_in_a_volume() {
+    let mut tried = 0;
+    for record in [deletion(), inode(1), block(1)] {
+        let [_, check] = header(&record);
+        assert!(is_read(&record, &record));
+        each_burst(bits(check), SPAN, |first, burst| {
+            let mut altered = record.clone();
+            flip(&mut altered, first, burst);
+            assert!(!is_read(&record, &altered), "{altered:02x?}");
+            tried += 1;
+        });
+    }
+    let areas = Area::row::<2>(128);
+    let mut formatted = [0; 256];
+    assert_eq!(raw::format(&mut formatted, &areas), 0);
+    let at = formatted.windows(20).position(|bytes| bytes == root()).expect("the root");
+    each_burst(bits(18..20), SPAN, |first, burst| {
+        let mut image = formatted;
+        flip(&mut image[at..at + 20], first, burst);
+        let refused = ReportAnswer { number: 7, inodes: 0, live: 0, stretches: 0, skipped: 0 };
+        assert_eq!(raw::report(&image, &areas), refused, "{image:02x?}");
+        tried += 1;
+    });
+    println!("{tried} bursts of check fields one by one");
+    assert_eq!(tried, 4 * 0xffff);
 }
 
 /// Bursts on both sides of the check field's front, the length field between them as it was, are caught too, in inodes with names of every length. In
