@@ -1,5 +1,5 @@
-//! T-11, run: which damage to a record is surely caught, on the calls as users link them. Hundreds of altered copies of a record lie side by side in
-//! an area. If a report counts every byte of them as skipped, no record was read at the place of any.
+//! T-11, run: which damage to a record is surely caught, on the calls as users link them. Up to 256 altered copies of a record lie side by side in an
+//! area. If a report counts every byte of them as skipped, no record was read at the place of any.
 
 use std::ops::Range;
 
@@ -64,7 +64,7 @@ fn another(record: &[u8]) -> u32 {
     }
 }
 
-/// Whether a record is read in the altered bytes of one, alone in a volume. The model is asked for their start and must say the same.
+/// Whether a record is read in the altered bytes of one, alone between root and file. The model is asked for their start and must say the same.
 fn is_read(record: &[u8], altered: &[u8]) -> bool {
     let volume = Volume::with(altered, another(record));
     let read = !volume.skips_them();
@@ -251,8 +251,8 @@ fn every_burst_of_blocks() {
     all_caught(&[block(1), block(2), block(3), block(24), block(100)]);
 }
 
-/// Of the longest records a part, since a report takes as long as they are: of the inode the header and four bytes at each end of the name, of the
-/// block the check field and two bytes at each end of the data.
+/// Of the longest records a part, since a report of them takes longer: of the inode the header and four bytes at each end of the name, of the block
+/// the check field and two bytes at each end of the data.
 #[test]
 fn bursts_of_the_longest() {
     caught_in(&inode(255), &[0..17, 18..20, 20..24, 271..275]);
@@ -266,7 +266,8 @@ fn every_burst_of_the_longest() {
     all_caught(&[inode(255), block(2048)]);
 }
 
-/// One by one: every burst of the check field of a record that is alone in a volume, and of a root alone, without which a report answers 7.
+/// One by one: every burst of the check field of a record that stands alone between root and file, and of a root alone, without which a report
+/// answers 7.
 #[test]
 fn alone_in_a_volume() {
     let mut tried = 0;
