@@ -160,7 +160,7 @@ feed-parted : (r q : ℕ) (l : List ℕ) → feed r l ≡ feed (feed (feed r (ta
 feed-parted r q l =
     ap (feed r) (parted q l) ∙ feed-append r (take q l) (window q l ++ behind q l) ∙ feed-append (feed r (take q l)) (window q l) (behind q l)
 
--- two lists of bits that differ only within 16 in a row, and lead from one register to one, are the same
+-- two lists of bits that differ only within 16 in a row, and lead from one register to the same register, are the same
 module _ (r q : ℕ) (x y : List ℕ) (small : r < 65536) (o : Bits x) (u : Bits y) (long : length x ≡ length y)
     (outside : (p : ℕ) → p < length x → (p < q) ⊎ (q + 16 ≤ p) → getD x p 0 ≡ getD y p 0) where
   same-before : take q x ≡ take q y

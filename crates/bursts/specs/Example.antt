@@ -1,4 +1,5 @@
--- Damage that T-11 catches, one burst for each part and edge of a record; and its limits: damage that goes just beyond it and is accepted.
+-- Damage that T-11 catches: bursts in each part of a record, in two bytes and in three; and its limits: damage that goes just beyond it and is
+-- accepted.
 use Prim.Native.Nat.{ℕ, _+_, _*_}
 use mathlib.Core.Path.{_≡_, refl}
 use mathlib.Core.Bool.{Bool, true, false, _&&_}

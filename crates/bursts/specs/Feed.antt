@@ -48,7 +48,7 @@ unfolding feed
 feed-lt r h none = h
 feed-lt r h (more {x = x} k t) = feed-lt (step r x) (step-lt r x h k) t
 
--- the same bits from two registers lead to one only from one
+-- two registers from which the same bits lead to the same register are the same
 pub feed-injective : (a b : ℕ) {l : List ℕ} → a < 65536 → b < 65536 → Bits l → feed a l ≡ feed b l → a ≡ b
 unfolding feed
 feed-injective a b g h none e = e
@@ -112,7 +112,7 @@ feed-value r g (more {x = x} {l = l} c t) h =
     ∙ sym (bit-linear (bitXor r (x * 32768)) (value 15 l) a (omega arith))
     ∙ ap crcBit (xor-assoc r (x * 32768) (value 15 l) ∙ ap (bitXor r) (xor-shifted x 15 (value 15 l) v)))
 
--- two runs of at most 16 bits that lead from one register to one register are the same
+-- two runs of at most 16 bits that lead from the same register to the same register are the same
 pub feed-window : (r : ℕ) {l m : List ℕ} → r < 65536 → Bits l → Bits m → length l ≡ length m → length l ≤ 16 → feed r l ≡ feed r m → l ≡ m
 feed-window r {l} {m} g t u e h q =
     let v = value-lt 16 t in

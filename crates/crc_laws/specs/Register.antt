@@ -1,4 +1,4 @@
--- The register of the check is linear, after a bit, after some bits and after a byte; and a bit loses nothing of it.
+-- The register of the check is linear, after a bit, after some bits and after a byte; and a bit's step is one-to-one.
 use Prim.Native.Nat.{ℕ, zero, suc, _-_, _*_, _/_, _%_, _<_}
 use mathlib.Core.Path.{_≡_, refl, sym, ap, ap₂, _∙_}
 use mathlib.Core.Bool.{Bool, true, false, cond}
@@ -64,7 +64,7 @@ bit-none r h e = go (r / 32768) refl
     go (suc zero) q = absurd (omega (arith, same, even (r % 32768)))
     go (suc (suc t)) q = absurd (omega arith)
 
--- two registers that are one after a bit were one
+-- two registers that are the same after a bit were the same before
 pub bit-injective : (r s : ℕ) → r < 65536 → s < 65536 → crcBit r ≡ crcBit s → r ≡ s
 bit-injective r s g h e =
     xor-none r s (bit-none (bitXor r s) (xor-lt 16 r s g h) (bit-linear r s g h ∙ ap (λ (x : ℕ). bitXor x (crcBit s)) e ∙ xor-self (crcBit s)))

@@ -28,7 +28,7 @@ use Rattle.demand3.specs.Words.{IsRecord, touched, Demand3}
 use Rattle.demand3.specs.Example.{areas, image, newerLost, newer-damaged}
 use Rattle.demand3_bursts.specs.Start.{restAt, SurelyCaught, AllSure, NoneBehind, demand3-sure}
 
--- the altered bits of a record, which is no block, are among the first eight of an inode's id
+-- the record is no block, and its altered bits are among the first 16 of an inode's id
 isSure : Descriptor → Placed → Bool
 isSure d r =
     not (acceptable block (restAt image d r)) && (eqb (nameLength (restAt newerLost d r)) (nameLength (restAt image d r))
