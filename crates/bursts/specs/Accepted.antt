@@ -37,7 +37,7 @@ record-short is-block t o a =
     let e = take-le16 n t 20 (omega arith) in
     omega (arith, data-short (take n t) (formed-rules block (take n t) (kind-formed block t a)))
 
-pub checked : (k : Kind) → IsKind k → (t : Bytes) → Octets t → acceptable k t ≡ true → (n : ℕ) → declaredSize k t ≡ n → Checked k n (take n t)
+checked : (k : Kind) → IsKind k → (t : Bytes) → Octets t → acceptable k t ≡ true → (n : ℕ) → declaredSize k t ≡ n → Checked k n (take n t)
 checked k i t o a n e =
     record {
       last = field-last i;

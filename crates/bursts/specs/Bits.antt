@@ -116,7 +116,7 @@ byte-sum l o i =
     )
     (byte-form (byteAt l i) (octet-at l o i))
 
-pub byte-same : (x y : Bytes) → Octets x → Octets y → (i : ℕ)
+byte-same : (x y : Bytes) → Octets x → Octets y → (i : ℕ)
     → ((p : ℕ) → i * 8 ≤ p → p < i * 8 + 8 → bitAt x p ≡ bitAt y p) → byteAt x i ≡ byteAt y i
 byte-same x y o u i e =
     byte-sum x o i
@@ -126,7 +126,7 @@ byte-same x y o u i e =
     at : (j : ℕ) → j < 8 → bitAt x (i * 8 + j) ≡ bitAt y (i * 8 + j)
     at j h = e (i * 8 + j) (omega arith) (omega arith)
 
-pub bytes-same : (x y : Bytes) → Octets x → Octets y → length x ≡ length y
+bytes-same : (x y : Bytes) → Octets x → Octets y → length x ≡ length y
     → ((p : ℕ) → p < length x * 8 → bitAt x p ≡ bitAt y p) → x ≡ y
 bytes-same x y o u n e =
     ext-getD 0 x y n (λ i h. byte-same x y o u i (λ p g k. e p (omega arith)))

@@ -1,4 +1,4 @@
--- One to three altered bits, wherever they stand, are caught; and the bits altered of a record that is still one of its kind are even in number.
+-- One to three altered bits, in whichever parts they stand, are caught; and the bits altered of a record that is still one of its kind are even in number.
 use Prim.Native.Nat.{ℕ, zero, suc, _+_, _-_, _*_, _%_, _≤_, _<_}
 use mathlib.Core.Path.{_≡_, refl, sym, ap, ap₂, _∙_}
 use mathlib.Core.Bool.{true}
@@ -120,13 +120,13 @@ module _ {k : Kind} {n : ℕ} {x y : Bytes} (a : Checked k n x) (b : Checked k n
   code-feed : {z : Bytes} → Checked k n z → feed 0 (bits (codeword k z)) ≡ 0
   code-feed {z} w = feed-bits 0 (codeword k z) (omega arith) (code-bytes w) ∙ code-zero w
 
-  pub even : apart x y % 2 ≡ 0
+  even : apart x y % 2 ≡ 0
   even =
       rw same-apart
       (even-apart 0 (omega arith) (bits-bits (codeword k x)) (bits-bits (codeword k y)) (code-bits a ∙ sym (code-bits b))
       (code-feed a ∙ sym (code-feed b)))
 
-  pub not-two : apart x y ≡ 2 → ⊥
+  not-two : apart x y ≡ 2 → ⊥
   not-two e =
       let s = a .short in
       let l = code-bits a in

@@ -1,9 +1,9 @@
 -- T-11 with demand 3: "Demand 3 assumes that no acceptable record starts in an overwritten one. For the record's own start, give us that
 -- without assuming it".
 use Prim.Native.Nat.{ℕ}
-use mathlib.Core.Path.{_≡_, refl, ap, _∙_}
+use mathlib.Core.Path.{_≡_, ap, _∙_}
 use mathlib.Core.Logic.{_≢_}
-use mathlib.Core.Bool.{Bool, true, false}
+use mathlib.Core.Bool.{true}
 use mathlib.Core.List.{List, List·Memᴰ}
 use native.Mathlib.Omega.{arith}
 use native.Mathlib.Decide.{ℕ-discrete}
@@ -14,7 +14,7 @@ use Rattle.format.specs.Record.{Kind, inode, block, declaredSize, acceptable, r
 use Rattle.format.specs.Reading.{Placed, areaClean}
 use Rattle.format_laws.specs.Crc.{Octets}
 use Rattle.format_laws.specs.Octets.{octets-take, octets-drop}
-use Rattle.format_laws.specs.Record.{size-none}
+use Rattle.format_laws.specs.Record.{Stands, an-inode, a-block, nothing, stands}
 use Rattle.format_laws.specs.Reading.{records-lawful}
 use Rattle.format_laws.specs.Taken.{records-from, Taken, from-each}
 use Rattle.calls.specs.Areas.{areaBytes, fileAreas}
@@ -80,12 +80,12 @@ module _ (xs ys : Bytes) (ds : List Descriptor) (before : Octets xs) (after : Oc
       (c .sure)
 
   none-at-start : recordSize (restAt ys d r) ≡ 0
-  none-at-start = go (acceptable inode (restAt xs d r)) refl (acceptable block (restAt xs d r)) refl
+  none-at-start = go (stands (restAt xs d r))
     where
-      go : (a : Bool) → acceptable inode (restAt xs d r) ≡ a → (b : Bool) → acceptable block (restAt xs d r) ≡ b → recordSize (restAt ys d r) ≡ 0
-      go true e b f = of-kind inode is-inode e
-      go false e true f = of-kind block is-block f
-      go false e false f = absurd (omega (arith, stood .accepted, size-none (restAt xs d r) e f))
+      go : Stands (restAt xs d r) → recordSize (restAt ys d r) ≡ 0
+      go (an-inode a e) = of-kind inode is-inode a
+      go (a-block a e) = of-kind block is-block a
+      go (nothing e) = absurd (omega (arith, stood .accepted))
 
 -- then what demand 3 assumes of an overwritten record holds
 pub none-new : (xs ys : Bytes) (ds : List Descriptor) → Octets xs → Octets ys → AllSure xs ys ds → NoneBehind xs ys ds
