@@ -1,12 +1,25 @@
 -- The order of counts is that of their tallies, where these lie within 127 of each other.
 use Prim.Native.Nat.{ℕ, suc, _+_, _-_, _*_, _/_, _%_, _≤_, _<_}
 use mathlib.Core.Path.{_≡_, refl, sym, ap, _∙_}
-use mathlib.Core.Bool.{Bool, true, false, _&&_}
+use mathlib.Core.Bool.{true, false, _&&_, and-false}
 use native.Mathlib.Omega.{arith}
 use native.Mathlib.Decide.{decLt, ℕ-discrete}
-use lib.Dec.{leb, ltb}
+use lib.Dec.{leb, ltb, leb→le}
 use borrow.Author.Tests.{lt-ltb, le-ltb, le-leb, lt-leb}
+use Rattle.volume_laws.specs.Tests.{true→T, and-T}
 use Rattle.calls.specs.Collect.{precedes}
+
+-- two counts do not precede each other
+pub precedes-one-way : (a b : ℕ) → a < 256 → b < 256 → precedes a b ≡ true → precedes b a ≡ false
+unfolding precedes
+precedes-one-way a b h g p =
+    let there = (b + 256 - a) % 256 in
+    let back = (a + 256 - b) % 256 in
+    let q = and-T (leb 1 there) (leb there 127) (true→T p) in
+    let x = leb→le 1 there (q .0) in
+    let y = leb→le there 127 (q .1) in
+    let far : 127 < back = omega arith in
+    rw (lt-leb back 127 far, and-false (leb 1 back))
 
 -- how far the count of y lies behind that of x
 abbrev distance : ℕ → ℕ → ℕ

@@ -4,7 +4,7 @@ use mathlib.Core.Path.{_≡_, refl, sym, ap, _∙_}
 use mathlib.Core.Logic.{_⊎_, inl, inr, _≢_, ⊎-elim}
 use mathlib.Core.Bool.{Bool, true, false, cond, _&&_}
 use mathlib.Core.Option.{some}
-use mathlib.Core.List.{List, [], _∷_, _++_, List·Memᴰ, List·Memᴰ·head, List·Memᴰ·tail, List·Memᴰ·not-nil, List·Memᴰ·cases-cons, Memᴰ·append-right}
+use mathlib.Core.List.{List, [], _∷_, _++_, List·Memᴰ, List·Memᴰ·head, List·Memᴰ·tail, List·Memᴰ·not-nil, List·Memᴰ·cases-cons, Memᴰ·append-left, Memᴰ·append-right}
 use native.Mathlib.Omega.{arith}
 use native.Mathlib.Decide.{decLe}
 use lib.ListN.{length}
@@ -24,7 +24,7 @@ use Rattle.demand2_collect.specs.Image.{not-both}
 use Rattle.collect_laws.specs.Source.{Leads, Preceded, IsSource, eligible-file, file-eligible}
 use Rattle.demand2.specs.Store.{same-area}
 use Rattle.demand2_collect.specs.Collect.{AfterCollect, collect}
-use Rattle.collect_turns.specs.Words.{TakesTurns, sameArea, Spread}
+use Rattle.collect_turns.specs.Words.{TakesTurns, sameArea, Spread, FirstLeast}
 use Rattle.collect_turns.specs.Order.{precedes-is}
 
 -- ---- the least of some areas
@@ -51,22 +51,31 @@ module _ (image : Bytes) (es : List Descriptor) (tally : Descriptor → ℕ)
   by-tally : (d e : Descriptor) → List·Memᴰ d es → List·Memᴰ e es → precedes (countOf image d) (countOf image e) ≡ ltb (tally d) (tally e)
   by-tally d e m n = rw (← counts d m, ← counts e n) (precedes-is (tally d) (tally e) (close d e m n) (close e d n m))
 
-  -- the source is one of the least: the other case of the rule, that each is preceded, does not arise
-  pub source-least : (s : Descriptor) → IsSource image es s → (e : Descriptor) → List·Memᴰ e es → tally s ≤ tally e
-  source-least s c e m = ⊎-elim (λ l. leads (l .0)) (λ p. absurd (all-preceded (p .0))) (c .chosen)
+  -- the source is the first of the least: the other case of the rule, that each is preceded, does not arise
+  pub source-least : (s : Descriptor) → IsSource image es s → FirstLeast tally es s
+  source-least s c = ⊎-elim (λ l. leads (l .0) (l .1)) (λ p. absurd (all-preceded (p .0))) (c .chosen)
     where
       there : List·Memᴰ s es
       there = rw (c .split) (Memᴰ·append-right (c .before) (List·Memᴰ·head refl))
 
-      leads : Leads image es s → tally s ≤ tally e
-      leads l = ltb-false (tally e) (tally s) (sym (by-tally e s m there) ∙ l e m)
+      less : (d : Descriptor) → List·Memᴰ d es → (p : Preceded image es d) → tally (p .0) < tally d
+      less d m p = ltb-true (tally (p .0)) (tally d) (sym (by-tally (p .0) d (p .1) m) ∙ p .2)
+
+      leads : Leads image es s → ((d : Descriptor) → List·Memᴰ d (c .before) → Preceded image es d) → FirstLeast tally es s
+      leads l passed =
+          let least : (d : Descriptor) → List·Memᴰ d es → tally s ≤ tally d = λ d m. ltb-false (tally d) (tally s) (sym (by-tally d s m there) ∙ l d m) in
+          record {
+            before = c .before;
+            behind = c .behind;
+            split = c .split;
+            least = least;
+            first = λ d m.
+                let p = passed d m in
+                omega (arith, less d (rw (c .split) (Memᴰ·append-left (s ∷ c .behind) m)) p, least (p .0) (p .1));
+          }
 
       all-preceded : ((d : Descriptor) → List·Memᴰ d es → Preceded image es d) → ⊥
-      all-preceded p =
-          let m = least-of tally es e m in
-          let q = p (m .0) (m .1) in
-          let l = ltb-true (tally (q .0)) (tally (m .0)) (sym (by-tally (q .0) (m .0) (q .1) (m .1)) ∙ q .2) in
-          omega (arith, m .2 (q .0) (q .1))
+      all-preceded p = let m = least-of tally es s there in let q = p (m .0) (m .1) in omega (arith, less (m .0) (m .1) q, m .2 (q .0) (q .1))
 
 -- ---- one area more often collected
 
@@ -146,7 +155,7 @@ module _ (image image′ : Bytes) (ds : List Descriptor) (a : AfterCollect image
   count-raised = ap collectionCount (a .emptied) ∙ header-count (s .length) (nextCount (countOf image s)) scratchId _
 
   module _ (k : ℕ) (tally : Descriptor → ℕ) (some-room : 1 ≤ k) (in-order : k ≤ 127) (p : Spread k tally image ds t) where
-    least : (e : Descriptor) → List·Memᴰ e es → tally s ≤ tally e
+    least : FirstLeast tally es s
     least = source-least image es tally (λ d m. p .counts d (inr m)) (λ d e m n. omega (arith, p .close d e m n)) s (a .is-source)
 
     raised-counts : (d : Descriptor) → TakesTurns image′ ds s d → raised s tally d % 256 ≡ countOf image′ d
@@ -183,7 +192,7 @@ module _ (image image′ : Bytes) (ds : List Descriptor) (a : AfterCollect image
 
         scratch-above : (d : Descriptor) → (d ≡ t) ⊎ (List·Memᴰ d es × (d ≢ s)) → tally s + 1 ≤ raised s tally d + k
         scratch-above d (inl x) = rw (at-scratch d x) (omega (arith, p .below s source-there))
-        scratch-above d (inr x) = rw (raised-other s tally d (x .1)) (omega (arith, least d (x .0)))
+        scratch-above d (inr x) = rw (raised-other s tally d (x .1)) (omega (arith, least .least d (x .0)))
 
         scratch-below : (d : Descriptor) → (d ≡ t) ⊎ (List·Memᴰ d es × (d ≢ s)) → raised s tally d < tally s + 1 + k
         scratch-below d (inl x) = rw (at-scratch d x) (omega (arith, p .above s source-there))

@@ -8,7 +8,7 @@ use mathlib.Core.Path.{_≡_}
 use mathlib.Core.Logic.{_⊎_}
 use mathlib.Core.Bool.{Bool, cond, _&&_}
 use mathlib.Core.Option.{some}
-use mathlib.Core.List.{List, [], _∷_, List·Memᴰ}
+use mathlib.Core.List.{List, [], _∷_, _++_, List·Memᴰ}
 use lib.ListN.{take}
 use lib.Dec.{eqb}
 use Rattle.format.specs.Bytes.{Bytes}
@@ -55,7 +55,15 @@ pub record Spread (k : ℕ) (tally : Descriptor → ℕ) (image : Bytes) (ds : L
   pub above : (d : Descriptor) → List·Memᴰ d (eligible (fileAreas image ds) t) → tally t ≤ tally d + k
   pub below : (d : Descriptor) → List·Memᴰ d (eligible (fileAreas image ds) t) → tally d < tally t + k
 
--- ---- the theorem
+-- ---- the theorems
+
+-- Of the eligible areas es s has the least tally, and it is the first that has
+pub record FirstLeast (tally : Descriptor → ℕ) (es : List Descriptor) (s : Descriptor) : Type 0 where
+  pub before : List Descriptor
+  pub behind : List Descriptor
+  pub split : es ≡ before ++ (s ∷ behind)
+  pub least : (d : Descriptor) → List·Memᴰ d es → tally s ≤ tally d
+  pub first : (d : Descriptor) → List·Memᴰ d before → tally s < tally d
 
 -- After a run that began with tallies so far apart, of at most 127
 pub record Fair (k : ℕ) (tally : Descriptor → ℕ) (image image′ : Bytes) (ds : List Descriptor) (t : Descriptor) (l : List Descriptor) : Type 0 where

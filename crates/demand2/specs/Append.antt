@@ -10,6 +10,7 @@ use lib.ListN.{length, take, drop}
 use lib.Dec.{eqb, ltb, leb, nltb→le, leb→le, le→leb}
 use Rattle.format.specs.Bytes.{Bytes}
 use Rattle.format.specs.Ids.{NONE, firstFileId, firstBlockId, rootId, isDirectoryId}
+use Rattle.format.specs.AreaHeader.{areaHeaderSize}
 use Rattle.format.specs.Reading.{areaClean}
 use Rattle.format.specs.Record.{recordSize, recordId}
 use Rattle.format.specs.BlockSize.{greatestBlock}
@@ -41,7 +42,7 @@ use Rattle.calls_laws.specs.Checks.{Passes, passes, mounts}
 use Rattle.calls_laws.specs.Records.{volume-sound}
 use Rattle.calls_laws.specs.Attempt.{attempt-goes}
 use Rattle.demand2.specs.Area.{Whole}
-use Rattle.demand2.specs.Places.{AreaGrown, areas-grown, place-found, Written, all-placed, octets-written, written-areas, written-clean}
+use Rattle.demand2.specs.Places.{AreaGrown, areas-grown, place-found, Written, all-placed, octets-written, written-areas, written-headers, written-clean}
 use Rattle.demand2.specs.Unused.{Unused, block-named, unnamed-unused, named-used, few-named}
 use Rattle.demand2.specs.Added.{same-inode, same-fate, same-lookup}
 use Rattle.demand2.specs.Mounted.{agreed-inodes}
@@ -166,8 +167,9 @@ pub record AfterAppend (image image′ : Bytes) (ds : List Descriptor) (base pat
   pub went : Written ds image (newBlocks image ds file text) image′
   -- so that each area reads as its old records followed by those that went there
   pub areas : (d : Descriptor) → List·Memᴰ d ds → AreaGrown image image′ d (newBlocks image ds file text)
-  -- the file areas are the same, and each is as clean as it was
+  -- the file areas are the same, with the headers that they had, and each is as clean as it was
   pub same-areas : fileAreas image′ ds ≡ fileAreas image ds
+  pub headers : (d : Descriptor) → List·Memᴰ d ds → take areaHeaderSize (areaBytes image′ d) ≡ take areaHeaderSize (areaBytes image d)
   pub clean-after : (d : Descriptor) → List·Memᴰ d ds → areaClean recordSize (areaBytes image′ d) ≡ areaClean recordSize (areaBytes image d)
   -- an image of bytes stays one, for the next call
   pub octets : Octets image → Octets image′
@@ -314,6 +316,7 @@ module _ (image : Bytes) (ds : List Descriptor) (base path text : Bytes) (octets
     went = all-went;
     areas = areas-grown ds (p .described) all-went;
     same-areas = written-areas ds (p .described) all-went;
+    headers = written-headers ds (p .described) all-went;
     clean-after = written-clean ds (p .described) all-went;
     octets = octets-written all-went (each Octets (λ b id previous t k. k .octets));
   }

@@ -7,11 +7,12 @@ use mathlib.Core.Option.{Option, none, some}
 use mathlib.Core.List.{List, [], _∷_, _++_, append-nil, append-assoc, List·Memᴰ·cases-cons, List·Memᴰ·not-nil, List·Memᴰ, List·Memᴰ·head}
 use mathlib.Core.List.{List·Memᴰ·tail, Memᴰ·cast}
 use native.Mathlib.Omega.{arith}
-use lib.ListN.{length}
+use lib.ListN.{length, take}
 use lib.Dec.{T, leb, ltb, leb→le}
 use borrow.Author.Tests.{leb-true, leb-false}
 use Rattle.format.specs.Bytes.{Bytes}
 use Rattle.format.specs.Record.{recordSize}
+use Rattle.format.specs.AreaHeader.{areaHeaderSize}
 use Rattle.format.specs.Reading.{Placed, areaFree, areaClean}
 use Rattle.format_laws.specs.Crc.{Octets}
 use Rattle.volume.specs.Lists.{keep, all, bind}
@@ -216,8 +217,15 @@ octets-written all-written h o = o
 octets-written {image = image} (written {b = b} area f t w rest) h o =
     octets-written rest (λ c m. h c (List·Memᴰ·tail m)) (octets-put image (freePlace image area) b o (h b (List·Memᴰ·head refl)))
 
--- the file areas are those that were, and each is as clean as it was
+-- the file areas are those that were, with the headers that they had, and each is as clean as it was
 module _ (ds : List Descriptor) where
+  pub written-headers : {image image′ : Bytes} {bs : List Bytes} → badDescription image ds ≡ false → Written ds image bs image′
+      → (d : Descriptor) → List·Memᴰ d ds → take areaHeaderSize (areaBytes image′ d) ≡ take areaHeaderSize (areaBytes image d)
+  written-headers described all-written d m = refl
+  written-headers {image} described (written {b = b} area f t w rest) d m =
+      let s = one-stored image ds described area b f w in
+      written-headers (same-described s ∙ described) rest d m ∙ s .headers d m
+
   pub written-areas : {image image′ : Bytes} {bs : List Bytes} → badDescription image ds ≡ false → Written ds image bs image′
       → fileAreas image′ ds ≡ fileAreas image ds
   written-areas described all-written = refl
