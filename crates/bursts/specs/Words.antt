@@ -62,7 +62,9 @@ pub record Few (n : ℕ) (t s : Bytes) : Type 0 where
   pub least : 1 ≤ alteredBits (n * 8) t s
   pub most : alteredBits (n * 8) t s ≤ 3
 
--- the damage to a record of n bytes that is surely caught
+-- the damage to a record of n bytes that is surely caught; beyond the request, and since T-14, a burst from the covered header into the check field
+-- too: the byte that it must alter in front of an inode's length field is the reserved one
 pub data Sure (k : Kind) (n : ℕ) (t s : Bytes) : Type 0 where
   a-burst : Burst n t s → Wholly k n t s → Sure k n t s
+  a-header-burst : Burst n t s → ((p : ℕ) → Altered n t s p → p < k .headerSize * 8) → Sure k n t s
   few-bits : Few n t s → Sure k n t s

@@ -1,4 +1,4 @@
--- A header with another id: the scratch area's when it takes the source's.
+-- The scratch area's header: restored, and with another id when it takes the source's.
 use Prim.Native.Nat.{ℕ, _≤_}
 use mathlib.Core.Path.{_≡_, sym, ap, _∙_}
 use mathlib.Core.Bool.{true, false}
@@ -6,10 +6,12 @@ use mathlib.Core.List.{[], _∷_, _++_, append-assoc}
 use native.Mathlib.Omega.{arith}
 use lib.ListN.{length, take, getD, length-append}
 use lib.Seq.{take-append-seam, getD-append-seam, length-take-le}
-use lib.Dec.{eqb}
+use lib.Dec.{eqb, eqb→eq}
 use Rattle.format.specs.Bytes.{Bytes}
-use Rattle.format.specs.AreaHeader.{areaHeaderSize, areaId, scratchId, validHeader, isFileArea, isScratch}
-use Rattle.format_laws.specs.Header.{valid-same}
+use Rattle.format.specs.AreaHeader.{areaHeaderSize, areaId, collectionCount, scratchId, validHeader, isFileArea, isScratch}
+use Rattle.format.specs.Encoding.{areaHeader}
+use Rattle.format_laws.specs.Crc.{Octets}
+use Rattle.format_laws.specs.Header.{valid-same, valid-written}
 use Rattle.volume_laws.specs.Tests.{true→T, T→true, and-T}
 
 -- the header of an area with another id, its last byte
@@ -53,3 +55,11 @@ module _ (area : Bytes) (id : ℕ) (long : areaHeaderSize ≤ length area) where
       T→true {b = validHeader n area}
           (and-T (validHeader n area) (eqb (areaId area) scratchId) (true→T s) .0),
     )
+
+-- "its header restored": the header of a scratch area is the one that would be written anew (T-14)
+pub restored-anew : (n : ℕ) (area : Bytes) → Octets area → areaHeaderSize ≤ length area → isScratch n area ≡ true
+    → take areaHeaderSize area ≡ areaHeader n (collectionCount area) scratchId
+unfolding isScratch
+restored-anew n area o long s =
+    let t = and-T (validHeader n area) (eqb (areaId area) scratchId) (true→T s) in
+    valid-written area o n long (T→true (t .0)) ∙ ap (areaHeader n (collectionCount area)) (eqb→eq (areaId area) scratchId (t .1))

@@ -1,12 +1,12 @@
 -- What the demands say of some small volumes: each field is an instance of the field of a theorem that its comment names, or of a sentence of
 -- document 01, by computation. Each edit of a definition in tests/definitions, which would bring stale data back or break a promise, makes one of
 -- them false, and with it the theorem.
-use Prim.Native.Nat.{_+_, _*_}
+use Prim.Native.Nat.{ℕ, _+_, _*_}
 use mathlib.Core.Path.{_≡_, refl}
-use mathlib.Core.Bool.{true}
+use mathlib.Core.Bool.{true, false}
 use mathlib.Core.List.{List, [], _∷_}
-use mathlib.Core.Option.{some}
-use lib.ListN.{set, replicate}
+use mathlib.Core.Option.{Option, some}
+use lib.ListN.{length, take, set, replicate}
 use lib.Dec.{leb}
 use Rattle.format.specs.Bytes.{Bytes, le16, le32}
 use Rattle.format.specs.Crc.{crcBit, crcByte, crcOver, check}
@@ -41,6 +41,7 @@ use Rattle.calls.specs.Collect.{collecting, collectOf, imageCollected}
 use Rattle.calls.specs.Areas.{areaBytes}
 use Rattle.calls.specs.Mount.{bytesOf, recordsOf}
 use Rattle.calls.specs.Lookup.{resolve}
+use Rattle.calls.specs.declared.Descriptor.{Descriptor}
 use Rattle.calls.specs.Read.{given, readGiven, give, giveBlocks}
 use Rattle.volume.specs.View.{byBytes}
 use Rattle.volume.specs.Counting.{inodeOf}
@@ -48,8 +49,13 @@ use Rattle.volume.specs.Fate.{orphan}
 use Rattle.volume.specs.Tree.{absent}
 use Rattle.volume.specs.Contents.{textOf, headersFrom}
 use Rattle.demand_cases.specs.Story.{directory, fileInIt, text, image₀, image₁, image₂, image₃, image₄, image₅, image₆}
-use Rattle.demand_cases.specs.Volumes.{holding, area₀, two, three, rootRecord, file, other, a, b, slash}
+use Rattle.demand_cases.specs.Volumes.{holding, area₀, area₁, area₂, area₃, two, three, rootRecord, file, other, a, b, slash}
 use Rattle.demand_cases.specs.Volumes.{oneByte, deleted, torn, orphaned, olderLast, usedScratch, clashing, twoFiles, firstHit, twins, looping}
+use Rattle.demand_cases.specs.Volumes.{reservedInode, reservedArea, reservedScratch, counted}
+
+-- the source among areas of these counts
+abbrev sourceIn : List ℕ → Option Descriptor
+sourceIn counts = sourceOf (counted counts) (take (length counts) (area₀ ∷ area₁ ∷ area₂ ∷ [])) area₃
 
 pub record Cases : Type 0 where
   -- AfterFormat.records
@@ -82,6 +88,16 @@ pub record Cases : Type 0 where
   pub collect-of-clashing : resolve (imageCollected clashing three) three [] (slash a) ≡ resolve clashing three [] (slash a)
   -- TwoGreatest.two-fit, of an odd length: rounded up, two would not fit either
   pub two-greatest-fit : leb (areaHeaderSize + 2 * (block .headerSize + greatestBlock 129)) 129 ≡ true
+  -- T-14: "Records and area headers whose reserved byte isn't 0 are no longer acceptable or valid"
+  pub reserved-inode-skipped : recordSize reservedInode ≡ 0
+  pub reserved-area-passed-over : fileAreas reservedArea two ≡ []
+  pub reserved-scratch-passed-over : scratchAreas reservedScratch two ≡ []
+  -- T-14, IsSource: 255 precedes 0, and 254 both; of 0 and 128 neither precedes the other; of equal counts neither
+  pub unpreceded-source : sourceIn (1 ∷ 0 ∷ []) ∷ sourceIn (0 ∷ 255 ∷ []) ∷ sourceIn (255 ∷ 0 ∷ []) ∷ sourceIn (0 ∷ 255 ∷ 254 ∷ []) ∷ []
+      ≡ some area₁ ∷ some area₁ ∷ some area₀ ∷ some area₂ ∷ []
+  pub half-way : precedes 0 128 ∷ precedes 128 0 ∷ precedes 7 7 ∷ precedes 0 127 ∷ precedes 127 0 ∷ [] ≡ false ∷ false ∷ false ∷ true ∷ false ∷ []
+  -- of 0, 100 and 200 each is preceded: the first
+  pub each-preceded : sourceIn (0 ∷ 100 ∷ 200 ∷ []) ∷ sourceIn (100 ∷ 200 ∷ 0 ∷ []) ∷ [] ≡ some area₀ ∷ some area₀ ∷ []
   -- the hypotheses of each theorem can be met: format, a directory, a file in it, two bytes appended, the directory unlinked, a collection
   pub accepted : formatNumber image₀ two ∷ createOf image₁ two [] directory 0 .number ∷ createOf image₂ two [] fileInIt 1 .number
       ∷ appendOf image₃ two [] fileInIt text ∷ unlinkOf image₄ two [] directory ∷ collectOf image₅ two ∷ mountNumber image₆ two ∷ []
@@ -89,7 +105,7 @@ pub record Cases : Type 0 where
 
 pub cases : Cases
 unfolding
-    image₀ image₁ image₂ image₃ image₄ image₅ image₆ holding oneByte deleted torn orphaned olderLast usedScratch clashing twoFiles firstHit twins looping resolve readGiven give giveBlocks textOf
+    image₀ image₁ image₂ image₃ image₄ image₅ image₆ holding oneByte deleted torn orphaned olderLast usedScratch clashing twoFiles firstHit twins looping reservedInode reservedArea reservedScratch counted resolve readGiven give giveBlocks textOf
     headersFrom areaHeader inodeBytes blockBytes sealed inodeFront blockFront le16 le32 crcBit crcByte crcOver check isDirectoryId isFileId
     isInodeId isBlockId recordSize nameGood inodeRule previousRule blockRule inodeRules blockRules checkRight wellFormed acceptable magicsRight
     validHeader isScratch isFileArea skip parts placed erasedEnd freeSize damagedBytes damaged areaParts areaRecords areaDamage areaFree areaClean
@@ -118,5 +134,11 @@ cases = record {
   collect-of-used-scratch = refl;
   collect-of-clashing = refl;
   two-greatest-fit = refl;
+  reserved-inode-skipped = refl;
+  reserved-area-passed-over = refl;
+  reserved-scratch-passed-over = refl;
+  unpreceded-source = refl;
+  half-way = refl;
+  each-preceded = refl;
   accepted = refl;
 }

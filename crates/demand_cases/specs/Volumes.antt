@@ -5,7 +5,7 @@ use lib.ListN.{length, set, replicate}
 use Rattle.format.specs.Bytes.{Bytes}
 use Rattle.format.specs.Ids.{NONE}
 use Rattle.format.specs.Reading.{ERASED}
-use Rattle.format.specs.Encoding.{inodeBytes, blockBytes, areaHeader}
+use Rattle.format.specs.Encoding.{inodeFront, sealed, inodeBytes, blockBytes, areaHeader}
 use Rattle.calls.specs.declared.Descriptor.{Descriptor}
 
 -- an area with a collection count and an id: records one behind the other, and then free space
@@ -20,6 +20,9 @@ area₁ = record { offset = 160; length = 160 }
 
 abbrev pub area₂ : Descriptor
 area₂ = record { offset = 320; length = 160 }
+
+abbrev pub area₃ : Descriptor
+area₃ = record { offset = 480; length = 160 }
 
 -- a file area and scratch, and two file areas and scratch
 abbrev pub two : List Descriptor
@@ -89,6 +92,24 @@ firstHit = set twoFiles 61 200
 -- two files of one name
 unfoldable pub twins : Bytes
 twins = holding 0 0 (rootRecord ++ (inodeBytes file 0 0 a ++ inodeBytes other 0 0 a)) ++ holding 0 255 []
+
+-- ---- reserved bytes and counts (T-14)
+
+-- the file a with a reserved byte of 1, and a right check
+unfoldable pub reservedInode : Bytes
+reservedInode = sealed (set (inodeFront file 0 0 1) 16 1) a
+
+-- a reserved byte of 1 in the header of the file area, and in that of scratch
+unfoldable pub reservedArea : Bytes
+reservedArea = set oneByte 22 1
+
+unfoldable pub reservedScratch : Bytes
+reservedScratch = set oneByte 182 1
+
+-- empty areas of these counts
+unfoldable pub counted : List ℕ → Bytes
+counted [] = []
+counted (n ∷ l) = holding n 0 [] ++ counted l
 
 -- the directories 1 and 2, each below the other, and a file in one
 unfoldable pub looping : Bytes

@@ -10,7 +10,8 @@ use borrow.Author.Tests.{leb-true, le-leb, lt-leb, eqb-true, eq-eqb}
 use Rattle.format.specs.Bytes.{Bytes, byteAt, le16, le32}
 use Rattle.format.specs.Crc.{check}
 use Rattle.format.specs.Record.{Kind, inode, block, checkRight, wellFormed, declaredSize, acceptable, recordSize}
-use Rattle.format_laws.specs.Bytes.{same-byte, same-le16, same-take, same-long, take-le32}
+use Rattle.format.specs.Record.{recordId, recordLink, inodeReserved, nameLength, nameGood, inodeRule, inodeRules}
+use Rattle.format_laws.specs.Bytes.{same-byte, same-le16, same-take, same-long, take-byte, take-le32}
 
 pub and-left : (a b : Bool) → (a && b) ≡ true → a ≡ true
 and-left true b e = refl
@@ -75,6 +76,16 @@ module _ (k : Kind) (b : Bytes) (w : wellFormed k b ≡ true) where
   pub formed-check : le16 b (k .checkOffset) ≡ check (take (k .checkOffset) b) (drop (k .headerSize) b)
   unfolding wellFormed checkRight
   formed-check = eqb-true _ _ (and-right (eqb (le32 b 0) (k .magic) && k .rules b) (checkRight k b) w)
+
+-- T-14: the reserved byte of an acceptable inode is 0
+pub inode-reserved : (t : Bytes) → acceptable inode t ≡ true → inodeReserved t ≡ 0
+unfolding inodeRules
+inode-reserved t a =
+    let b = take (declaredSize inode t) t in
+    let rule = inodeRule (recordId b) (recordLink b) (nameLength b) in
+    let r = formed-rules inode b (kind-formed inode t a) in
+    let z = and-left (eqb (inodeReserved b) 0) rule (and-left (eqb (inodeReserved b) 0 && rule) (nameGood (drop 20 b)) r) in
+    sym (take-byte (declaredSize inode t) t 16 (omega arith)) ∙ eqb-true _ _ z
 
 module _ (k : Kind) (lk : LawfulKind k) (t : Bytes) (a : acceptable k t ≡ true) where
   pub kind-magic : le32 t 0 ≡ k .magic
