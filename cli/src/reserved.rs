@@ -1,5 +1,5 @@
 //! Hints at reserved bytes that are not 0. Since version 0.4.0 an area with such a header is passed
-//! over, and such a record of an inode is not acceptable; versions before did not look at the byte.
+//! over, and such a record of an inode is not acceptable; versions before took any byte there.
 //!
 //! A hint is from the bytes alone and states nothing of the volume: what it is about may lie in a
 //! file, or belong to another volume. That is for whoever reads it to say.
@@ -17,7 +17,7 @@ const SHOWN: usize = 16;
 const ADVICE: &str =
     "A hint is from the bytes alone, and no call confirms it. If this is a part of the volume, \
      write nothing to the image: a volume that is used without one of its parts reads wrong, and \
-     writes to it go wrong. Versions before 0.4.0 do not look at that byte: where 0.3.1 mounts the \
+     writes to it go wrong. Versions before 0.4.0 take any byte there: where 0.3.1 mounts the \
      volume, its `nffs export` copies the files out, and `nffs import` stores them in a newly \
      formatted image.";
 

@@ -257,11 +257,17 @@ fn no_hint_where_there_is_nothing() {
         other[8192 + at] = 1;
         clean(other, 0);
     }
-    // no area header of this version at all, and a record that ends behind its area
+    // a record that ends behind its area
     let mut last = image(&[]);
     let end = last.len() - 20;
     last[end..].copy_from_slice(&inode_with(1, FILE, 0, 0, b"dose")[..20]);
     clean(last, 3);
+    // scratch is not read
+    let mut scratch = image(&[]);
+    scratch[24..48].copy_from_slice(&inode_with(1, FILE, 0, 0, b"dose"));
+    clean(scratch.clone(), 0);
+    scratch[ROOT] = 0;
+    clean(scratch, 1);
 }
 
 #[test]
