@@ -173,9 +173,9 @@ NFFS_ANSWERS uint32_t nffs_unlink(uint8_t *image, size_t image_length, const nff
                      const uint8_t *base, size_t base_length, const uint8_t *path, size_t path_length);
 
 /* Copies what counts in one file area into scratch and erases that area, which becomes scratch: superseded records leave room, deleted
-   ones as soon as nothing else names them, and the damage of that area goes. One call collects one area: of those as long as scratch the
-   first that none of them precedes, by the counts in their headers, in which 255 precedes 0; else the first (docs/LINKING.md, "Plan the
-   areas"). Checks in order: 1 to 7, 17. */
+   ones as soon as nothing else names them, and the damage of that area goes. One call collects one area: of the file areas as long as
+   scratch the first that none of them precedes, by the counts in their headers, where 255 precedes 0; if there is none, the first
+   (docs/LINKING.md, "Plan the areas"). Checks in order: 1 to 7, 17. */
 NFFS_ANSWERS uint32_t nffs_collect(uint8_t *image, size_t image_length, const nffs_area *areas, size_t areas_count);
 
 #ifdef __cplusplus

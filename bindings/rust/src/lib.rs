@@ -367,9 +367,9 @@ pub fn unlink(image: &mut [u8], areas: &[Area], base: &[u8], path: &[u8]) -> Res
 
 /// Copies what counts in one file area into scratch and erases that area, which becomes scratch:
 /// superseded records leave room, deleted ones as soon as nothing else names them, and the damage
-/// of that area goes. One call collects one area: of those as long as scratch the first that none
-/// of them precedes, by the counts in their headers, in which 255 precedes 0; else the first
-/// (`docs/LINKING.md`, "Plan the areas").
+/// of that area goes. One call collects one area: of the file areas as long as scratch the first
+/// that none of them precedes, by the counts in their headers, where 255 precedes 0; if there is
+/// none, the first (`docs/LINKING.md`, "Plan the areas").
 ///
 /// Checks in order: 1 to 7, 17.
 ///

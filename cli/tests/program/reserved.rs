@@ -285,19 +285,41 @@ fn a_file_may_hold_anything() {
 #[test]
 fn many_are_counted() {
     let folder = Folder::new("reserved_many");
-    let mut areas = Vec::new();
-    for id in 0..20 {
-        let mut area = [header(id, 128), vec![0xff; 104]].concat();
+    let areas = |number: u8| -> Vec<u8> {
+        let mut area = [header(1, 128), vec![0xff; 104]].concat();
         area[22] = 1;
-        areas.extend(area);
-    }
-    let records: Vec<_> = (0..17).map(|id| inode_with(1, FILE + id, 0, 0, b"a")).collect();
-    folder.write("image", [with_root(1, &records), areas].concat());
+        area.repeat(usize::from(number))
+    };
+    // the root is the last of the records, and is told first
+    let mut records: Vec<_> = (0..17).map(|id| inode_with(1, FILE + id, 0, 0, b"a")).collect();
+    records.push(inode_with(1, 0, 0, NONE, b""));
+    let mut rootless = image(&records);
+    rootless[ROOT] = 0;
+    folder.write("image", [rootless, areas(20)].concat());
     let said = folder.refused(&["report", "image", "-q"], b"");
+    let root = record_hint("a record of the root", ROOT + 20 + 17 * 21, 1);
+    let first = said.lines().nth(17).unwrap_or_default();
+    assert_eq!(format!("{first}\n"), format!("nffs: h{root}"), "{said}");
     assert!(said.contains("hint: 4 more such headers (`nffs check IMAGE --json` has all)\n"));
     let last = "hint: 2 more such records (`nffs check IMAGE --json` has all)";
     assert!(said.contains(&(last.to_string() + ADVICE)), "{said}");
     assert_eq!(hints(&said), 16 + 1 + 16 + 1);
     let told = fields(&folder, &[], 1);
     assert_eq!(told.matches('(').count(), 20 + 18, "{told}");
+
+    folder.write("image", [image(&[]), areas(16)].concat());
+    assert_eq!(hints(&folder.bad(&["areas", "image", "--areas", "0:0"], b"", 2)), 16);
+}
+
+#[test]
+fn what_is_listed_is_looked_at_from_its_start() {
+    let folder = Folder::new("reserved_listed");
+    // the first reaches over the second, and only the second is listed
+    let mut bytes = image(&[]);
+    bytes[..24].copy_from_slice(&header(255, 8192));
+    (bytes[22], bytes[4096 + 22]) = (1, 2);
+    folder.write("image", &bytes);
+    let said = folder.refused(&["report", "image", "--areas", "4096:4096"], b"");
+    assert!(said.contains(&area_hint("file area 0", 4096, 2)[..40]) && hints(&said) == 2, "{said}");
+    assert_eq!(hints(&folder.bad(&["report", "image"], b"", 2)), 1);
 }
