@@ -12,7 +12,7 @@ use area_list::area_end;
 use byte_fields::load32;
 use record_read::record_size;
 
-// The length of an area's header, and where it holds the area's length, version, collection count and id.
+// The length of an area's header, and where it holds the area's length, version, collection count, reserved byte and id.
 pub const HEADER_SIZE: usize = 24;
 
 pub const LENGTH_AT: usize = 16;
@@ -20,6 +20,8 @@ pub const LENGTH_AT: usize = 16;
 const VERSION_AT: usize = 20;
 
 pub const COUNT_AT: usize = 21;
+
+const RESERVED_AT: usize = 22;
 
 pub const ID_AT: usize = 23;
 
@@ -77,7 +79,10 @@ fn valid_header(area: &[u8], described: u32) -> bool
     if load32(area, LENGTH_AT) != described {
         return false;
     }
-    area[VERSION_AT] == 0
+    if area[VERSION_AT] != 0 {
+        return false;
+    }
+    area[RESERVED_AT] == 0
 }
 
 // Whether a good area of an image has a valid header.

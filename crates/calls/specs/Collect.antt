@@ -1,16 +1,16 @@
 -- Collect. Document 01, "Collect"; source document 004 on garbage collection.
-use Prim.Native.Nat.{ℕ, _+_, _%_}
+use Prim.Native.Nat.{ℕ, _+_, _-_, _%_}
 use mathlib.Core.List.{List, [], _∷_, _++_}
 use mathlib.Core.Bool.{Bool, cond, not, _&&_, _||_}
 use mathlib.Core.Option.{Option, none, some}
 use lib.ListN.{length, take, drop}
-use lib.Dec.{eqb, ltb}
+use lib.Dec.{eqb, leb}
 use Rattle.format.specs.Bytes.{Bytes}
 use Rattle.format.specs.Record.{recordId, recordLink}
 use Rattle.format.specs.AreaHeader.{areaHeaderSize, areaId, collectionCount, scratchId}
 use Rattle.format.specs.Reading.{ERASED}
 use Rattle.format.specs.Encoding.{areaHeader}
-use Rattle.volume.specs.Lists.{keep, all, has, same}
+use Rattle.volume.specs.Lists.{keep, all, first, has, same}
 use Rattle.volume.specs.View.{byBytes}
 use Rattle.volume.specs.Counting.{Volume, inodeOf, blockOf}
 use Rattle.volume.specs.Fate.{isDead, fateOf, blockDead}
@@ -31,18 +31,17 @@ eligible fs scratch = keep (λ d. eqb (d .length) (scratch .length)) fs
 abbrev pub countOf : Bytes → Descriptor → ℕ
 countOf image d = collectionCount (areaBytes image d)
 
--- one count is lower than another
+-- T-14: "count a precedes count b when (b - a) taken modulo 256 is 1 to 127"; a count is a byte
 unfoldable pub precedes : ℕ → ℕ → Bool
-precedes a b = ltb a b
+precedes a b = let n = (b + 256 - a) % 256 in leb 1 n && leb n 127
 
--- "lowest collection count, first among equals": the first that none precedes
-unfoldable pub firstLowest : Bytes → List Descriptor → List Descriptor → Option Descriptor
-firstLowest image all-of [] = none
-firstLowest image all-of (d ∷ ds) =
-    cond (all (λ e. not (precedes (countOf image e) (countOf image d))) all-of) (some d) (firstLowest image all-of ds)
+-- none of some areas precedes the area d
+unfoldable pub unpreceded : Bytes → List Descriptor → Descriptor → Bool
+unpreceded image es d = all (λ e. not (precedes (countOf image e) (countOf image d))) es
 
+-- T-14: "the first eligible one .., in descriptor order, that no eligible area precedes; if there is none, the first eligible one"
 unfoldable pub sourceOf : Bytes → List Descriptor → Descriptor → Option Descriptor
-sourceOf image fs scratch = let es = eligible fs scratch in firstLowest image es es
+sourceOf image fs scratch = let es = eligible fs scratch in first (keep (unpreceded image es) es ++ es)
 
 -- ---- the copies
 

@@ -6,12 +6,13 @@ use mathlib.Core.List.{List, _∷_, List·Memᴰ, List·Memᴰ·head, List·Mem�
 use native.Mathlib.Omega.{arith}
 use lib.ListN.{length, take}
 use lib.Dec.{T, leb, ltb, leb→le}
-use Rattle.format.specs.Bytes.{Bytes, le32}
-use Rattle.format.specs.AreaHeader.{areaHeaderSize, magicsRight, validHeader, isScratch, isFileArea, areaId}
+use Rattle.format.specs.Bytes.{Bytes}
+use Rattle.format.specs.AreaHeader.{areaHeaderSize, validHeader, isScratch, isFileArea, areaId}
 use Rattle.volume.specs.Lists.{all}
 use Rattle.volume.specs.View.{byBytes}
 use Rattle.volume.specs.Counting.{allAgree}
-use Rattle.format_laws.specs.Bytes.{same-byte, same-le32}
+use Rattle.format_laws.specs.Bytes.{same-byte, same-take}
+use Rattle.format_laws.specs.Header.{valid-same}
 use Rattle.volume_laws.specs.Tests.{true→T, not-is-false, or-is-false, and-T}
 use Rattle.volume_laws.specs.Lists.{all-mem}
 use Rattle.calls.specs.Areas.{areaEnd, shortestArea, largestImage, mostAreas, goodArea, disjoint, allDisjoint, goodAreas, fileAreas}
@@ -110,22 +111,11 @@ module _ (image : Bytes) (ds : List Descriptor) (described : badDescription imag
 
 -- A descriptor's kind and an area's id turn only on the header's bytes.
 module _ (n : ℕ) (h k : Bytes) (same : take areaHeaderSize h ≡ take areaHeaderSize k) where
-  word : (i : ℕ) → i + 4 ≤ 24 → le32 h i ≡ le32 k i
-  word = same-le32 areaHeaderSize h k same
-
   pub header-id : areaId h ≡ areaId k
   header-id = same-byte areaHeaderSize h k same 23 (omega arith)
 
   header-valid : validHeader n h ≡ validHeader n k
-  unfolding validHeader magicsRight
-  header-valid = rw (
-    word 0 (omega arith),
-    word 4 (omega arith),
-    word 8 (omega arith),
-    word 12 (omega arith),
-    word 16 (omega arith),
-    same-byte areaHeaderSize h k same 20 (omega arith),
-  )
+  header-valid = valid-same n h k (same-take areaHeaderSize h k same 23 (omega arith))
 
   pub header-file : isFileArea n h ≡ isFileArea n k
   unfolding isFileArea

@@ -8,8 +8,8 @@ use lib.ListN.{length, take, getD, length-append}
 use lib.Seq.{take-append-seam, getD-append-seam, length-take-le}
 use lib.Dec.{eqb}
 use Rattle.format.specs.Bytes.{Bytes}
-use Rattle.format.specs.AreaHeader.{areaHeaderSize, areaId, scratchId, magicsRight, validHeader, isFileArea, isScratch}
-use Rattle.format_laws.specs.Bytes.{same-byte, same-le32}
+use Rattle.format.specs.AreaHeader.{areaHeaderSize, areaId, scratchId, validHeader, isFileArea, isScratch}
+use Rattle.format_laws.specs.Header.{valid-same}
 use Rattle.volume_laws.specs.Tests.{true→T, T→true, and-T}
 
 -- the header of an area with another id, its last byte
@@ -40,17 +40,7 @@ module _ (area : Bytes) (id : ℕ) (long : areaHeaderSize ≤ length area) where
         ∙ getD-append-seam (take 23 area) id rest 0
 
     renamed-valid : (n : ℕ) → validHeader n (headerWithId area id ++ rest) ≡ validHeader n area
-    unfolding validHeader magicsRight
-    renamed-valid n =
-        let word = same-le32 23 (headerWithId area id ++ rest) area renamed-same in
-        rw (
-          word 0 (omega arith),
-          word 4 (omega arith),
-          word 8 (omega arith),
-          word 12 (omega arith),
-          word 16 (omega arith),
-          same-byte 23 (headerWithId area id ++ rest) area renamed-same 20 (omega arith),
-        )
+    renamed-valid n = valid-same n (headerWithId area id ++ rest) area renamed-same
 
     -- scratch with the id of a file area is a file area
     pub renamed-file : (n : ℕ) → isScratch n area ≡ true → eqb id scratchId ≡ false → isFileArea n (headerWithId area id ++ rest) ≡ true

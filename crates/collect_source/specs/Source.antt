@@ -1,9 +1,9 @@
--- The source area found by one test of each area. Document 01, "Collect".
+-- The source area found by tests of one area after the other. Document 02, T-14.
 use Prim.Native.Nat.{ℕ, _+_, _≤_, _<_}
 use mathlib.Core.Path.{_≡_, refl, sym, _∙_}
 use mathlib.Core.Bool.{Bool, true, false, cond, not, _&&_}
 use mathlib.Core.Option.{Option, none, some}
-use mathlib.Core.List.{List, [], _∷_}
+use mathlib.Core.List.{List, [], _∷_, _++_}
 use native.Mathlib.Omega.{arith}
 use lib.ListN.{length, drop, getD}
 use lib.Seq.{getD-take, getD-drop}
@@ -11,8 +11,9 @@ use lib.Dec.{eqb, ltb}
 use borrow.Author.Tests.{eq-eqb, ne-eqb, lt-ltb, le-ltb}
 use Rattle.format.specs.Bytes.{Bytes, byteAt}
 use Rattle.format.specs.AreaHeader.{areaHeaderSize}
-use Rattle.volume.specs.Lists.{keep, all}
-use Rattle.calls.specs.Collect.{eligible, countOf, precedes, firstLowest, sourceOf}
+use Rattle.volume.specs.Lists.{keep, all, first}
+use Rattle.volume_laws.specs.Lists.{keep-keep, keep-cong}
+use Rattle.calls.specs.Collect.{eligible, countOf, precedes, unpreceded, sourceOf}
 use Rattle.calls.specs.declared.Descriptor.{Descriptor}
 use Rattle.area_list.specs.Described.{areaOf, described, described-step, described-end}
 
@@ -24,55 +25,78 @@ pub record HasCount (image : Bytes) (o r : ℕ) : Type 0 where
 pub count-byte : (image : Bytes) (o n : ℕ) → areaHeaderSize ≤ n → byteAt image (o + 21) ≡ countOf image (areaOf o n)
 count-byte image o n h = sym (getD-take n (drop o image) 21 0 (omega arith) ∙ getD-drop o image 21 0)
 
--- an area of the wanted length whose count precedes another
+-- an area of the wanted length
+abbrev pub asLong : ℕ → Descriptor → Bool
+asLong wanted d = eqb (d .length) wanted
+
+-- one whose count precedes another
 unfoldable pub ahead : Bytes → ℕ → ℕ → Descriptor → Bool
-ahead image wanted count d = eqb (d .length) wanted && precedes (countOf image d) count
+ahead image wanted count d = asLong wanted d && precedes (countOf image d) count
 
 unfoldable pub noneAhead : Bytes → ℕ → ℕ → List Descriptor → Bool
 noneAhead image wanted count fs = all (λ e. not (ahead image wanted count e)) fs
 
 -- one that no other of the wanted length precedes
 unfoldable pub leads : Bytes → ℕ → List Descriptor → Descriptor → Bool
-leads image wanted fs d = eqb (d .length) wanted && noneAhead image wanted (countOf image d) fs
+leads image wanted fs d = asLong wanted d && noneAhead image wanted (countOf image d) fs
 
 -- the area at a place of the list, where there is one
 abbrev pub areaAt : List ℕ → List ℕ → ℕ → Option Descriptor
 areaAt starts spans i = cond (ltb i (length starts)) (some (areaOf (getD starts i 0) (getD spans i 0))) none
 
--- the first area that leads
-unfoldable pub firstLeading : Bytes → ℕ → List Descriptor → List Descriptor → Option Descriptor
-firstLeading image wanted fs [] = none
-firstLeading image wanted fs (d ∷ l) = cond (leads image wanted fs d) (some d) (firstLeading image wanted fs l)
+-- r is the place of the first of the wanted length, whatever the starts
+pub record FirstAsLong (spans : List ℕ) (wanted r : ℕ) : Type 0 where
+  pub is : (starts : List ℕ) → length starts ≡ length spans → areaAt starts spans r ≡ first (keep (asLong wanted) (described starts spans))
 
--- ---- it is the source
+-- ---- the source by these tests
 
-module _ (image : Bytes) (t : Descriptor) where
-  none-eligible : (count : ℕ) (fs : List Descriptor)
-      → all (λ e. not (precedes (countOf image e) count)) (eligible fs t) ≡ noneAhead image (t .length) count fs
+module _ (image : Bytes) (t : Descriptor) (fs : List Descriptor) where
+  none-eligible : (count : ℕ) (gs : List Descriptor)
+      → all (λ e. not (precedes (countOf image e) count)) (eligible gs t) ≡ noneAhead image (t .length) count gs
   unfolding all keep eligible noneAhead ahead
   none-eligible count [] = refl
-  none-eligible count (d ∷ fs) = go (eqb (d .length) (t .length)) (none-eligible count fs)
+  none-eligible count (d ∷ gs) = go (eqb (d .length) (t .length)) (none-eligible count gs)
     where
-      go : (b : Bool) → all (λ e. not (precedes (countOf image e) count)) (eligible fs t) ≡ noneAhead image (t .length) count fs
-          → all (λ e. not (precedes (countOf image e) count)) (cond b (d ∷ eligible fs t) (eligible fs t))
-          ≡ (not (b && precedes (countOf image d) count) && noneAhead image (t .length) count fs)
+      go : (b : Bool) → all (λ e. not (precedes (countOf image e) count)) (eligible gs t) ≡ noneAhead image (t .length) count gs
+          → all (λ e. not (precedes (countOf image e) count)) (cond b (d ∷ eligible gs t) (eligible gs t))
+          ≡ (not (b && precedes (countOf image d) count) && noneAhead image (t .length) count gs)
       go true ih = rw ih
       go false ih = ih
 
-  lowest-leads : (fs gs : List Descriptor) → firstLowest image (eligible fs t) (eligible gs t) ≡ firstLeading image (t .length) fs gs
-  unfolding keep eligible firstLowest firstLeading leads
-  lowest-leads fs [] = refl
-  lowest-leads fs (d ∷ gs) = go (eqb (d .length) (t .length)) (lowest-leads fs gs)
-    where
-      go : (b : Bool) → firstLowest image (eligible fs t) (eligible gs t) ≡ firstLeading image (t .length) fs gs
-          → firstLowest image (eligible fs t) (cond b (d ∷ eligible gs t) (eligible gs t))
-          ≡ cond (b && noneAhead image (t .length) (countOf image d) fs) (some d) (firstLeading image (t .length) fs gs)
-      go true ih = rw (none-eligible (countOf image d) fs, ih)
-      go false ih = ih
+  unpreceded-leads : keep (unpreceded image (eligible fs t)) (eligible fs t) ≡ keep (leads image (t .length) fs) fs
+  unfolding unpreceded eligible leads
+  unpreceded-leads =
+      keep-keep (unpreceded image (eligible fs t)) (asLong (t .length)) fs
+      ∙ keep-cong _ _ fs (λ d m. rw (none-eligible (countOf image d) fs))
 
-  pub source-leads : (fs : List Descriptor) → sourceOf image fs t ≡ firstLeading image (t .length) fs fs
-  unfolding sourceOf
-  source-leads fs = lowest-leads fs fs
+  source-leads : {s : Descriptor} → first (keep (leads image (t .length) fs) fs) ≡ some s → sourceOf image fs t ≡ some s
+  unfolding sourceOf first
+  source-leads {s} q = rw unpreceded-leads (go (keep (leads image (t .length) fs) fs) q)
+    where
+      go : (k : List Descriptor) → first k ≡ some s → first (k ++ eligible fs t) ≡ some s
+      go [] q = let z : _≡_ {A = ℕ} 0 1 = cc in absurd (omega arith)
+      go (d ∷ k) q = q
+
+  source-rest : first (keep (leads image (t .length) fs) fs) ≡ none → sourceOf image fs t ≡ first (keep (asLong (t .length)) fs)
+  unfolding sourceOf first eligible
+  source-rest q = rw unpreceded-leads (go (keep (leads image (t .length) fs) fs) q)
+    where
+      go : (k : List Descriptor) → first k ≡ none → first (k ++ eligible fs t) ≡ first (eligible fs t)
+      go [] q = refl
+      go (d ∷ k) q = let z : _≡_ {A = ℕ} 0 1 = cc in absurd (omega arith)
+
+-- r is the place of the first area that leads: that is the source; where none leads, it is the first as long as scratch
+module _ (image : Bytes) (t : Descriptor) (starts spans : List ℕ) (r : ℕ)
+    (leading : areaAt starts spans r ≡ first (keep (leads image (t .length) (described starts spans)) (described starts spans))) where
+  pub source-here : r < length starts → areaAt starts spans r ≡ sourceOf image (described starts spans) t
+  source-here h =
+      let e : areaAt starts spans r ≡ some (areaOf (getD starts r 0) (getD spans r 0)) = rw (lt-ltb r (length starts) h) in
+      e ∙ sym (source-leads image t (described starts spans) (sym leading ∙ e))
+
+  pub source-else : length starts ≤ r → first (keep (asLong (t .length)) (described starts spans)) ≡ sourceOf image (described starts spans) t
+  source-else h =
+      let e : areaAt starts spans r ≡ none = rw (le-ltb r (length starts) h) in
+      sym (source-rest image t (described starts spans) (sym leading ∙ e))
 
 -- ---- one area tested
 
@@ -95,14 +119,14 @@ module _ (image : Bytes) (wanted : ℕ) (d : Descriptor) where
 
 -- ---- the loops, at i
 
-module _ (image : Bytes) (starts spans : List ℕ) (pairs : length starts ≡ length spans) (wanted i : ℕ) where
+module _ (starts spans : List ℕ) (pairs : length starts ≡ length spans) (i : ℕ) where
   abbrev rest : ℕ → List Descriptor
   rest k = described (drop k starts) (drop k spans)
 
   abbrev here : Descriptor
   here = areaOf (getD starts i 0) (getD spans i 0)
 
-  module _ (count : ℕ) where
+  module _ (image : Bytes) (wanted count : ℕ) where
     pub none-fails : i < length starts → ahead image wanted count here ≡ true → noneAhead image wanted count (rest i) ≡ false
     unfolding noneAhead all
     none-fails h e = rw (described-step starts spans i pairs h, e)
@@ -115,15 +139,16 @@ module _ (image : Bytes) (starts spans : List ℕ) (pairs : length starts ≡ le
     unfolding noneAhead all
     none-ends h = rw (described-end starts spans i h)
 
-  module _ (fs : List Descriptor) where
-    pub first-here : i < length starts → leads image wanted fs here ≡ true → areaAt starts spans i ≡ firstLeading image wanted fs (rest i)
-    unfolding firstLeading
+  -- the first area that passes a test
+  module _ (test : Descriptor → Bool) where
+    pub first-here : i < length starts → test here ≡ true → areaAt starts spans i ≡ first (keep test (rest i))
+    unfolding first keep
     first-here h e = rw (described-step starts spans i pairs h, e, lt-ltb i (length starts) h)
 
-    pub first-later : i < length starts → leads image wanted fs here ≡ false → firstLeading image wanted fs (rest i) ≡ firstLeading image wanted fs (rest (i + 1))
-    unfolding firstLeading
+    pub first-later : i < length starts → test here ≡ false → first (keep test (rest i)) ≡ first (keep test (rest (i + 1)))
+    unfolding keep
     first-later h e = rw (described-step starts spans i pairs h, e)
 
-    pub first-nowhere : length starts ≤ i → areaAt starts spans i ≡ firstLeading image wanted fs (rest i)
-    unfolding firstLeading
+    pub first-nowhere : length starts ≤ i → areaAt starts spans i ≡ first (keep test (rest i))
+    unfolding first keep
     first-nowhere h = rw (described-end starts spans i h, le-ltb i (length starts) h)

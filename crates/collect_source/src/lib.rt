@@ -3,18 +3,21 @@ ghost use mathlib.Core.Path.{_≡_};
 ghost use Prim.Native.Nat.{_+_, _≤_};
 ghost use lib.ListN.{length};
 ghost use Rattle.format.specs.AreaHeader.{areaHeaderSize};
+ghost use Rattle.volume.specs.Lists.{keep, first};
 ghost use Rattle.calls.specs.Collect.{precedes, sourceOf};
 ghost use Rattle.area_list.specs.Described.{areaOf, described};
 ghost use Rattle.area_pass.specs.Listing.{AreasFit};
-ghost use Rattle.collect_source.specs.Source.{HasCount, ahead, noneAhead, leads, areaAt};
+ghost use Rattle.collect_source.specs.Source.{HasCount, ahead, noneAhead, leads, areaAt, FirstAsLong};
 use area_read::COUNT_AT;
+use byte_fields::wide;
 use calls::Descriptor;
 
 // Whether an area of count `a` is collected before one of count `b`.
 fn precedes(a: u8, b: u8) -> bool
     ensures { λ r. ⌜ r ≡ precedes a b ⌝ }
 {
-    a < b
+    let n = (wide(b) + 256 - wide(a)) % 256;
+    1 <= n && n <= 127
 }
 
 // The collection count of the area at `offset`, whatever its length.
@@ -63,12 +66,11 @@ fn leads(image: &[u8], starts: &[u32], spans: &[u32], wanted: u32, offset: u32, 
     none_ahead(image, starts, spans, wanted, count_at(image, offset))
 }
 
-// The place in the list of the source area, or the number of areas where none is as long as scratch.
-pub fn choose_source(image: &[u8], starts: &[u32], spans: &[u32], scratch: Descriptor) -> usize
+// The place in the list of the first area that leads, or the number of areas where none does.
+fn first_leading(image: &[u8], starts: &[u32], spans: &[u32], wanted: u32) -> usize
     requires { ⌜ AreasFit (now image) (now starts) (now spans) ⌝ }
-    ensures { λ r. ⌜ areaAt (now (starts .entry)) (now (spans .entry)) r ≡ sourceOf (now (image .entry)) (described (now (starts .entry)) (now (spans .entry))) scratch ⌝ }
+    ensures { λ r. ⌜ areaAt (now (starts .entry)) (now (spans .entry)) r ≡ first (keep (leads (now (image .entry)) wanted (described (now (starts .entry)) (now (spans .entry)))) (described (now (starts .entry)) (now (spans .entry)))) ⌝ }
 {
-    let wanted = scratch.length;
     let mut i = 0;
     while i < starts.len() {
         if leads(image, starts, spans, wanted, starts[i], spans[i]) {
@@ -77,4 +79,30 @@ pub fn choose_source(image: &[u8], starts: &[u32], spans: &[u32], scratch: Descr
         i += 1;
     }
     i
+}
+
+// The place in the list of the first area of the wanted length, or the number of areas where none is.
+fn first_as_long(spans: &[u32], wanted: u32) -> usize
+    ensures { λ r. ⌜ FirstAsLong (now (spans .entry)) wanted r ⌝ }
+{
+    let mut i = 0;
+    while i < spans.len() {
+        if spans[i] == wanted {
+            return i;
+        }
+        i += 1;
+    }
+    i
+}
+
+// The place in the list of the source area, or the number of areas where none is as long as scratch.
+pub fn choose_source(image: &[u8], starts: &[u32], spans: &[u32], scratch: Descriptor) -> usize
+    requires { ⌜ AreasFit (now image) (now starts) (now spans) ⌝ }
+    ensures { λ r. ⌜ areaAt (now (starts .entry)) (now (spans .entry)) r ≡ sourceOf (now (image .entry)) (described (now (starts .entry)) (now (spans .entry))) scratch ⌝ }
+{
+    let leading = first_leading(image, starts, spans, scratch.length);
+    if leading < starts.len() {
+        return leading;
+    }
+    first_as_long(spans, scratch.length)
 }

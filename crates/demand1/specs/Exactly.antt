@@ -38,10 +38,10 @@ use Rattle.calls.specs.Create.{isRoot, lastName, namesBefore, newInode, createI
 use Rattle.calls.specs.Append.{mostAppended, newBlocks, isBroken, appendTo, appending, appendOf}
 use Rattle.calls.specs.Rewrite.{lastSequence, sequenceOf, rewritePlan, rewriteNumber}
 use Rattle.calls.specs.Unlink.{deletion, unlinkOne, unlinking, unlinkOf}
-use Rattle.calls.specs.Collect.{eligible, countOf, precedes, firstLowest, sourceOf, collectFrom, collectWith, collecting, collectOf}
+use Rattle.calls.specs.Collect.{sourceOf, collectFrom, collectWith, collecting, collectOf}
 use Rattle.calls.specs.declared.Descriptor.{Descriptor}
 use Rattle.calls_laws.specs.Checks.{passes}
-use Rattle.collect_laws.specs.Source.{source-found}
+use Rattle.collect_laws.specs.Source.{source-found, source-none, file-eligible}
 use Rattle.demand2.specs.Store.{freePlace}
 use Rattle.demand1.specs.Table.{Row, _given-when_, Answers, mountRows, walkRows, pathRows, LiveChild, NoRoom, NoRoomLeft}
 use Rattle.demand1.specs.Table.{BadPath, brokenRow, endRow, sourceRow, formatRows, lookupRows, openRows, readRows, createRows, appendRows}
@@ -243,51 +243,6 @@ name-means v d n = go (children byBytes v d n) (λ i m. child-means v d n i .0 (
 
 -- ---- 17
 
--- of some areas one has the lowest count
-lowest-count : (image : Bytes) (es : List Descriptor) (d : Descriptor) → List·Memᴰ d es
-    → (s : Descriptor) × List·Memᴰ s es × ((e : Descriptor) → List·Memᴰ e es → countOf image s ≤ countOf image e)
-lowest-count image (d ∷ []) e m = (d, List·Memᴰ·head refl, λ x k. rw (List·Memᴰ·eq-of-singleton k) (omega arith))
-lowest-count image (d ∷ f ∷ es) e m = go (lowest-count image (f ∷ es) f (List·Memᴰ·head refl))
-  where
-    go : (s : Descriptor) × List·Memᴰ s (f ∷ es) × ((e : Descriptor) → List·Memᴰ e (f ∷ es) → countOf image s ≤ countOf image e)
-        → (s : Descriptor) × List·Memᴰ s (d ∷ f ∷ es) × ((e : Descriptor) → List·Memᴰ e (d ∷ f ∷ es) → countOf image s ≤ countOf image e)
-    go t = at (decLe (countOf image d) (countOf image (t .0)))
-      where
-        same : (x y : Descriptor) → x ≡ y → countOf image y ≤ countOf image x
-        same x y q = rw q (omega arith)
-
-        at : Dec (countOf image d ≤ countOf image (t .0))
-            → (s : Descriptor) × List·Memᴰ s (d ∷ f ∷ es) × ((e : Descriptor) → List·Memᴰ e (d ∷ f ∷ es) → countOf image s ≤ countOf image e)
-        at (yes l) = (d, List·Memᴰ·head refl, λ x k. ⊎-elim (same x d) (λ k. omega (arith, t .2 x k)) (List·Memᴰ·cases-cons k))
-        at (no l) = (t .0, List·Memᴰ·tail (t .1), λ x k. ⊎-elim (λ q. omega (arith, same x d q)) (t .2 x) (List·Memᴰ·cases-cons k))
-
-none-lowest : (image : Bytes) (es ds : List Descriptor) → firstLowest image es ds ≡ none → (s : Descriptor) → List·Memᴰ s ds
-    → all (λ e. not (precedes (countOf image e) (countOf image s))) es ≡ false
-unfolding firstLowest
-none-lowest image es [] q s m = absurd (List·Memᴰ·not-nil m)
-none-lowest image es (d ∷ ds) q s m = go (all (λ e. not (precedes (countOf image e) (countOf image d))) es) refl q (none-lowest image es ds)
-  where
-    go : (b : Bool) → all (λ e. not (precedes (countOf image e) (countOf image d))) es ≡ b → cond b (some d) (firstLowest image es ds) ≡ none
-        → (firstLowest image es ds ≡ none → (s : Descriptor) → List·Memᴰ s ds
-        → all (λ e. not (precedes (countOf image e) (countOf image s))) es ≡ false)
-        → all (λ e. not (precedes (countOf image e) (countOf image s))) es ≡ false
-    go true a q ih = absurd (none-some (sym q))
-    go false a q ih = ⊎-elim (λ z. rw z a) (ih q s) (List·Memᴰ·cases-cons m)
-
--- a source is found where a file area is as long as scratch
-source-none : (image : Bytes) (fs : List Descriptor) (t : Descriptor) → sourceOf image fs t ≡ none → (f : Descriptor) → List·Memᴰ f fs
-    → f .length ≢ t .length
-unfolding sourceOf eligible precedes
-source-none image fs t q f m z =
-    let es = keep (λ d. eqb (d .length) (t .length)) fs in
-    let k : List·Memᴰ f es = mem-keep (λ d. eqb (d .length) (t .length)) fs m (rw z (eqb-refl (t .length))) in
-    let s = lowest-count image es f k in
-    let n = none-lowest image es es q (s .0) (s .1) in
-    let a = mem-all (λ e. not (ltb (countOf image e) (countOf image (s .0)))) es
-    (λ e k. not-T (ltb (countOf image e) (countOf image (s .0)))
-    (λ t. let l = ltb→lt (countOf image e) (countOf image (s .0)) t in omega (arith, s .2 e k))) in
-    rw n at a
-
 module _ (image : Bytes) (ds : List Descriptor) where
   collect-answers : mountNumber image ds ≡ 0
       → Answers (sourceRow (fileAreas image ds) (scratchAreas image ds) ∷ [])
@@ -308,7 +263,11 @@ module _ (image : Bytes) (ds : List Descriptor) where
           at : (o : Option Descriptor) → sourceOf image (fileAreas image ds) t ≡ o
               → Answers (sourceRow (fileAreas image ds) (t ∷ []) ∷ [])
               (numberOf (collectFrom t o))
-          at none q = inl ((λ s f m k. rw (List·Memᴰ·eq-of-singleton m) (source-none image (fileAreas image ds) t q f k)), refl)
+          at none q = inl (
+            (λ s f m k z. List·Memᴰ·not-nil
+                (rw (source-none image (fileAreas image ds) t q) at (file-eligible (fileAreas image ds) t k (rw (List·Memᴰ·eq-of-singleton m) at z)))),
+            refl,
+          )
           at (some s) q =
               let c = source-found image (fileAreas image ds) t s q in
               inr ((λ h. h t s (List·Memᴰ·head refl) (c .0) (c .1)), refl)

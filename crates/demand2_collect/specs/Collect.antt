@@ -34,13 +34,13 @@ use Rattle.calls.specs.Mount.{mountNumber}
 use Rattle.calls.specs.Format.{emptyArea}
 use Rattle.calls.specs.Lookup.{resolve}
 use Rattle.calls.specs.Read.{give, readGiven}
-use Rattle.calls.specs.Collect.{eligible, countOf, precedes, firstLowest, sourceOf, recordsElsewhere, copies, copiedRecords, nextCount, collected}
+use Rattle.calls.specs.Collect.{eligible, countOf, sourceOf, recordsElsewhere, copies, copiedRecords, nextCount, collected}
 use Rattle.calls.specs.Collect.{collectOf, imageCollected}
 use Rattle.calls.specs.declared.Descriptor.{Descriptor}
 use Rattle.calls_laws.specs.Checks.{Passes, passes, mounts, InArea}
 use Rattle.calls_laws.specs.Records.{volume-sound}
 use Rattle.image_laws.specs.Stores.{joinedBytes}
-use Rattle.collect_laws.specs.Source.{source-found}
+use Rattle.collect_laws.specs.Source.{IsSource, source-found}
 use Rattle.collect_laws.specs.Stores.{filledScratch}
 use Rattle.collect_laws.specs.Survivors.{Survivors}
 use Rattle.collect_laws.specs.Mounted.{copied-survive}
@@ -91,87 +91,19 @@ sole-area (d ∷ []) n s m h = ap (λ (x : Descriptor). x ∷ []) (h d (List·Me
 sole-area (d ∷ e ∷ l) n s m h =
     absurd (n .0 (List·Memᴰ·head (h d (List·Memᴰ·head refl) ∙ sym (h e (List·Memᴰ·tail (List·Memᴰ·head refl))))))
 
--- ---- the source
-
--- "lowest collection count, first among equals, of those as long as scratch": another such area precedes each that comes before
-pub record FirstAmongEquals (image : Bytes) (fs : List Descriptor) (scratch source : Descriptor) : Type 0 where
-  pub before : List Descriptor
-  pub behind : List Descriptor
-  pub split : fs ≡ before ++ (source ∷ behind)
-  pub preceded : (d : Descriptor) → List·Memᴰ d before → d .length ≡ scratch .length
-      → (e : Descriptor) × List·Memᴰ e fs × (e .length ≡ scratch .length) × (precedes (countOf image e) (countOf image d) ≡ true)
-
-module _ (image : Bytes) (t s : Descriptor) where
-  abbrev as-long : Descriptor → Bool
-  as-long d = eqb (d .length) (t .length)
-
-  -- one of es precedes d
-  abbrev Preceded : List Descriptor → Descriptor → Type 0
-  Preceded es d = (e : Descriptor) × List·Memᴰ e es × (precedes (countOf image e) (countOf image d) ≡ true)
-
-  -- those of fs before s are preceded
-  abbrev Passed : List Descriptor → List Descriptor → Type 0
-  Passed es fs = (before behind : List Descriptor) × (fs ≡ before ++ (s ∷ behind))
-      × ((d : Descriptor) → List·Memᴰ d before → T (as-long d) → Preceded es d)
-
-  passed : (es fs : List Descriptor) → firstLowest image es (keep as-long fs) ≡ some s → Passed es fs
-  unfolding firstLowest keep
-  passed es [] q = let z : _≡_ {A = ℕ} 0 1 = cc in absurd (omega arith)
-  passed es (d ∷ fs) q = go (as-long d) refl q (passed es fs)
-    where
-      lower : Descriptor → Bool
-      lower e = not (precedes (countOf image e) (countOf image d))
-
-      later : (T (as-long d) → Preceded es d) → Passed es fs → Passed es (d ∷ fs)
-      later h r = (
-        d ∷ r .0,
-        r .1,
-        ap (λ (l : List Descriptor). d ∷ l) (r .2),
-        λ e m k. ⊎-elim (λ z. rw z (h (rw z at k))) (λ n. r .3 e n k) (List·Memᴰ·cases-cons m),
-      )
-
-      tested : (b : Bool) → all lower es ≡ b → cond b (some d) (firstLowest image es (keep as-long fs)) ≡ some s
-          → (firstLowest image es (keep as-long fs) ≡ some s → Passed es fs) → Passed es (d ∷ fs)
-      tested true a q ih = let z : d ≡ s = cc in
-          ([], fs, ap (λ (x : Descriptor). x ∷ fs) z, λ e m k. absurd (List·Memᴰ·not-nil m))
-      tested false a q ih =
-          let n = not-all lower es (λ u. rw a at u) in
-          later (λ k. (n .0, n .1, not-is-false (precedes (countOf image (n .0)) (countOf image d)) (n .2))) (ih q)
-
-      go : (b : Bool) → as-long d ≡ b → firstLowest image es (cond b (d ∷ keep as-long fs) (keep as-long fs)) ≡ some s
-          → (firstLowest image es (keep as-long fs) ≡ some s → Passed es fs) → Passed es (d ∷ fs)
-      go true e q ih = tested (all lower es) refl q ih
-      go false e q ih = later (λ k. absurd (rw e at k)) (ih q)
-
-  first-of : (fs : List Descriptor) → sourceOf image fs t ≡ some s → FirstAmongEquals image fs t s
-  unfolding sourceOf eligible
-  first-of fs q =
-      let r = passed (keep as-long fs) fs q in
-      record {
-        before = r .0;
-        behind = r .1;
-        split = r .2;
-        preceded = λ d m z.
-            let e = r .3 d m (rw z (eqb-refl (t .length))) in
-            let k = keep-mem as-long fs (e .1) in
-            (e .0, k .0, eqb→eq (e .0 .length) (t .length) (k .1), e .2);
-      }
-
 -- ---- the theorem
 
 -- What an accepted collect leaves: image′ is the image afterwards
 pub record AfterCollect (image image′ : Bytes) (ds : List Descriptor) : Type 0 where
   pub mounts : mountNumber image′ ds ≡ 0
-  -- "Source area: lowest collection count, first among equals, of those as long as scratch"
+  -- T-14: "The source area is the first eligible one (as long as scratch), in descriptor order, that no eligible area precedes; if there is none, .."
   pub scratch : Descriptor
   pub source : Descriptor
   pub was-scratch : scratchAreas image ds ≡ scratch ∷ []
   pub chosen : sourceOf image (fileAreas image ds) scratch ≡ some source
   pub was-file : List·Memᴰ source (fileAreas image ds)
   pub as-long : source .length ≡ scratch .length
-  pub lowest : (d : Descriptor) → List·Memᴰ d (fileAreas image ds) → d .length ≡ scratch .length
-      → precedes (countOf image d) (countOf image source) ≡ false
-  pub first : FirstAmongEquals image (fileAreas image ds) scratch source
+  pub is-source : IsSource image (eligible (fileAreas image ds) scratch) source
   -- "Scratch takes the source's id" and keeps its own count; "the counting records that lie in the source are copied ..": header, copies, FF
   pub now-file : List·Memᴰ scratch (fileAreas image′ ds)
   pub takes-id : areaId (areaBytes image′ scratch) ≡ areaId (areaBytes image source)
@@ -250,8 +182,7 @@ module _ (image : Bytes) (ds : List Descriptor) (g : CollectGoes image ds) where
   abbrev w : Volume Bytes
   w = volume image′ ds
 
-  from : List·Memᴰ s (fileAreas image ds) × (s .length ≡ t .length)
-      × ((e : Descriptor) → List·Memᴰ e (fileAreas image ds) → e .length ≡ t .length → precedes (countOf image e) (countOf image s) ≡ false)
+  from : List·Memᴰ s (fileAreas image ds) × (s .length ≡ t .length) × IsSource image (eligible (fileAreas image ds) t) s
   from = source-found image (fileAreas image ds) t s (g .source-is)
 
   c : ImageCollected image ds t s
@@ -458,8 +389,7 @@ module _ (image : Bytes) (ds : List Descriptor) (g : CollectGoes image ds) where
     chosen = g .source-is;
     was-file = from .0;
     as-long = from .1;
-    lowest = from .2;
-    first = first-of image t s (fileAreas image ds) (g .source-is);
+    is-source = from .2;
     now-file = c .now-file;
     takes-id = c .takes-id;
     keeps-count = c .keeps-count;

@@ -25,7 +25,7 @@ use Rattle.calls.specs.Image.{put}
 use Rattle.calls.specs.Areas.{areaEnd, areaBytes, fileAreas, scratchAreas}
 use Rattle.calls.specs.Mount.{recordsOf, bytesOf, recordsIn, acceptedRecords, volume, wrongAreas, mountNumber}
 use Rattle.calls.specs.Format.{emptyArea}
-use Rattle.calls.specs.Collect.{countOf, precedes, sourceOf, isOther, recordsElsewhere, copies, copiedRecords, nextCount, collected}
+use Rattle.calls.specs.Collect.{countOf, eligible, sourceOf, isOther, recordsElsewhere, copies, copiedRecords, nextCount, collected}
 use Rattle.calls.specs.Attempt.{goes, numberOf}
 use Rattle.calls.specs.Collect.{collectFrom, collectWith, collecting, collectOf}
 use Rattle.calls.specs.declared.Descriptor.{Descriptor}
@@ -35,7 +35,7 @@ use Rattle.calls_laws.specs.Records.{Stored, stored, stored-mem}
 use Rattle.image_laws.specs.Apart.{Apart}
 use Rattle.image_laws.specs.Laws.{length-put, part-put, part-outside, byte-outside}
 use Rattle.image_laws.specs.Stores.{joinedBytes}
-use Rattle.collect_laws.specs.Source.{source-found}
+use Rattle.collect_laws.specs.Source.{IsSource, source-found}
 use Rattle.collect_laws.specs.Header.{headerWithId, renamed-size, renamed-id, renamed-file}
 use Rattle.collect_laws.specs.Stores.{filledScratch, filled-long}
 use Rattle.collect_laws.specs.Mounted.{scratch-is, file-is, copied-survive, copied-fit, collected-is}
@@ -48,7 +48,7 @@ use Rattle.demand2_collect.specs.Filled.{reads-back}
 
 -- ---- what an accepted collect found
 
--- "Source area: lowest collection count, first among equals, of those as long as scratch"
+-- the scratch area, and the source that the rules choose
 pub record CollectGoes (image : Bytes) (ds : List Descriptor) : Type 0 where
   pub mounted : mountNumber image ds ≡ 0
   pub scratch : Descriptor
@@ -126,8 +126,7 @@ module _ (image : Bytes) (ds : List Descriptor) (p : Passes image ds) (t s : Des
   is-file : (d : Descriptor) → List·Memᴰ d (fileAreas image ds) → List·Memᴰ d ds × (isFileArea (d .length) (areaBytes image d) ≡ true)
   is-file = file-is image ds
 
-  source : List·Memᴰ s (fileAreas image ds) × (s .length ≡ t .length)
-      × ((e : Descriptor) → List·Memᴰ e (fileAreas image ds) → e .length ≡ t .length → precedes (countOf image e) (countOf image s) ≡ false)
+  source : List·Memᴰ s (fileAreas image ds) × (s .length ≡ t .length) × IsSource image (eligible (fileAreas image ds) t) s
   source = source-found image (fileAreas image ds) t s source-is
 
   source-in : List·Memᴰ s ds

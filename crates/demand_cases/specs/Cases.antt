@@ -17,7 +17,7 @@ use Rattle.format.specs.Encoding.{inodeFront, blockFront, sealed, inodeBytes, b
 use Rattle.format.specs.Reading.{skip, parts, placed, erasedEnd, freeSize, damagedBytes, damaged, areaParts, areaRecords, areaDamage, areaFree}
 use Rattle.format.specs.Reading.{areaClean}
 use Rattle.format.specs.BlockSize.{greatestBlock}
-use Rattle.volume.specs.Lists.{keep, all, same, once, only}
+use Rattle.volume.specs.Lists.{keep, all, first, same, once, only}
 use Rattle.volume.specs.Counting.{volumeOf, versions, newest, counting, idsOf, agree, allAgree}
 use Rattle.volume.specs.Fate.{ascend, climb, fateOf, blockDead}
 use Rattle.volume.specs.Path.{splitByte, segments, goodSegment, goodSegments, isAbsolute, absoluteNames, goodAbsolute, goodPath, pathNames}
@@ -35,7 +35,7 @@ use Rattle.calls.specs.Create.{lastName, namesBefore, firstIdOf, newId, newInod
 use Rattle.calls.specs.Append.{shortestLength, cutInto, piecesOf, blockRecords, newBlocks, appendTo, appending, appendOf, imageAppended}
 use Rattle.calls.specs.Rewrite.{rewritten, rewritePlan, rewriteNumber, imageRewritten}
 use Rattle.calls.specs.Unlink.{deletion, unlinkOne, unlinking, unlinkOf, imageUnlinked}
-use Rattle.calls.specs.Collect.{eligible, precedes, firstLowest, sourceOf, isOther, recordsElsewhere, counts, firstPlaces, dropsBlock, namesInode}
+use Rattle.calls.specs.Collect.{eligible, precedes, unpreceded, sourceOf, isOther, recordsElsewhere, counts, firstPlaces, dropsBlock, namesInode}
 use Rattle.calls.specs.Collect.{dropsInode, drops, copies, isBlank, resetStores, readyStores, recordStores, nextCount, collectStores, collected}
 use Rattle.calls.specs.Collect.{collecting, collectOf, imageCollected}
 use Rattle.calls.specs.Areas.{areaBytes}
@@ -100,7 +100,7 @@ unfolding
     namedByBlocks namedIds isAmong unusedFrom unusedId emptyArea formatNumber longestLength numbered labelled blanked rooted formatted
     imageFormatted attemptAt lastName namesBefore firstIdOf newId newInode createIn creating createOf imageCreated shortestLength cutInto piecesOf
     blockRecords newBlocks appendTo appending appendOf imageAppended deletion rewritten rewritePlan rewriteNumber imageRewritten unlinkOne unlinking
-    unlinkOf imageUnlinked eligible precedes firstLowest sourceOf isOther recordsElsewhere counts firstPlaces dropsBlock namesInode dropsInode drops
+    unlinkOf imageUnlinked eligible precedes unpreceded first sourceOf isOther recordsElsewhere counts firstPlaces dropsBlock namesInode dropsInode drops
     copies isBlank resetStores readyStores recordStores nextCount collectStores collected collecting collectOf imageCollected
 cases = record {
   format-writes-the-root = refl;

@@ -29,15 +29,19 @@ headerVersion h = byteAt h 20
 abbrev pub collectionCount : Bytes → ℕ
 collectionCount h = byteAt h 21
 
+abbrev pub headerReserved : Bytes → ℕ
+headerReserved h = byteAt h 22
+
 abbrev pub areaId : Bytes → ℕ
 areaId h = byteAt h 23
 
 unfoldable pub magicsRight : Bytes → Bool
 magicsRight h = eqb (le32 h 0) areaMagic1 && eqb (le32 h 4) areaMagic2 && eqb (le32 h 8) areaMagic3 && eqb (le32 h 12) areaMagic4
 
--- "A valid area header has the four magics, version 0 and a length equal to its descriptor's"
+-- "A valid area header has the four magics, version 0 and a length equal to its descriptor's"; T-14: ".. area headers whose reserved byte isn't 0 are
+-- no longer .. valid", that of scratch too
 unfoldable pub validHeader : ℕ → Bytes → Bool
-validHeader n h = magicsRight h && eqb (headerLength h) n && eqb (headerVersion h) 0
+validHeader n h = magicsRight h && eqb (headerLength h) n && eqb (headerVersion h) 0 && eqb (headerReserved h) 0
 
 -- "Id 255 is scratch; any other is a file area"
 abbrev pub scratchId : ℕ

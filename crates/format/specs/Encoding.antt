@@ -1,4 +1,4 @@
--- Records and area headers as they are written. Document 01, "Layouts": "Reserved bytes may hold anything; writers store 0".
+-- Records and area headers as they are written. Document 01, "Layouts": in reserved bytes "writers store 0".
 use Prim.Native.Nat.{ℕ}
 use mathlib.Core.List.{[], _∷_, _++_}
 use lib.ListN.{length}

@@ -19,7 +19,10 @@ recordSequence b = le32 b 8
 abbrev pub recordLink : Bytes → ℕ
 recordLink b = le32 b 12
 
--- a field of inodes
+-- fields of inodes
+abbrev pub inodeReserved : Bytes → ℕ
+inodeReserved b = byteAt b 16
+
 abbrev pub nameLength : Bytes → ℕ
 nameLength b = byteAt b 17
 
@@ -62,8 +65,9 @@ pub record Kind : Type 0 where
   pub bodyLength : Bytes → ℕ
   pub rules : Bytes → Bool
 
+-- T-14: "Records .. whose reserved byte isn't 0 are no longer acceptable"; a block has no such byte
 unfoldable pub inodeRules : Bytes → Bool
-inodeRules b = inodeRule (recordId b) (recordLink b) (nameLength b) && nameGood (drop 20 b)
+inodeRules b = eqb (inodeReserved b) 0 && inodeRule (recordId b) (recordLink b) (nameLength b) && nameGood (drop 20 b)
 
 unfoldable pub blockRules : Bytes → Bool
 blockRules b = blockRule (recordId b) (recordLink b) (blockPrevious b) (dataLength b)

@@ -27,6 +27,7 @@ use Rattle.format.specs.Record.{
   recordId,
   recordSequence,
   recordLink,
+  inodeReserved,
   nameLength,
   blockPrevious,
   dataLength,
@@ -139,6 +140,10 @@ module _ (id sequence parent : ℕ) (name : Bytes) (m : MeantInode id sequence p
   unfolding inodeBytes inodeFront
   inode-name = sealed-body (inodeFront id sequence parent (length name)) name
 
+  inode-reserved : inodeReserved (inodeBytes id sequence parent name) ≡ 0
+  unfolding inodeBytes sealed inodeFront
+  inode-reserved = refl
+
   inode-rules : inodeRules (inodeBytes id sequence parent name) ≡ true
   unfolding inodeRules
   inode-rules =
@@ -147,7 +152,7 @@ module _ (id sequence parent : ℕ) (name : Bytes) (m : MeantInode id sequence p
       let i : recordId b ≡ id = rw e at (inode-id []) in
       let p : recordLink b ≡ parent = rw e at (inode-parent []) in
       let n : nameLength b ≡ length name = rw e at (inode-length []) in
-      rw (i, p, n, m .rule, inode-name, m .good)
+      rw (inode-reserved, i, p, n, m .rule, inode-name, m .good)
 
   inode-check : check (inodeFront id sequence parent (length name)) name < 65536
   inode-check = check-lt _ name (inode-front-octets id sequence parent (length name) (m .name-fits)) (m .octets)

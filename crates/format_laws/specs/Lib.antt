@@ -6,6 +6,7 @@ pub mod Reading
 pub mod Taken
 pub mod Clean
 pub mod Encoding
+pub mod Header
 pub mod Octets
 pub mod Tests
 pub mod BlockSize

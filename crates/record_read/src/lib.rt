@@ -91,7 +91,9 @@ impl InodeHeader {
 
     pub const CHECK_OFFSET: usize = 18;
 
-    // Where the length of the name stands.
+    // Where the reserved byte and the length of the name stand.
+    const RESERVED_AT: usize = 16;
+
     pub const LENGTH_AT: usize = 17;
 
     // The header at the front of `b`.
@@ -206,11 +208,14 @@ fn check_right(b: &[u8], offset: usize, size: usize) -> bool
     load16(b, offset) == check(&b[..offset], &b[size..]) as u32
 }
 
-// The rules of an inode: of its header's fields, and of its name.
+// The rules of an inode: of its reserved byte, of its header's fields, and of its name.
 fn inode_rules(b: &[u8]) -> bool
     requires { ⌜ 20 ≤ length (now b) ⌝ }
     ensures { λ r. ⌜ r ≡ inodeRules (now (b .entry)) ⌝ }
 {
+    if b[InodeHeader::RESERVED_AT] != 0 {
+        return false;
+    }
     if InodeHeader::load(b).rule() {} else {
         return false;
     }

@@ -15,6 +15,11 @@ module _ {A : Type 0} where
   all p [] = true
   all p (a ∷ l) = p a && all p l
 
+  -- the first member, where there is one
+  unfoldable pub first : List A → Option A
+  first [] = none
+  first (a ∷ l) = some a
+
 -- two lists of numbers are equal
 unfoldable pub same : List ℕ → List ℕ → Bool
 same [] [] = true

@@ -1,7 +1,8 @@
 -- Filtered lists and their members.
 use mathlib.Core.Path.{_≡_, refl, sym, _∙_}
+use mathlib.Core.Logic.{⊎-elim}
 use mathlib.Core.Bool.{Bool, true, false, cond, _&&_, and-comm}
-use mathlib.Core.List.{List, [], _∷_, _++_, map, List·Memᴰ, List·Memᴰ·head, List·Memᴰ·tail, List·Memᴰ·not-nil}
+use mathlib.Core.List.{List, [], _∷_, _++_, map, List·Memᴰ, List·Memᴰ·head, List·Memᴰ·tail, List·Memᴰ·not-nil, List·Memᴰ·cases-cons}
 use Prim.Native.Nat.{ℕ, suc, _≤_}
 use native.Mathlib.Omega.{arith}
 use lib.ListN.{length}
@@ -21,6 +22,14 @@ same-eq [] [] t = refl
 same-eq [] (y ∷ ys) t = absurd t
 same-eq (x ∷ xs) [] t = absurd t
 same-eq (x ∷ xs) (y ∷ ys) t = let p = and-T (eqb x y) (same xs ys) t in λ i. eqb→eq x y (p .0) i ∷ same-eq xs ys (p .1) i
+
+-- a is the first member of l that passes a test: those before it fail
+pub record FirstPassing {A : Type 0} (f : A → Bool) (l : List A) (a : A) : Type 0 where
+  pub before : List A
+  pub behind : List A
+  pub split : l ≡ before ++ (a ∷ behind)
+  pub passes : f a ≡ true
+  pub fail : (b : A) → List·Memᴰ b before → f b ≡ false
 
 module _ {A : Type 0} where
   -- a filter turns only on what its test says of the members
@@ -81,6 +90,28 @@ module _ {A : Type 0} where
   unfolding keep
   keep-none f [] h = refl
   keep-none f (b ∷ l) h = rw (h b (List·Memᴰ·head refl), keep-none f l (λ a m. h a (List·Memᴰ·tail m)))
+
+  -- what a filter leaves starts with the first that passes
+  pub keep-first : (f : A → Bool) (l : List A) {a : A} {k : List A} → keep f l ≡ a ∷ k → FirstPassing f l a
+  unfolding keep
+  keep-first f [] q = let z : _≡_ {A = ℕ} 0 1 = cc in absurd (omega arith)
+  keep-first f (b ∷ l) {a} {k} q = go (f b) refl q (keep-first f l)
+    where
+      go : (x : Bool) → f b ≡ x → cond x (b ∷ keep f l) (keep f l) ≡ a ∷ k → (keep f l ≡ a ∷ k → FirstPassing f l a) → FirstPassing f (b ∷ l) a
+      go true e q ih = let z : b ≡ a = cc in record {
+        before = [];
+        behind = l;
+        split = rw z;
+        passes = rw (← z) e;
+        fail = λ c m. absurd (List·Memᴰ·not-nil m);
+      }
+      go false e q ih = let r = ih q in record {
+        before = b ∷ r .before;
+        behind = r .behind;
+        split = λ i. b ∷ r .split i;
+        passes = r .passes;
+        fail = λ c m. ⊎-elim (λ z. rw z e) (r .fail c) (List·Memᴰ·cases-cons m);
+      }
 
   -- a filter that all pass
   pub keep-whole : (f : A → Bool) (l : List A) → ((a : A) → List·Memᴰ a l → f a ≡ true) → keep f l ≡ l

@@ -11,7 +11,7 @@ use lib.Dec.{T, eqb, ltb, leb, eqb→eq, eqb-refl, ltb→lt, lt→ltb, leb→le,
 use Rattle.format.specs.Bytes.{Bytes, le32}
 use Rattle.format.specs.Ids.{NONE, firstFileId, firstBlockId, rootId, isDirectoryId, isFileId, isInodeId, isBlockId}
 use Rattle.format.specs.Record.{Kind, inode, block, wellFormed, checkRight, inodeRules, inodeRule, blockRules, blockRule, previousRule}
-use Rattle.format.specs.Record.{nameGood, recordId, recordLink, blockPrevious, nameLength, dataLength, longestData}
+use Rattle.format.specs.Record.{nameGood, recordId, recordLink, blockPrevious, inodeReserved, nameLength, dataLength, longestData}
 use Rattle.volume.specs.View.{View, byBytes}
 use Rattle.volume.specs.Counting.{Volume, volumeOf, inodeOf}
 use Rattle.volume_laws.specs.Tests.{true→T, and-T, eqb-false}
@@ -123,7 +123,9 @@ module _ (rs : List Bytes) (h : (b : Bytes) → List·Memᴰ b rs → Acceptable
   unfolding volumeOf inodeRules
   inode-rules b m =
       let n = keep-mem (λ b. not (byBytes .isBlock b)) rs m in
-      and-T (inodeRule (recordId b) (recordLink b) (nameLength b)) (nameGood (drop 20 b)) (acceptable-inode b (h b (n .0)) (n .1))
+      let rule = inodeRule (recordId b) (recordLink b) (nameLength b) in
+      let r = and-T (eqb (inodeReserved b) 0 && rule) (nameGood (drop 20 b)) (acceptable-inode b (h b (n .0)) (n .1)) in
+      (and-T (eqb (inodeReserved b) 0) rule (r .0) .1, r .1)
 
   block-rules : (b : Bytes) → List·Memᴰ b (volumeOf byBytes rs .blocks)
       → T (isBlockId (recordId b)) × T (isFileId (recordLink b)) × T (previousRule (recordId b) (blockPrevious b))

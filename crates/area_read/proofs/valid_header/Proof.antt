@@ -26,12 +26,28 @@ returns-2 c =
 returns-3 : tie.Need-returns-3
 unfolding validHeader
 returns-3 c =
-    let l = c .before .before in
+    let x = c .before .before in
+    let l = x .before in
     let m = l .before .before in
     let start = m .before .before in
-    simp (
+    rw (
       via (m .magics-right .ensures) (l .before .if1 .taken),
-      eq-eqb (le32 (start .args .area .now) 16) (start .args .described) (via (l .load32 .ensures) (c .before .if2 .left)),
+      eq-eqb (le32 (start .args .area .now) 16) (start .args .described) (via (l .load32 .ensures) (x .if2 .left)),
+      ne-eqb _ _ (c .if3 .taken),
+    )
+
+returns-4 : tie.Need-returns-4
+unfolding validHeader
+returns-4 c =
+    let z = c .before in
+    let x = z .before .before in
+    let l = x .before in
+    let m = l .before .before in
+    let start = m .before .before in
+    rw (
+      via (m .magics-right .ensures) (l .before .if1 .taken),
+      eq-eqb (le32 (start .args .area .now) 16) (start .args .described) (via (l .load32 .ensures) (x .if2 .left)),
+      eq-eqb _ _ (z .if3 .left),
     )
 
 pub valid-header-spec : {M : Type 1} → statement M
@@ -43,4 +59,6 @@ valid-header-spec =
     (λ c κs. search needs)
     returns-2
     (λ c. search needs)
-    returns-3)
+    returns-3
+    (λ c. search needs)
+    returns-4)

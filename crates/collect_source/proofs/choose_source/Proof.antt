@@ -1,70 +1,19 @@
--- `collect_source::choose_source` meets its contract: the source is the first of the areas left that leads.
-use Prim.Native.Nat.{_-_}
-use mathlib.Core.Path.{_≡_, refl, sym, _∙_}
-use native.Mathlib.Omega.{arith}
-use lib.ListN.{length, drop}
+-- `collect_source::choose_source` meets its contract.
+use mathlib.Core.Path.{sym, _∙_}
 use borrow.Author.Needs.{needs}
-use Rattle.area_list.specs.Described.{described}
-use Rattle.collect_source.specs.Source.{firstLeading, source-leads, first-here, first-later, first-nowhere}
+use Rattle.collect_source.specs.Source.{source-here, source-else}
 use Rattle.collect_source.proofs.choose_source.Statement.{statement}
 use Rattle.collect_source.proofs.choose_source.Tie as tie
 
-abbrev Inv-loop : tie.InvT-loop
-Inv-loop image starts spans wanted i₀ i =
-    firstLeading image wanted (described starts spans) (described (drop i starts) (drop i spans)) ≡ firstLeading image wanted (described starts spans) (described starts spans)
+returns : tie.Need-returns
+returns c = source-here _ _ _ _ _ (c .before .first-leading .ensures) (c .if1 .taken)
 
-abbrev μ-loop : tie.MeasureT-loop
-μ-loop image starts spans wanted i₀ i = length starts - i
-
--- the arguments, from the head of the loop
-abbrev start : tie.At-loop Inv-loop μ-loop → tie.Start Inv-loop μ-loop
-start l = l .before .before .before .before
-
-pairs : (l : tie.At-loop Inv-loop μ-loop) → length (start l .args .starts .now) ≡ length (start l .args .spans .now)
-pairs l = sym (start l .pre .pairs)
-
-loop-holds : tie.Need-loop-holds Inv-loop μ-loop
-loop-holds c = refl
-
-leads-requires : tie.Need-leads-requires Inv-loop μ-loop
-leads-requires c κs =
-    let t = c .before .before in
-    let s = start (t .before) in
-    let h = s .pre .long (t .before .loop .i) (t .loop-test .taken) in
-    let f = s .pre .inside (t .before .loop .i) (t .loop-test .taken) in
-    (s .pre, (omega arith, omega arith))
-
-returns : tie.Need-returns Inv-loop μ-loop
-returns c =
-    let k = c .before in
-    let t = k .before .before .before in
-    let l = t .before in
-    first-here _ _ _ (pairs l) _ _ _ (t .loop-test .taken) (sym (k .leads .ensures) ∙ c .if1 .taken) ∙ l .loop .inv ∙ sym (source-leads _ _ _)
-
-loop-again : tie.Need-loop-again Inv-loop μ-loop
-loop-again c =
-    let k = c .before in
-    let t = k .before .before .before in
-    let l = t .before in
-    sym (first-later _ _ _ (pairs l) _ _ _ (t .loop-test .taken) (sym (k .leads .ensures) ∙ c .if1 .left)) ∙ l .loop .inv
-
-returns-2 : tie.Need-returns-2 Inv-loop μ-loop
-returns-2 c = let l = c .before in first-nowhere _ _ _ (pairs l) _ _ _ (c .loop-test .left) ∙ l .loop .inv ∙ sym (source-leads _ _ _)
+returns-2 : tie.Need-returns-2
+returns-2 c =
+    let t = c .before in
+    let k = t .before in
+    let s = k .before .before .before .before in
+    c .first-as-long .ensures .is (s .args .starts .now) (sym (s .pre .pairs)) ∙ source-else _ _ _ _ _ (k .first-leading .ensures) (t .if1 .left)
 
 pub choose-source-spec : {M : Type 1} → statement M
-choose-source-spec =
-    tie.close
-    (tie.spec
-    Inv-loop
-    μ-loop
-    loop-holds
-    (λ c. search needs)
-    (λ c. search needs)
-    (λ c. omega (arith, pairs (c .before .before)))
-    (λ c. omega (arith, pairs (c .before .before .before)))
-    leads-requires
-    returns
-    (λ c. search needs)
-    (λ c. search needs)
-    loop-again
-    returns-2)
+choose-source-spec = tie.close (tie.spec (λ c κs. search needs) returns (λ c κs. search needs) returns-2)

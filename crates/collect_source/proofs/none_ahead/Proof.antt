@@ -39,17 +39,17 @@ returns c =
     let k = c .before in
     let t = k .before .before .before in
     let l = t .before in
-    sym (none-fails _ _ _ (pairs l) _ _ _ (t .loop-test .taken) (sym (k .is-ahead .ensures) ∙ c .if1 .taken)) ∙ l .loop .inv
+    sym (none-fails _ _ (pairs l) _ _ _ _ (t .loop-test .taken) (sym (k .is-ahead .ensures) ∙ c .if1 .taken)) ∙ l .loop .inv
 
 loop-again : tie.Need-loop-again Inv-loop μ-loop
 loop-again c =
     let k = c .before in
     let t = k .before .before .before in
     let l = t .before in
-    sym (none-passes _ _ _ (pairs l) _ _ _ (t .loop-test .taken) (sym (k .is-ahead .ensures) ∙ c .if1 .left)) ∙ l .loop .inv
+    sym (none-passes _ _ (pairs l) _ _ _ _ (t .loop-test .taken) (sym (k .is-ahead .ensures) ∙ c .if1 .left)) ∙ l .loop .inv
 
 returns-2 : tie.Need-returns-2 Inv-loop μ-loop
-returns-2 c = let l = c .before in sym (none-ends _ _ _ (pairs l) _ _ _ (c .loop-test .left)) ∙ l .loop .inv
+returns-2 c = let l = c .before in sym (none-ends _ _ (pairs l) _ _ _ _ (c .loop-test .left)) ∙ l .loop .inv
 
 pub none-ahead-spec : {M : Type 1} → statement M
 none-ahead-spec =

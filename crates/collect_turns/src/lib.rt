@@ -1,0 +1,1 @@
+// Theorems only, in specs/: which areas collections take, one after the other.
