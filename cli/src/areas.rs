@@ -84,8 +84,8 @@ pub struct Seen {
     pub reserved: Vec<Placed>,
 }
 
-/// The headers that are seen, listed areas with a valid one left out. Inside an area none is looked
-/// for: a file may hold anything. So it is where an area is passed over for its reserved byte.
+/// The headers that are seen, but for the valid ones of listed areas. Inside an area none is looked
+/// for, also where it is passed over for its reserved byte: a file may hold anything.
 pub fn seen(image: &[u8], listed: &[Area]) -> Seen {
     let mut found = Seen::default();
     let mut offset = 0;
@@ -174,8 +174,8 @@ pub fn warn(left_out: &[Area]) {
 
 pub fn none_seen(arguments: &Arguments) -> Failure {
     Failure::Unfit(format!(
-        "no valid area header is seen in {}: it holds no volume, or the headers are damaged (then name \
-         the areas with --areas), or the volume lies elsewhere in it (--at)",
+        "no valid area header is seen in {}: it holds no volume, or the headers are damaged (then \
+         name the areas with --areas), or the volume lies elsewhere in it (--at)",
         arguments.image.display()
     ))
 }

@@ -37,7 +37,7 @@ impl Hints {
     }
 
     /// Of a page: headers, and records of all file areas that no call has found clean. In a clean
-    /// one every byte is a record's or free, so what looks like such a record lies in a file.
+    /// one every byte is a record's or free, so what looks like such a record is a part of others.
     pub fn of_a_page(image: &[u8], chosen: &Chosen, rows: &[Row]) -> Hints {
         let is_unclean = |row: &&Row| !matches!(row.damage, Some((0, _)));
         let is_file_area = |row: &&Row| row.header.is_some_and(|h| !h.is_scratch());
