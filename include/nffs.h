@@ -6,7 +6,9 @@
  *
  *   image   0 to 65,536 bytes, the flash.
  *   areas   offset and length of each area. The list ends at the first length 0 or at its end; what stands behind is not looked at. Good
- *           are 1 to 16 areas of 128 to 65,536 bytes, inside the image, none overlapping.
+ *           are 1 to 16 areas of 128 to 65,536 bytes, inside the image, none overlapping. One without a valid header is passed over with
+ *           all that lies in it, by every call but nffs_format. Since version 0.4.0 a header whose reserved byte is not 0 is not valid, and an
+ *           inode's record with such a byte is not read (docs/LINKING.md, "Volumes of other writers").
  *   base    what a path without a leading slash is taken below: a good absolute path. Otherwise it is not looked at and may be empty.
  *   path    1 to 1,024 bytes: "/", or names of 1 to 255 bytes parted by single slashes, none at the end, no NUL. Nothing has to stand
  *           behind it.
@@ -34,7 +36,7 @@
 #include <string.h>
 
 /* Of the calls and their declarations here. */
-#define NFFS_VERSION "0.3.1"
+#define NFFS_VERSION "0.4.0"
 
 /* An answer that nobody looks at may be a refusal. */
 #if defined(__cplusplus) && __cplusplus >= 201703L
@@ -171,7 +173,9 @@ NFFS_ANSWERS uint32_t nffs_unlink(uint8_t *image, size_t image_length, const nff
                      const uint8_t *base, size_t base_length, const uint8_t *path, size_t path_length);
 
 /* Copies what counts in one file area into scratch and erases that area, which becomes scratch: superseded records leave room, deleted
-   ones as soon as nothing else names them, and the damage of that area goes. One call collects one area. Checks in order: 1 to 7, 17. */
+   ones as soon as nothing else names them, and the damage of that area goes. One call collects one area: of the file areas as long as
+   scratch the first that none of them precedes, by the counts in their headers, where 255 precedes 0; if there is none, the first
+   (docs/LINKING.md, "Plan the areas"). Checks in order: 1 to 7, 17. */
 NFFS_ANSWERS uint32_t nffs_collect(uint8_t *image, size_t image_length, const nffs_area *areas, size_t areas_count);
 
 #ifdef __cplusplus

@@ -7,10 +7,10 @@ use nffs::Refusal;
 #[rustfmt::skip]
 const TABLE: [(u32, &str, &str); 17] = [
     (1, "Give the areas that the volume was formatted with: 1 to 16, of 128 to 65,536 bytes, inside the image, none overlapping. The image has at most 65,536 bytes.",
-        "`nffs areas IMAGE` prints the areas whose headers it sees; --at names the place of a volume in a longer file."),
+        "`nffs areas IMAGE` prints the areas whose valid headers it sees; --at names the place of a volume in a longer file."),
     (2, "Give the areas that the volume was formatted with. If they are these, the header of an area is damaged, by a single bit perhaps, or power was lost during a collection, for which there is no recovery call yet. Nothing can be read or written. Keep the image: the files may all be whole.",
         "`nffs check IMAGE` shows the header of each area."),
-    (3, "Give the areas that the volume was formatted with. If they are these, the header of an area is damaged, by a single bit perhaps, or power was lost during a format or a collection, for which there is no recovery call yet. Nothing can be read or written. Keep the image: the files may all be whole. Format only what never was a volume.",
+    (3, "Give the areas that the volume was formatted with. If they are these, the header of an area is damaged, by a single bit perhaps, or another writer left its reserved byte other than 0, which versions before 0.4.0 did not mind, or power was lost during a format or a collection, for which there is no recovery call yet. Nothing can be read or written. Keep the image: the files may all be whole. Format only what never was a volume.",
         "`nffs check IMAGE` shows the header of each area."),
     (4, "Give the areas that the volume was formatted with. If they are these, the header of an area is damaged. Nothing can be read or written. Keep the image: the files may all be whole.",
         "`nffs check IMAGE` shows the header of each area."),
@@ -18,8 +18,8 @@ const TABLE: [(u32, &str, &str); 17] = [
         "--collect collects until it fits."),
     (6, "Two records have the same id and version and different bytes, so that neither can be trusted: nothing can be read or written. Keep the image.",
         ""),
-    (7, "No record of the root is read: it or the header of its area is damaged, by a single bit perhaps, or power was lost during a format, or these are not all areas of the volume. Nothing can be read or written. Give all areas, and keep the image: the files may all be whole.",
-        "`nffs areas IMAGE` prints the areas whose headers it sees."),
+    (7, "No record of the root is read: it or the header of its area is damaged, by a single bit perhaps, or another writer left a reserved byte in it other than 0, which versions before 0.4.0 did not mind, or power was lost during a format, or these are not all areas of the volume. Nothing can be read or written. Give all areas, and keep the image: the files may all be whole.",
+        "`nffs areas IMAGE` prints the areas whose valid headers it sees."),
     (8, "Mend the path: \"/\", or names of 1 to 255 bytes behind single slashes, 1,024 bytes in all. At most 8,192 bytes are appended at a time. The root is neither created nor unlinked.",
         ""),
     (9, "Nothing is there: look at the path, name by name, or create it. Of a handle: the file was unlinked, open it again. Where something should be there, ask for a report: its record, or one above it, may be damaged.",

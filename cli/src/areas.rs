@@ -7,6 +7,7 @@ use crate::arguments::{number, usage, Arguments};
 use crate::console::say;
 use crate::failure::Failure;
 use crate::image_file::MOST;
+use crate::reserved::Hints;
 use nffs::{Area, MOST_AREAS};
 use std::ffi::OsStr;
 use std::fs::File;
@@ -26,6 +27,7 @@ const SCRATCH: u8 = 255;
 pub struct Header {
     pub length: u32,
     pub count: u8,
+    pub reserved: u8,
     pub id: u8,
 }
 
@@ -33,9 +35,23 @@ impl Header {
     pub fn is_scratch(&self) -> bool {
         self.id == SCRATCH
     }
+
+    /// The kind of its area, as JSON names it.
+    pub fn kind(&self) -> &'static str {
+        match self.is_scratch() {
+            true => "scratch",
+            false => "file",
+        }
+    }
+
+    /// Since version 0.4.0 a header whose reserved byte is not 0 is passed over with its area.
+    fn is_valid(&self) -> bool {
+        self.reserved == 0
+    }
 }
 
-/// The header at a place: the four magics, version 0, and a length that fits.
+/// The header at a place: the four magics, version 0, and a length that fits. Its reserved byte may
+/// be any.
 fn header_at(image: &[u8], offset: usize) -> Option<Header> {
     let bytes = image.get(offset..)?.get(..HEADER_SIZE)?;
     let field = |k: usize| u32::from_le_bytes([bytes[k], bytes[k + 1], bytes[k + 2], bytes[k + 3]]);
@@ -43,18 +59,35 @@ fn header_at(image: &[u8], offset: usize) -> Option<Header> {
     let length = field(16);
     let fits = LENGTHS.contains(&length) && length as usize <= image.len() - offset;
     let good = magics && fits && bytes[20] == 0;
-    good.then(|| Header { length, count: bytes[21], id: bytes[23] })
+    good.then(|| Header { length, count: bytes[21], reserved: bytes[22], id: bytes[23] })
 }
 
-/// The header of an area, where it is one of this length.
+/// The header of an area, where it is a valid one of this length.
 pub fn header(image: &[u8], area: Area) -> Option<Header> {
-    header_at(image, area.offset as usize).filter(|header| header.length == area.length)
+    let is_its_own = |header: &Header| header.is_valid() && header.length == area.length;
+    header_at(image, area.offset as usize).filter(is_its_own)
 }
 
-/// The headers that are seen besides the listed areas. Inside an area none is looked for: a file
-/// may hold anything.
-pub fn seen(image: &[u8], listed: &[Area]) -> Vec<Area> {
-    let mut found = Vec::new();
+/// A header and where it stands.
+#[derive(Clone, Copy)]
+pub struct Placed {
+    pub offset: u32,
+    pub header: Header,
+}
+
+/// What is seen in an image.
+#[derive(Default)]
+pub struct Seen {
+    /// The areas with a valid header that are not listed.
+    pub areas: Vec<Area>,
+    /// The headers, of listed areas too, whose reserved byte is not 0.
+    pub reserved: Vec<Placed>,
+}
+
+/// The headers that are seen, but for the valid ones of listed areas. Inside an area none is looked
+/// for, also where it is passed over for its reserved byte: a file may hold anything.
+pub fn seen(image: &[u8], listed: &[Area]) -> Seen {
+    let mut found = Seen::default();
     let mut offset = 0;
     while offset < image.len() {
         let Some(header) = header_at(image, offset) else {
@@ -62,9 +95,13 @@ pub fn seen(image: &[u8], listed: &[Area]) -> Vec<Area> {
             continue;
         };
         let area = Area { offset: offset as u32, length: header.length };
+        if !header.is_valid() {
+            found.reserved.push(Placed { offset: area.offset, header });
+        } else if !listed.contains(&area) {
+            found.areas.push(area);
+        }
         let mut end = area.offset + area.length;
         if !listed.contains(&area) {
-            found.push(area);
             // what is listed is looked at from its start
             let next = listed.iter().map(|l| l.offset).filter(|o| *o > area.offset).min();
             end = end.min(next.unwrap_or(end));
@@ -81,20 +118,28 @@ pub struct Chosen {
     pub found: bool,
     /// Headers that the list leaves out.
     pub left_out: Vec<Area>,
+    /// Headers that are passed over for their reserved byte.
+    pub reserved: Vec<Placed>,
 }
 
 /// The areas by `--areas`, or else by their headers; nothing is said of them.
 pub fn choose(arguments: &Arguments, image: &[u8]) -> Result<Chosen, Failure> {
-    Ok(match listed(arguments)? {
-        Some(areas) => Chosen { left_out: seen(image, &areas), areas, found: false },
-        None => Chosen { areas: seen(image, &[]), found: true, left_out: Vec::new() },
+    let list = listed(arguments)?;
+    let found = list.is_none();
+    let listed = list.unwrap_or_default();
+    let Seen { areas, reserved } = seen(image, &listed);
+    Ok(match found {
+        true => Chosen { areas, found, left_out: Vec::new(), reserved },
+        false => Chosen { areas: listed, found, left_out: areas, reserved },
     })
 }
 
-/// The same; which areas were found is said, and a header that was left out is warned of.
+/// The same; which areas were found is said, a header that was left out is warned of, and reserved
+/// bytes that are not 0 are hinted at.
 pub fn take(arguments: &Arguments, image: &[u8]) -> Result<Vec<Area>, Failure> {
     let chosen = choose(arguments, image)?;
     warn(&chosen.left_out);
+    Hints::of_a_run(image, &chosen).say();
     if !chosen.found {
         return Ok(chosen.areas);
     }
@@ -129,8 +174,8 @@ pub fn warn(left_out: &[Area]) {
 
 pub fn none_seen(arguments: &Arguments) -> Failure {
     Failure::Unfit(format!(
-        "no area header is seen in {}: it holds no volume, or the headers are damaged (then name \
-         the areas with --areas), or the volume lies elsewhere in it (--at)",
+        "no valid area header is seen in {}: it holds no volume, or the headers are damaged (then \
+         name the areas with --areas), or the volume lies elsewhere in it (--at)",
         arguments.image.display()
     ))
 }

@@ -11,7 +11,7 @@ pub const USAGE: &str = "\
 usage: nffs COMMAND IMAGE [WORDS] [OPTIONS]
 
   check IMAGE [--json]        a page on the volume: whether it mounts, areas, files, damage
-  areas IMAGE                 the areas whose headers are seen, as --areas takes them
+  areas IMAGE                 the areas whose valid headers are seen, as --areas takes them
   report IMAGE                mount, and count inodes, live ones, damage and its bytes
   lookup IMAGE PATH           kind and id (hexadecimal) of what PATH leads to
   cat IMAGE PATH              write a file to standard output; from --from on, --length bytes
@@ -31,7 +31,7 @@ usage: nffs COMMAND IMAGE [WORDS] [OPTIONS]
   --at OFFSET      the volume begins there in a longer file; areas are counted from there
   --collect        of put, append, import, mkdir, rm: collect until it fits
   --replace        of put, import, export: replace a file that is there
-  -q, --quiet      no notes and no progress; warnings and failures are still told
+  -q, --quiet      no notes and no progress; warnings, hints and failures are still told
   -h, --help, -V, --version; -- ends the options
 
 Numbers are decimal, or hexadecimal with 0x. PATH is a path of the volume and begins with a slash.

@@ -1,8 +1,8 @@
 //! `check`: what there is to say of a volume.
 //!
 //! Whether it mounts, what is live, how long a file is and whether it is broken, how much is damaged:
-//! all of it is answered by the calls. Only the headers of areas, the names that are asked for and the
-//! names of orphans are read here (`areas`, `records`).
+//! all of it is answered by the calls. Only the headers of areas, the names that are asked for, the
+//! names of orphans and what hints are about are read here (`areas`, `records`, `reserved`).
 
 use crate::areas::{choose, header, Header};
 use crate::arguments::Arguments;
@@ -11,6 +11,7 @@ use crate::failure::Failure;
 use crate::image_file;
 use crate::page::{Gone, Mounted, Page, Row};
 use crate::records::{candidates, is_each_once, Candidate};
+use crate::reserved::Hints;
 use crate::tree::tree;
 use crate::work::Collections;
 use nffs::{Area, Refusal, Report};
@@ -21,12 +22,14 @@ pub fn check(arguments: &Arguments) -> Result<(), Failure> {
     let chosen = choose(arguments, &image)?;
     let mounted = mounted(&image, &chosen.areas);
     let rows = rows(&image, &chosen.areas, mounted.is_ok());
+    let hints = Hints::of_a_page(&image, &chosen, &rows);
     let page = Page {
         image: arguments.image.display().to_string(),
         size: image.len(),
         at: at.unwrap_or(0),
         chosen,
         rows,
+        hints,
         mounted,
     };
     let text = if arguments.given("--json") { page.json() } else { page.text() };

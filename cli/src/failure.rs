@@ -2,6 +2,7 @@
 
 use crate::advice;
 use crate::console::count;
+use crate::work::COLLECTIONS_MOST;
 use nffs::Refusal;
 use std::fmt;
 use std::io;
@@ -9,6 +10,11 @@ use std::io;
 const NO_FIT: &str =
     "What is live leaves too little: `nffs rm` something, or format with more areas. \
                       The collections were made on a copy and are not kept.";
+
+const NO_TURN: &str =
+    "It was given up: counts that do not lie within 127 of each other, from 255 on to 0, can keep \
+     an area from ever being collected. `nffs export` copies the files out, and a format sets all \
+     counts to 0. The collections were made on a copy and are not kept.";
 
 pub enum Failure {
     /// The words of the command line make no command.
@@ -61,8 +67,9 @@ impl fmt::Display for Failure {
                 write!(f, "{what}: refused with {refusal}{}", advice::lines(*refusal))
             }
             Failure::NoFit(what, refusal, made) => {
+                let words = if *made < COLLECTIONS_MOST { NO_FIT } else { NO_TURN };
                 let made = count(*made as usize, "collection", "collections");
-                write!(f, "{what}: refused with {refusal}, also after {made}\n  {NO_FIT}")
+                write!(f, "{what}: refused with {refusal}, also after {made}\n  {words}")
             }
             Failure::Unsound | Failure::Unmounted | Failure::Closed => Ok(()),
         }

@@ -5,6 +5,7 @@ use crate::arguments::{usage, Arguments};
 use crate::console::{print, say};
 use crate::failure::Failure;
 use crate::image_file::{self, failed, Held, MOST};
+use crate::reserved::Hints;
 use crate::tree::contents;
 use crate::work::{append as append_all, Work};
 use nffs::{Area, Kind, Refusal};
@@ -41,6 +42,7 @@ pub fn areas_seen(arguments: &Arguments) -> Result<(), Failure> {
     let image = image_file::load(&arguments.image, arguments.number("--at")?)?;
     let chosen = areas::choose(arguments, &image)?;
     areas::warn(&chosen.left_out);
+    Hints::of_a_run(&image, &chosen).say();
     if chosen.areas.is_empty() {
         return Err(areas::none_seen(arguments));
     }
@@ -99,7 +101,7 @@ pub fn format(arguments: &Arguments) -> Result<(), Failure> {
         let mut image = held.image().to_vec();
         nffs::format(&mut image, &areas).map_err(|refusal| arguments.refused(refusal))?;
         // headers of an older volume, which would be found with the new ones
-        areas::warn(&areas::seen(&image, &areas));
+        areas::warn(&areas::seen(&image, &areas).areas);
         return held.replace(&image);
     }
     if at.is_some() {

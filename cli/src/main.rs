@@ -12,6 +12,7 @@ mod image_file;
 mod json;
 mod page;
 mod records;
+mod reserved;
 mod tree;
 mod work;
 

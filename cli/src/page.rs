@@ -5,6 +5,7 @@ use crate::areas::{list, Chosen, Header};
 use crate::console::{count, shown};
 use crate::json;
 use crate::records::Candidate;
+use crate::reserved::Hints;
 use crate::tree::{Entry, Tree, What};
 use nffs::{Area, Refusal, Report};
 use std::fmt::Write;
@@ -54,6 +55,7 @@ pub struct Page {
     pub at: u64,
     pub chosen: Chosen,
     pub rows: Vec<Row>,
+    pub hints: Hints,
     pub mounted: Result<Mounted, Refusal>,
 }
 
@@ -62,7 +64,7 @@ impl Page {
     pub fn status(&self) -> u8 {
         match &self.mounted {
             Err(_) => 1,
-            Ok(_) if !self.chosen.left_out.is_empty() => 3,
+            Ok(_) if !self.chosen.left_out.is_empty() || self.hints.has_headers() => 3,
             Ok(volume) if volume.wrong().is_empty() => 0,
             Ok(_) => 3,
         }
@@ -84,12 +86,12 @@ impl Page {
         if let Ok(volume) = &self.mounted {
             page += &volume.text();
         }
-        page
+        page + &self.hints.text()
     }
 
     fn areas_text(&self) -> String {
         let from = match (self.chosen.found, self.chosen.areas.is_empty()) {
-            (true, true) => "areas: no header is seen\n".to_string(),
+            (true, true) => "areas: no valid header is seen\n".to_string(),
             (true, false) => format!("areas: {}, found\n", list(&self.chosen.areas)),
             (false, _) => format!("areas: {}, as listed\n", list(&self.chosen.areas)),
         };
@@ -119,6 +121,7 @@ impl Page {
             ("areas", json::list(self.rows.iter().map(Row::json))),
             ("left_out", json::list(self.chosen.left_out.iter().map(|a| json::object(&place(*a))))),
         ];
+        fields.extend(self.hints.json());
         if let Ok(volume) = &self.mounted {
             fields.extend(volume.json());
         }
@@ -133,20 +136,12 @@ fn place(area: Area) -> [(&'static str, String); 2] {
 }
 
 impl Row {
-    fn kind(&self) -> &'static str {
-        match self.header {
-            None => "none",
-            Some(header) if header.is_scratch() => "scratch",
-            Some(_) => "file",
-        }
-    }
-
     fn text(&self) -> String {
         let mut text = format!("{:>5}+{:<5} ", self.area.offset, self.area.length);
         text += &match self.header {
             Some(header) if header.is_scratch() => format!("scratch, count {}", header.count),
             Some(header) => format!("file area {}, count {}", header.id, header.count),
-            None => "no header of this length: passed over".to_string(),
+            None => "no valid header of this length: passed over".to_string(),
         };
         match self.damage {
             None => {}
@@ -161,7 +156,7 @@ impl Row {
         json::object(&[
             offset,
             length,
-            ("kind", json::text(self.kind())),
+            ("kind", json::text(self.header.map_or("none", |h| h.kind()))),
             ("id", json::number(self.header.map(|h| h.id))),
             ("count", json::number(self.header.map(|h| h.count))),
             ("stretches", json::number(self.damage.map(|d| d.0))),
@@ -247,7 +242,7 @@ impl Mounted {
 }
 
 /// Bytes as text, if they are any, and by number.
-fn path_fields(name: &'static str, bytes: &[u8]) -> [(&'static str, String); 2] {
+pub fn path_fields(name: &'static str, bytes: &[u8]) -> [(&'static str, String); 2] {
     let text = std::str::from_utf8(bytes).map_or("null".into(), json::text);
     let by_number = if name == "path" { "path_hex" } else { "name_hex" };
     [(name, text), (by_number, json::hex(bytes))]

@@ -6,8 +6,9 @@ use crate::console::{count, Progress};
 use crate::failure::Failure;
 use nffs::{Area, Kind, Refusal, MOST_AREAS};
 
-/// No volume is collected oftener for one call: so often each area's count has gone round.
-const COLLECTIONS_MOST: u32 = 256 * MOST_AREAS as u32;
+/// No volume is collected oftener for one call: so often each area's count has gone round. Where
+/// counts do not lie within 127 of each other, an area may never have its turn.
+pub const COLLECTIONS_MOST: u32 = 256 * MOST_AREAS as u32;
 
 /// Collections of one volume, as long as they can give something. They give nothing more once
 /// every area has been collected since records went the last time.

@@ -1,9 +1,10 @@
-/* What docs/LINKING.md, 10, says besides its table: what appends use up, how long an area must be for two blocks, and areas of several lengths. */
+/* What docs/LINKING.md, 10 and 11, says besides its table: what appends use up, how long an area must be for two blocks, areas of several lengths,
+   which area is collected, and headers whose reserved byte is not 0. */
 #include "nffs.h"
 
 #include <stdio.h>
 
-enum { MOST = 65536, COUNT_AT = 21 };
+enum { MOST = 65536, COUNT_AT = 21, RESERVED_AT = 22, ID_AT = 23, SCRATCH = 255 };
 static uint8_t image[MOST];
 static uint8_t data[NFFS_APPEND_MOST];
 static nffs_area areas[NFFS_MOST_AREAS];
@@ -47,6 +48,55 @@ static int takes(uint32_t length, size_t count, size_t size, uint32_t expected, 
     return taken == expected && number == refused;
 }
 
+/* collects so often, and counts for each area how often it was its turn; whether the numbers of the first so many were ever more than one apart */
+static int in_turn(const nffs_volume *flash, unsigned collections, size_t first, unsigned *turns) {
+    int good = 1;
+    while (collections-- > 0) {
+        good &= nffs_volume_collect(flash) == NFFS_OK;
+        for (size_t i = 0; i < flash->areas_count; i++) {
+            turns[i] += image[areas[i].offset + ID_AT] == SCRATCH;
+        }
+        for (size_t i = 0; i < first * first; i++) {
+            good &= turns[i / first] <= turns[i % first] + 1;
+        }
+    }
+    return good;
+}
+
+/* areas of one length have their turn, through 255 to 0, and a shorter one does not */
+static void turns(void) {
+    for (size_t count = 2; count <= 5; count++) {
+        unsigned had[6] = {0};
+        const nffs_volume flash = formatted((const uint32_t[]){1024, 1024, 1024, 1024, 1024}, count);
+        check("after a format each has its turn", in_turn(&flash, 1300, count, had));
+    }
+    unsigned had[6] = {0};
+    const nffs_volume one_short = formatted((const uint32_t[]){1024, 1024, 1024, 512}, 4);
+    check("beside a shorter one too", in_turn(&one_short, 1300, 3, had) && had[3] == 0);
+
+    unsigned of_five[6] = {0};
+    const nffs_volume apart = formatted((const uint32_t[]){1024, 1024, 1024, 1024, 1024}, 5);
+    image[areas[3].offset + COUNT_AT] = 86;
+    image[areas[4].offset + COUNT_AT] = 172;
+    check("counts of which each is preceded", !in_turn(&apart, 1300, 5, of_five));
+    check("keep areas from their turn", of_five[0] == 650 && of_five[1] == 650 && of_five[2] + of_five[3] + of_five[4] == 0);
+}
+
+/* an area whose header has a reserved byte other than 0 is passed over, and nothing is stored in it */
+static void reserved(void) {
+    const nffs_volume flash = formatted((const uint32_t[]){1024, 1024, 1024}, 3);
+    image[areas[2].offset + RESERVED_AT] = 1;
+    needs("a file is created", nffs_volume_create(&flash, NULL, "/a", NFFS_FILE).number == NFFS_OK);
+    check("an area that is passed over has no room", nffs_volume_append(&flash, NULL, "/a", data, 1000) == NFFS_NO_ROOM);
+    image[areas[2].offset + RESERVED_AT] = 0;
+    check("and one that is not has", nffs_volume_append(&flash, NULL, "/a", data, 1000) == NFFS_OK);
+    for (size_t i = 0; i < 2; i++) {
+        const nffs_volume pair = formatted((const uint32_t[]){1024, 1024}, 2);
+        image[areas[i].offset + RESERVED_AT] = 0x80;
+        check("the only file area, or scratch", nffs_volume_report(&pair).number == NFFS_NO_FILE_OR_SCRATCH);
+    }
+}
+
 int main(void) {
     check("appends of 30 bytes use up the ids", takes(4096, 16, 30, 1024, NFFS_TOO_MANY_IDS));
     check("appends of 40 bytes use up the room", takes(4096, 16, 40, 944, NFFS_NO_ROOM));
@@ -67,6 +117,8 @@ int main(void) {
         good &= image[areas[i].offset + COUNT_AT] == (i == 2 ? 0 : 4);
     }
     check("a shorter one is never collected", good);
+    turns();
+    reserved();
     printf("%u passed, %u failed\n", passed, failed);
     return failed != 0;
 }

@@ -1,9 +1,10 @@
-"""`nffs check --json` on volumes made by chance, beside document 01's rules on records, fates and damage, read a second time.
+"""`nffs check --json` on volumes made by chance, beside document 01's rules on records, fates and damage, as amended (T-14), read a second time.
 
     check.py PROGRAM [COUNT]
 
-What is live, deleted or an orphan, where it stands, and how much is damaged in which area. Volumes hold several versions, missing and looping
-parents, equal records in two areas, damaged bits and areas shorter than scratch. A volume is one check. Ends with the count.
+What is live, deleted or an orphan, where it stands, how much is damaged in which area, and which reserved bytes are hinted at. Volumes hold several
+versions, missing and looping parents, equal records in two areas, damaged bits, areas shorter than scratch, and headers and inodes whose reserved
+byte is not 0. A volume is one check. Ends with the count.
 """
 
 import binascii
@@ -27,8 +28,8 @@ def check(data):
     return binascii.crc_hqx(data, 0)
 
 
-def inode(ident, sequence, parent, name):
-    front = struct.pack("<IIIIBB", INODE, ident, sequence, parent, 0, len(name))
+def inode(ident, sequence, parent, name, reserved=0):
+    front = struct.pack("<IIIIBB", INODE, ident, sequence, parent, reserved, len(name))
     return front + struct.pack("<H", check(front + name)) + name
 
 
@@ -37,17 +38,24 @@ def block(ident, sequence, owner, previous, data):
     return front + struct.pack("<H", check(front + data)) + data
 
 
-def header(ident, count, length):
-    return struct.pack("<IIIII", 0xB98A31E2, 0x7FB0428C, 0xACE08253, 0xB185FC8E, length) + bytes([0, count, 0, ident])
+def header(ident, count, length, reserved):
+    return struct.pack("<IIIII", 0xB98A31E2, 0x7FB0428C, 0xACE08253, 0xB185FC8E, length) + bytes([0, count, reserved, ident])
+
+
+def other_than_0(chance, likely):
+    """A reserved byte: mostly 0."""
+    return chance.choice([1, 0x80, 0xFF, chance.randint(1, 255)]) if chance.random() < likely else 0
 
 
 def record(chance):
     """A record by chance, with its id and sequence."""
     if chance.random() < 0.65:
         ident, sequence = chance.choice(DIRECTORIES + FILES), chance.randint(0, 3)
+        reserved = other_than_0(chance, 0.05)
         if chance.random() < 0.25:
-            return (ident, sequence), inode(ident, sequence, NONE, b"")
-        return (ident, sequence), inode(ident, sequence, chance.choice([0, 0] + DIRECTORIES), chance.choice([b"a", b"b", b"cc", b"d\n", b"\xff"]))
+            return (ident, sequence), inode(ident, sequence, NONE, b"", reserved)
+        name = chance.choice([b"a", b"b", b"cc", b"d\n", b"\xff"])
+        return (ident, sequence), inode(ident, sequence, chance.choice([0, 0] + DIRECTORIES), name, reserved)
     ident, sequence = chance.choice(BLOCKS), chance.randint(0, 2)
     previous = chance.choice([NONE, NONE] + [other for other in BLOCKS if other != ident])
     return (ident, sequence), block(ident, sequence, chance.choice(FILES), previous, chance.randbytes(chance.randint(1, 30)))
@@ -58,7 +66,7 @@ def volume(chance):
     count = chance.choice([2, 3, 4, 5, 16])
     length = 512 if count == 16 else chance.choice([1024, 2048, 4096])
     kept = [[] for _ in range(count - 1)]
-    chance.choice(kept).append(inode(0, 0, NONE, b""))
+    chance.choice(kept).append(inode(0, 0, NONE, b"", other_than_0(chance, 0.05)))
     known = set()
     twice = chance.random() < 0.2 and count > 2
     for _ in range(chance.randint(0, 18)):
@@ -74,7 +82,7 @@ def volume(chance):
     areas = []
     for i, length in enumerate(lengths):
         ident = 255 if i == scratch else i
-        area = header(ident, chance.choice([0, 0, 0, 1, 2, 200, 255]), length)
+        area = header(ident, chance.choice([0, 0, 0, 1, 2, 200, 255]), length, other_than_0(chance, 0.03))
         for made in [] if i == scratch else kept[i - (i > scratch)]:
             area += made if len(area) + len(made) <= length else b""
         area = bytearray(area.ljust(length, b"\xff"))
@@ -84,14 +92,23 @@ def volume(chance):
     return areas
 
 
+def is_valid(area):
+    """T-14: a header whose reserved byte is not 0 is none."""
+    return area[22] == 0
+
+
+def is_file_area(area):
+    return is_valid(area) and area[23] != 255
+
+
 def acceptable(data):
-    """The record at the front: its size, whether it is an inode, and its fields."""
+    """The record at the front: its size, whether it is an inode, and its fields. T-14: an inode's reserved byte is 0."""
     if len(data) >= 20 and data[:4] == MAGICS[0]:
-        _, ident, sequence, parent, _, size, right = struct.unpack("<IIIIBBH", data[:20])
+        _, ident, sequence, parent, reserved, size, right = struct.unpack("<IIIIBBH", data[:20])
         name = data[20:20 + size]
         named = size > 0 and parent <= 0x0FFFFFFF
         rule = parent == NONE and size == 0 if ident == 0 else named or parent == NONE
-        good = len(name) == size and ident <= 0x7FFFFFFF and not set(b"/\0") & set(name) and rule
+        good = len(name) == size and ident <= 0x7FFFFFFF and not set(b"/\0") & set(name) and rule and reserved == 0
         return (20 + size, True, ident, sequence, parent, name) if good and check(data[:18] + name) == right else None
     if len(data) >= 24 and data[:4] == MAGICS[1]:
         _, ident, sequence, owner, previous, size, right = struct.unpack("<IIIIIHH", data[:24])
@@ -135,9 +152,46 @@ def fates(records):
     return said
 
 
+def refusal(areas):
+    """Why a volume that is made here does not mount; no area is found where no header is valid."""
+    if not any(map(is_valid, areas)):
+        return 1
+    if sum(is_valid(area) and area[23] == 255 for area in areas) != 1 or not any(map(is_file_area, areas)):
+        return 3
+    return 0 if 0 in fates([one for area in areas if is_file_area(area) for one in read(area)[0]]) else 7
+
+
+def starts(areas):
+    """Each area with its place in the image."""
+    at = 0
+    for area in areas:
+        yield at, area
+        at += len(area)
+
+
+def hinted(areas, mounts):
+    """The headers, and in file areas that are not known to be clean the inodes with a right check, whose reserved byte is not 0."""
+    headers = [(at, len(area), "scratch" if area[23] == 255 else "file", area[23], area[22]) for at, area in starts(areas) if not is_valid(area)]
+    inodes = []
+    for at, area in starts(areas):
+        if is_file_area(area) and not (mounts and not read(area)[1]):
+            for k in range(len(area) - 19):
+                end = k + 20 + area[k + 17]
+                if area[k:k + 4] == MAGICS[0] and area[k + 16] and end <= len(area):
+                    right = check(area[k:k + 18] + area[k + 20:end]) == int.from_bytes(area[k + 18:k + 20], "little")
+                    inodes += [(at + k, int.from_bytes(area[k + 4:k + 8], "little"), area[k + 20:end].hex(), area[k + 16])] if right else []
+    return headers, inodes
+
+
+def told_hints(page):
+    headers = [tuple(h[k] for k in ("offset", "length", "kind", "id", "reserved")) for h in page["reserved_headers"]]
+    return headers, sorted(tuple(r[k] for k in ("offset", "id", "name_hex", "reserved")) for r in page["reserved_records"])
+
+
 def wrong(page, areas):
     """What the page says otherwise than the rules, or nothing."""
-    readings = [read(area) if area[23] != 255 else ([], None) for area in areas]
+    areas = [area for area in areas if is_valid(area)]
+    readings = [read(area) if is_file_area(area) else ([], None) for area in areas]
     said = fates([one for records, _ in readings for one in records])
     of = {fate: sorted(i for i in said if said[i] == fate) for fate in ("live", "deleted", "orphan")}
     entries = sorted(entry["id"] for entry in page["entries"])
@@ -158,7 +212,7 @@ def wrong(page, areas):
 
 def main(program, count):
     chance = random.Random(27)
-    passed = failed = told = orphans = ambiguous = 0
+    passed = failed = told = orphans = ambiguous = unmounted = headers = records = 0
     with tempfile.TemporaryDirectory() as folder:
         image = Path(folder) / "image"
         for k in range(count):
@@ -166,20 +220,26 @@ def main(program, count):
             image.write_bytes(b"".join(areas))
             done = subprocess.run([program, "check", image, "--json"], capture_output=True, timeout=60)
             page = json.loads(done.stdout)
-            if page["refusal"]:
+            expected = refusal(areas)
+            if expected or page["refusal"]:
                 # the root's record may be the one that was damaged
-                faults = [] if page["refusal"]["number"] == 7 and 0 not in fates([r for a in areas if a[23] != 255 for r in read(a)[0]]) else ["refusal"]
+                faults = [] if page["refusal"] and page["refusal"]["number"] == expected else ["refusal"]
+                unmounted += 1
             else:
                 faults = wrong(page, areas)
                 told += page["orphans"] is not None
                 orphans += bool(page["orphans"])
                 ambiguous += bool(page["ambiguous"])
+            faults += [] if told_hints(page) == hinted(areas, not expected) else ["hints"]
+            headers += bool(page["reserved_headers"])
+            records += bool(page["reserved_records"])
             if faults:
                 print(f"FAILED: volume {k}: {', '.join(faults)}\n{done.stdout.decode()}")
             passed, failed = passed + (not faults), failed + bool(faults)
-    print(f"of {count} volumes {told} told apart, {orphans} with orphans, {ambiguous} with ambiguous paths")
+    print(f"of {count} volumes {told} told apart, {orphans} with orphans, {ambiguous} with ambiguous paths, {unmounted} that do not mount,")
+    print(f"{headers} with hints at headers, {records} at records")
     # none of these would be a check of nothing
-    failed += min(told, orphans, ambiguous) < count // 20
+    failed += min(told, orphans, ambiguous, unmounted, headers, records) < count // 20
     print(f"{passed} passed, {failed} failed")
     sys.exit(failed > 0)
 

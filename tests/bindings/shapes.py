@@ -11,6 +11,7 @@ answers = (top / "crates/calls/src/lib.rt").read_text()
 whole = (top / "include/nffs.h").read_text()
 header = whole.replace("NFFS_ANSWERS ", "")
 manifest = (top / "bindings/rust/Cargo.toml").read_text()
+program = (top / "cli/Cargo.toml").read_text()
 raw = (top / "bindings/rust/src/raw.rs").read_text()
 crate = (top / "bindings/rust/src/lib.rs").read_text()
 linking = (top / "docs/LINKING.md").read_text()
@@ -124,7 +125,9 @@ most_ids = [f"more than {int(i):,} inode ids or {int(b):,} block ids" for i, b i
 check("the most ids in words", most_ids, [said.get("TOO_MANY_IDS")])
 check("the most ids, docs/LINKING.md", most_ids, [f"more than {i} inode ids or {b} block ids" for i, b in re.findall(r"([\d,]+) inode ids and ([\d,]+) block ids", linking)])
 
-check("the version, C and Rust", re.findall(r'#define NFFS_VERSION ("[^"]+")', whole), re.findall(r"^version = (.+)$", manifest, re.M))
+version = re.findall(r'#define NFFS_VERSION ("[^"]+")', whole)
+check("the version, C and Rust", version, re.findall(r"^version = (.+)$", manifest, re.M))
+check("the version, command-line program", version, re.findall(r"^version = (.+)$", program, re.M))
 marked = re.findall(r"^NFFS_ANSWERS (?:static inline )?\w+ (nffs_\w+)\(", whole, re.M)
 check("calls whose answer must be looked at", sorted(marked), sorted(re.findall(r"^(?:static inline )?(?:uint32_t|nffs_\w+_answer) (nffs_\w+)\(", header, re.M)))
 

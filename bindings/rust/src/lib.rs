@@ -39,6 +39,22 @@ pub use volume::Volume;
 ///
 /// A list of areas ends at the first length 0 or at its end. Good are 1 to 16 areas of 128 to
 /// 65,536 bytes, each inside the image, none overlapping.
+///
+/// An area without a valid header is passed over with all that lies in it, by every call but
+/// [`format`](crate::format()). Since version 0.4.0 a header whose reserved byte is not 0 is not
+/// valid, and an inode's record with such a byte is not read (`docs/LINKING.md`, "Volumes of other
+/// writers").
+///
+/// ```
+/// use nffs::{Area, Refusal};
+///
+/// let mut flash = [0; 2 * 4096];
+/// let areas = Area::row::<2>(4096);
+/// nffs::format(&mut flash, &areas)?;
+/// flash[22] = 1;
+/// assert_eq!(nffs::report(&flash, &areas), Err(Refusal::NO_FILE_OR_SCRATCH));
+/// # Ok::<(), Refusal>(())
+/// ```
 #[repr(C)]
 #[derive(Clone, Copy, Debug, PartialEq, Eq)]
 pub struct Area {
@@ -351,7 +367,9 @@ pub fn unlink(image: &mut [u8], areas: &[Area], base: &[u8], path: &[u8]) -> Res
 
 /// Copies what counts in one file area into scratch and erases that area, which becomes scratch:
 /// superseded records leave room, deleted ones as soon as nothing else names them, and the damage
-/// of that area goes. One call collects one area.
+/// of that area goes. One call collects one area: of the file areas as long as scratch the first
+/// that none of them precedes, by the counts in their headers, where 255 precedes 0; if there is
+/// none, the first (`docs/LINKING.md`, "Plan the areas").
 ///
 /// Checks in order: 1 to 7, 17.
 ///

@@ -69,14 +69,14 @@ fn no_header_or_too_many() {
     folder.write("blank", [0xff; 8192]);
     for words in [&["areas", "blank"][..], &["report", "blank"], &["rm", "blank", "/a"]] {
         let said = folder.bad(words, b"", 2);
-        assert!(said.contains("no area header is seen in blank"), "{said}");
+        assert!(said.contains("no valid area header is seen in blank"), "{said}");
     }
     // of another version, or longer than what follows
     let mut other = records::image(&[]);
     other[20] = 1;
     other[4096 + 17] = 0x11;
     folder.write("other", &other);
-    assert!(folder.bad(&["areas", "other"], b"", 2).contains("no area header is seen"));
+    assert!(folder.bad(&["areas", "other"], b"", 2).contains("no valid area header is seen"));
     let many = [records::header(1, 128), vec![0xff; 104]].concat().repeat(17);
     folder.write("many", many);
     let said = folder.bad(&["report", "many"], b"", 2);

@@ -7,7 +7,7 @@ use std::process::Command;
 const FILE: u32 = 0x1000_0000;
 
 /// What check prints with a status; it says nothing else.
-fn page(folder: &Folder, words: &[&str], status: i32) -> String {
+pub fn page(folder: &Folder, words: &[&str], status: i32) -> String {
     let output = folder.run(&[&["check", "image"], words].concat(), b"");
     let page = String::from_utf8(output.stdout).unwrap();
     assert_eq!((output.status.code(), &output.stderr[..]), (Some(status), &b""[..]), "{page}");
@@ -70,7 +70,7 @@ fn a_volume_that_does_not_mount() {
     folder.write("image", [0xff; 8192]);
     let page_of = page(&folder, &[], 1);
     assert!(page_of.contains("does not mount: 1, "), "{page_of}");
-    assert!(page_of.ends_with("\nareas: no header is seen\n"), "{page_of}");
+    assert!(page_of.ends_with("\nareas: no valid header is seen\n"), "{page_of}");
     assert!(page(&folder, &["--areas", "4096x2"], 1).contains("passed over"));
     folder.bad(&["check", "missing"], b"", 2);
 }

@@ -1,7 +1,7 @@
 //! What each command does.
 
 use crate::folder::Folder;
-use crate::records::{image_of, inode};
+use crate::records::{header, image_of, inode, NONE};
 use std::fs;
 
 #[test]
@@ -144,6 +144,37 @@ fn with_collect_it_fits_or_it_is_said_that_it_cannot() {
         said.contains("put short /a: no room, and a collection is: refused with 17, "),
         "{said}"
     );
+}
+
+#[test]
+fn an_area_that_never_has_its_turn() {
+    let folder = Folder::new("turns");
+    // of the last three each is preceded by another, and the first two are before them in the list
+    let area = |id: u8, count: u8, records: &[u8]| {
+        let mut area = [&header(id, 1024)[..], records].concat();
+        area[21] = count;
+        area.resize(1024, 0xff);
+        area
+    };
+    let deleted = [inode(1, 0, 0, b"old"), inode(1, 1, NONE, b"")].concat();
+    let areas = [
+        area(255, 0, b""),
+        area(0, 0, &inode(0, 0, NONE, b"")),
+        area(1, 0, &deleted),
+        area(2, 86, b""),
+        area(3, 172, b""),
+    ];
+    folder.write("image", areas.concat());
+    let said = folder.refused(&["put", "image", "/a", "--collect"], &[7; 5000]);
+    let words = ", also after 4096 collections\n  It was given up: counts that do not lie within";
+    assert!(said.contains(words), "{said}");
+    let page = folder.text(&["check", "image"]);
+    assert!(page.contains("inodes: 2, of which 1 live, 1 deleted or orphans\n"), "{page}");
+    for _ in 0..300 {
+        folder.good(&["collect", "image"], b"");
+    }
+    let counts: Vec<u8> = folder.bytes("image").chunks(1024).map(|area| area[21]).collect();
+    assert_eq!(counts, [150, 150, 0, 86, 172]);
 }
 
 #[test]

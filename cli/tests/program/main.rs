@@ -9,3 +9,4 @@ mod folder;
 mod folders;
 mod records;
 mod refusals;
+mod reserved;

@@ -16,9 +16,14 @@ fn check(bytes: &[u8]) -> u16 {
 }
 
 pub fn inode(id: u32, sequence: u32, parent: u32, name: &[u8]) -> Vec<u8> {
+    inode_with(0, id, sequence, parent, name)
+}
+
+/// The same with this reserved byte.
+pub fn inode_with(reserved: u8, id: u32, sequence: u32, parent: u32, name: &[u8]) -> Vec<u8> {
     let fields = [0x925f_8bc0, id, sequence, parent];
     let mut front: Vec<u8> = fields.iter().flat_map(|field: &u32| field.to_le_bytes()).collect();
-    front.extend([0, name.len() as u8]);
+    front.extend([reserved, name.len() as u8]);
     let check = check(&[&front, name].concat());
     [&front, &check.to_le_bytes()[..], name].concat()
 }
