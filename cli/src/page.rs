@@ -13,7 +13,7 @@ use std::fmt::Write;
 const DAMAGE: &str = "\
 Damage: bytes that no record holds, torn or worn. Of what stood there an older version may count,
   or something deleted be back: compare with what you expect. Nothing is written to a damaged area;
-  `nffs collect`, until no damage is counted, clears it.";
+  `nffs collect` clears the area that it collects, which is never one shorter than scratch.";
 const BROKEN: &str = "\
 Broken: blocks of the file are lost. `nffs put IMAGE PATH FILE --replace` stores it anew, `nffs rm`
   unlinks it.";
