@@ -240,7 +240,7 @@ fn writes_between() {
     }
 }
 
-/// From any counts: each source is the one of T-14, though areas may wait long for their turn.
+/// From any counts: each source is the one of T-14. Areas may wait long for their turn.
 #[test]
 fn any_counts() {
     let mut r = Random::new(14);
@@ -261,6 +261,20 @@ fn any_counts() {
     }
 }
 
+/// Three areas behind two others, each preceded by another of the three whatever the two have: the two have every turn. Collections do not lead to
+/// such counts from a spread of at most 127.
+#[test]
+fn a_circle_of_counts() {
+    for count in [0, 70, 255] {
+        let mut volume = Volume::of(128, &[count, count, 0, 100, 200], 0, false);
+        for _ in 0..COLLECTIONS {
+            volume.collect();
+        }
+        volume.tell(0, "");
+        assert_eq!(volume.times, [300, 300, 0, 0, 0]);
+    }
+}
+
 /// A collection by the order before T-14, the lowest number in the header first.
 fn collect_the_lowest(volume: &mut Volume) -> usize {
     let headers = volume.headers();
@@ -274,8 +288,8 @@ fn collect_the_lowest(volume: &mut Volume) -> usize {
     volume.collected()
 }
 
-/// What the request complains of, and that these tests would see it: by the order before, areas whose count has passed to 0 are chosen again and again,
-/// and one that has not passes hundreds of turns.
+/// What the request complains of, and that these tests would see it: by the order before, two areas whose counts have passed to 0 are chosen again and
+/// again, and the others wait for hundreds of turns.
 #[test]
 fn the_order_before() {
     for areas in [3, 8] {
