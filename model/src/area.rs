@@ -17,7 +17,7 @@ pub struct Stretch {
 }
 
 impl Stretch {
-    fn end(&self) -> usize {
+    pub fn end(&self) -> usize {
         self.offset + self.length
     }
 }

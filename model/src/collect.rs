@@ -21,28 +21,35 @@ fn try_collect(image: &mut [u8], areas: &[u32]) -> Result<(), Refusal> {
     Ok(())
 }
 
-/// "Source area: lowest collection count, first among equals, of those as long
-/// as scratch." An index into the file areas.
-fn source(fs: &FileSystem) -> Option<usize> {
-    let eligible =
-        || (0..fs.file_areas.len()).filter(|i| fs.file_areas[*i].at.len() == fs.scratch.at.len());
-    let precedes = |a: usize, b: usize| count_precedes(&fs.file_areas[a], &fs.file_areas[b]);
-    let mut unpreceded = eligible().filter(|i| !eligible().any(|other| precedes(other, *i)));
-    unpreceded.next()
+/// "The source area is the first eligible one (as long as scratch), in
+/// descriptor order, that no eligible area precedes; if there is none, the
+/// first eligible one" (document 02, T-14). An index into the file areas.
+pub fn source(fs: &FileSystem) -> Option<usize> {
+    let eligible = || (0..fs.file_areas.len()).filter(|i| is_eligible(fs, &fs.file_areas[*i]));
+    let count = |i: usize| fs.file_areas[i].header.count;
+    let preceded = |i: usize| eligible().any(|other| count_precedes(count(other), count(i)));
+    let mut unpreceded = eligible().filter(|i| !preceded(*i));
+    unpreceded.next().or_else(|| eligible().next())
 }
 
-/// The order of collection counts.
-fn count_precedes(a: &FileArea, b: &FileArea) -> bool {
-    a.header.count < b.header.count
+/// "eligible ... (as long as scratch)".
+pub fn is_eligible(fs: &FileSystem, area: &FileArea) -> bool {
+    area.at.len() == fs.scratch.at.len()
+}
+
+/// "count a precedes count b when (b - a) taken modulo 256 is 1 to 127"
+/// (document 02, T-14).
+pub fn count_precedes(a: u8, b: u8) -> bool {
+    (1..=127).contains(&b.wrapping_sub(a))
 }
 
 /// "A scratch area not FF after its header is erased first and its header
 /// restored. Scratch takes the source's id; the counting records ... are
-/// copied byte for byte".
+/// copied byte for byte". It keeps its own count.
 fn fill_scratch(image: &mut [u8], fs: &FileSystem, id: u8, copies: &[&Record]) {
     let scratch = fs.scratch.at.clone();
     image[scratch.start + AreaHeader::SIZE..scratch.end].fill(0xff);
-    image[scratch.start + AreaHeader::ID] = id;
+    image[scratch.start + AreaHeader::ID_AT] = id;
     let mut at = scratch.start + AreaHeader::SIZE;
     for record in copies {
         put(image, at, &record.bytes());

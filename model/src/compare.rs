@@ -272,8 +272,8 @@ impl Tally {
         met.into_iter().for_each(|made| self.met(made));
     }
 
-    /// `side` is what the call left.
-    fn count(&mut self, call: &Call, answer: &Answer, side: &Side) {
+    /// `before` is what was to be met in the call, `side` what it left.
+    fn count(&mut self, call: &Call, answer: &Answer, before: Vec<Made>, side: &Side) {
         if call.is_call() {
             self.calls += 1;
             *self.answers.entry((call.name(), answer[0])).or_default() += 1;
@@ -283,7 +283,7 @@ impl Tally {
             Call::Damage { .. } | Call::Handle { .. } => Vec::new(),
             _ => made::in_call(call, answer, side),
         };
-        met.into_iter().for_each(|made| self.met(made));
+        before.into_iter().chain(met).for_each(|made| self.met(made));
     }
 
     fn met(&mut self, made: Made) {
@@ -308,8 +308,9 @@ pub fn run(
     tally.begin(case);
     let (mut a, mut b) = (Side::new(case), Side::new(case));
     for (call, step) in case.calls.iter().enumerate() {
+        let before = made::before_call(step, &a);
         let answers = (a.perform(left, step), b.perform(right, step));
-        tally.count(step, &answers.0, &a);
+        tally.count(step, &answers.0, before, &a);
         if let Some(what) = difference(&answers, &a, &b) {
             return Some(Difference { call, what });
         }

@@ -3,6 +3,7 @@
 
 use crate::area::{self, Taken};
 use crate::compare::{Engine, Side};
+use crate::forge::with_reserved;
 use crate::generate::Random;
 use crate::layout::{is_file, Inode, Record, ROOT};
 use crate::mount::{Fate, FileSystem};
@@ -24,7 +25,11 @@ pub fn overwrite(r: &mut Random, fs: &FileSystem, image: &mut [u8]) -> Option<To
             }
             let start = area.at.start + taken.offset;
             let bytes = &mut image[start..start + taken.record.size()];
-            scribble(r, bytes);
+            if taken.record.inode().is_some() && r.chance(10) {
+                reserve(bytes, r.between(1, 255) as u8);
+            } else {
+                scribble(r, bytes);
+            }
             if bytes != taken.record.bytes() {
                 touched.push((i, taken.clone()));
             }
@@ -36,6 +41,13 @@ pub fn overwrite(r: &mut Random, fs: &FileSystem, image: &mut [u8]) -> Option<To
             .any(|at| Record::acceptable(&area[at..]).is_some())
     };
     (!touched.iter().any(inside)).then_some(touched)
+}
+
+/// An inode that is unacceptable by its reserved byte alone, its check being
+/// right: "demand 3 reads the new rule" (document 02, T-14).
+pub fn reserve(inode: &mut [u8], reserved: u8) {
+    let altered = with_reserved(inode, reserved);
+    inode.copy_from_slice(&altered);
 }
 
 /// "whatever is written": flipped bits, one byte over and over, or any bytes.

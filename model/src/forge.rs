@@ -1,7 +1,14 @@
 //! Images written by hand: areas with chosen headers and records with chosen
 //! fields, right checks included, acceptable or not.
 
-use crate::layout::{AreaHeader, Block, Inode, NONE, ROOT};
+use crate::layout::{with_check, AreaHeader, Block, Inode, NONE, ROOT};
+
+/// An inode's bytes with this in its reserved byte, and a right check.
+pub fn with_reserved(inode: &[u8], reserved: u8) -> Vec<u8> {
+    let mut covered = inode[..Inode::CHECK].to_vec();
+    covered[Inode::RESERVED_AT] = reserved;
+    with_check(covered, &inode[Inode::HEADER..])
+}
 
 /// An image under a list of areas, each with a place to write next.
 #[derive(Clone, Debug)]
@@ -52,9 +59,10 @@ impl Flash {
     }
 
     pub fn head(&mut self, area: usize, count: u8, reserved: u8, id: u8) {
-        let header = AreaHeader { length: self.length(area) as u32, count, reserved, id };
+        let header = AreaHeader { length: self.length(area) as u32, count, id };
         let offset = self.offset(area);
         self.image[offset..offset + AreaHeader::SIZE].copy_from_slice(&header.bytes());
+        self.image[offset + AreaHeader::RESERVED_AT] = reserved;
     }
 
     /// Bytes that are left in the area behind what was put there.

@@ -37,13 +37,18 @@ fn u16_at(bytes: &[u8], at: usize) -> u16 {
     u16::from_le_bytes([bytes[at], bytes[at + 1]])
 }
 
+/// What every valid header and every acceptable inode has in its reserved byte:
+/// "Records and area headers whose reserved byte isn't 0 are no longer
+/// acceptable or valid" (document 02, T-14); "writers store 0".
+pub const RESERVED: u8 = 0;
+
 /// "area header: magic 4x4, length 4, version 1, collection count 1,
-/// reserved 1, area id 1". Magic and version are the same in every valid one.
+/// reserved 1, area id 1". Magic, version and reserved byte are the same in
+/// every valid one.
 #[derive(Clone, Copy, Debug, PartialEq, Eq)]
 pub struct AreaHeader {
     pub length: u32,
     pub count: u8,
-    pub reserved: u8,
     pub id: u8,
 }
 
@@ -53,8 +58,10 @@ impl AreaHeader {
     pub const VERSION: u8 = 0;
     /// "Id 255 is scratch; any other is a file area."
     pub const SCRATCH: u8 = 255;
-    /// Where the id byte stands.
-    pub const ID: usize = 23;
+    /// Where count, reserved byte and id stand.
+    pub const COUNT_AT: usize = 21;
+    pub const RESERVED_AT: usize = 22;
+    pub const ID_AT: usize = 23;
 
     pub fn bytes(&self) -> Vec<u8> {
         let mut bytes = Vec::new();
@@ -62,21 +69,22 @@ impl AreaHeader {
             bytes.extend(magic.to_le_bytes());
         }
         bytes.extend(self.length.to_le_bytes());
-        bytes.extend([Self::VERSION, self.count, self.reserved, self.id]);
+        bytes.extend([Self::VERSION, self.count, RESERVED, self.id]);
         bytes
     }
 
     /// "A valid area header has the four magics, version 0 and a length equal
-    /// to its descriptor's." `area` is what the descriptor describes.
+    /// to its descriptor's", and its reserved byte is 0 (T-14), scratch's too.
+    /// `area` is what the descriptor describes.
     pub fn valid(area: &[u8]) -> Option<AreaHeader> {
         let magics = (0..4).all(|i| u32_at(area, 4 * i) == Self::MAGIC[i]);
         let length = u32_at(area, 16);
-        let version = area[20];
+        let (version, reserved) = (area[20], area[Self::RESERVED_AT]);
         if !magics || version != Self::VERSION || length as usize != area.len() {
             return None;
         }
-        let (count, reserved, id) = (area[21], area[22], area[23]);
-        Some(AreaHeader { length, count, reserved, id })
+        let header = AreaHeader { length, count: area[Self::COUNT_AT], id: area[Self::ID_AT] };
+        (reserved == RESERVED).then_some(header)
     }
 
     pub fn is_scratch(&self) -> bool {
@@ -85,13 +93,13 @@ impl AreaHeader {
 }
 
 /// "inode: magic 4, id 4, sequence 4, parent 4, reserved 1, name length 1,
-/// check 2, then name".
+/// check 2, then name". Magic and reserved byte are the same in every
+/// acceptable one.
 #[derive(Clone, Debug, PartialEq, Eq)]
 pub struct Inode {
     pub id: u32,
     pub sequence: u32,
     pub parent: u32,
-    pub reserved: u8,
     pub name: Vec<u8>,
 }
 
@@ -99,10 +107,11 @@ impl Inode {
     pub const MAGIC: u32 = 0x925f_8bc0;
     pub const HEADER: usize = 20;
     pub const CHECK: usize = 18;
+    /// Where the reserved byte stands.
+    pub const RESERVED_AT: usize = 16;
 
-    /// A record as writers store it: "writers store 0" in the reserved byte.
     pub fn new(id: u32, sequence: u32, parent: u32, name: &[u8]) -> Inode {
-        Inode { id, sequence, parent, reserved: 0, name: name.to_vec() }
+        Inode { id, sequence, parent, name: name.to_vec() }
     }
 
     pub fn bytes(&self) -> Vec<u8> {
@@ -110,13 +119,13 @@ impl Inode {
         for field in [Self::MAGIC, self.id, self.sequence, self.parent] {
             bytes.extend(field.to_le_bytes());
         }
-        bytes.extend([self.reserved, self.name.len() as u8]);
+        bytes.extend([RESERVED, self.name.len() as u8]);
         with_check(bytes, &self.name)
     }
 
     /// The inode at the front of `rest`, where its magic is, of which only
-    /// "header and body lie inside the area" and that the check is right is
-    /// known.
+    /// "header and body lie inside the area", that the check is right and that
+    /// the reserved byte is 0 (T-14) is known.
     fn parse(rest: &[u8]) -> Option<Inode> {
         if rest.len() < Self::HEADER {
             return None;
@@ -125,13 +134,14 @@ impl Inode {
         if rest.len() < end || !check_is_right(&rest[..end], Self::HEADER, Self::CHECK) {
             return None;
         }
-        Some(Inode {
+        let inode = Inode {
             id: u32_at(rest, 4),
             sequence: u32_at(rest, 8),
             parent: u32_at(rest, 12),
-            reserved: rest[16],
             name: rest[Self::HEADER..end].to_vec(),
-        })
+        };
+        let reserved = rest[Self::RESERVED_AT];
+        (reserved == RESERVED).then_some(inode)
     }
 
     /// The inode's part of "Acceptable record".
@@ -217,7 +227,7 @@ fn check_is_right(record: &[u8], header: usize, at: usize) -> bool {
 }
 
 /// Header bytes before the check, the check, the body.
-fn with_check(mut covered: Vec<u8>, body: &[u8]) -> Vec<u8> {
+pub fn with_check(mut covered: Vec<u8>, body: &[u8]) -> Vec<u8> {
     let check = check(&covered, body);
     covered.extend(check.to_le_bytes());
     covered.extend(body);
@@ -238,7 +248,8 @@ impl Record {
         Record::parse(rest).filter(Record::fields_are_acceptable)
     }
 
-    /// "header and body lie inside the area, magic and check are right".
+    /// "header and body lie inside the area, magic and check are right", and an
+    /// inode's reserved byte is 0. Blocks have none.
     #[inline]
     pub fn parse(rest: &[u8]) -> Option<Record> {
         match u32::from_le_bytes(*rest.first_chunk()?) {

@@ -1,6 +1,6 @@
 //! An ordinary Rust model of document 01 (NFFS version 0 over a lent image) as
-//! T-03 and T-06 of document 02 amend it, written from the documents alone, to
-//! be compared with the implementation.
+//! T-03, T-06 and T-14 of document 02 amend it, written from the documents
+//! alone, to be compared with the implementation.
 //!
 //! Every call answers from the bytes alone, as if the image were mounted anew.
 //! `areas` holds offset and length in turn. `number` is 0 or a refusal; a

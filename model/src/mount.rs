@@ -109,7 +109,7 @@ pub fn mount(image: &[u8], areas: &[u32]) -> Result<FileSystem, Refusal> {
     Ok(FileSystem { file_areas, scratch: scratch.clone(), counting })
 }
 
-/// "A descriptor without a valid header is passed over."
+/// "A descriptor without a valid header is passed over", its contents too.
 fn valid_areas(image: &[u8], descriptors: &[Descriptor]) -> Vec<Area> {
     let area = |at: &Descriptor| {
         let header = AreaHeader::valid(&image[at.clone()])?;

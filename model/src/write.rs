@@ -47,7 +47,7 @@ fn longest(descriptors: &[Descriptor]) -> usize {
 /// "erases ... to FF, writes headers".
 pub fn erase_and_head(image: &mut [u8], at: &Descriptor, count: u8, id: u8) {
     image[at.clone()].fill(0xff);
-    let header = AreaHeader { length: at.len() as u32, count, reserved: 0, id };
+    let header = AreaHeader { length: at.len() as u32, count, id };
     put(image, at.start, &header.bytes());
 }
 

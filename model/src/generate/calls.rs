@@ -1,12 +1,16 @@
 //! The calls of a case. The maker keeps its own copy of the image and runs the
 //! model on it, so that paths often hit and damage has targets.
 
+use super::images::reserved;
 use super::lists;
 use super::paths::{name, spell};
 use super::random::Random;
 use super::{FILES, NAMES, SEQUENCES};
 use crate::compare::{Call, Case, Model, Side};
-use crate::layout::{is_file, Block, Inode, Record, FIRST_BLOCK, FIRST_FILE, NONE, ROOT};
+use crate::forge::with_reserved;
+use crate::layout::{
+    is_file, AreaHeader, Block, Inode, Record, FIRST_BLOCK, FIRST_FILE, NONE, ROOT,
+};
 use crate::mount::{greatest_block, mount, Fate, FileSystem, BLOCKS, INODES, SHORTEST_AREA};
 
 /// A table with so few places left is about full.
@@ -325,6 +329,11 @@ impl Maker {
             let bytes = self.stale[offset..end].to_vec();
             return self.push(Call::Damage { offset, bytes });
         }
+        if self.r.chance(8) {
+            if let Some((offset, bytes)) = self.reserve() {
+                return self.push(Call::Damage { offset, bytes });
+            }
+        }
         let offset = self.target().min(length - 1);
         let old = self.side.image[offset];
         let bytes = match self.r.below(4) {
@@ -337,6 +346,27 @@ impl Maker {
             _ => vec![self.r.pick(&[0, 0xff]); self.r.between(1, 24)],
         };
         self.push(Call::Damage { offset, bytes });
+    }
+
+    /// The reserved byte of an inode, its check mended, or of a header.
+    fn reserve(&mut self) -> Option<(usize, Vec<u8>)> {
+        let fs = self.mounted.clone()?;
+        let area = self.r.pick(&fs.file_areas);
+        let reserved = reserved(&mut self.r);
+        let header = match self.r.below(10) {
+            0 | 1 => area.at.start,
+            2 => fs.scratch.at.start,
+            _ => {
+                let inodes = area.reading.records.iter().filter(|t| t.record.inode().is_some());
+                let inodes: Vec<_> = inodes.collect();
+                let taken = inodes.get(self.r.below(inodes.len().max(1)))?;
+                let bytes = with_reserved(&taken.record.bytes(), reserved);
+                let from = Inode::RESERVED_AT;
+                let offset = area.at.start + taken.offset + from;
+                return Some((offset, bytes[from..Inode::HEADER].to_vec()));
+            }
+        };
+        Some((header + AreaHeader::RESERVED_AT, vec![reserved]))
     }
 
     fn target(&mut self) -> usize {

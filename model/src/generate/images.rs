@@ -5,8 +5,10 @@ use super::large::borrowed_chain;
 use super::paths::name;
 use super::random::Random;
 use super::{DIRECTORIES, FILES, SEQUENCES};
-use crate::forge::Flash;
-use crate::layout::{is_directory, is_file, Block, Inode, FIRST_BLOCK, FIRST_FILE, NONE, ROOT};
+use crate::forge::{with_reserved, Flash};
+use crate::layout::{
+    is_directory, is_file, AreaHeader, Block, Inode, FIRST_BLOCK, FIRST_FILE, NONE, ROOT,
+};
 use crate::mount::DESCRIPTORS;
 
 /// Areas of mixed lengths, in any order in the image, with gaps; erased,
@@ -48,11 +50,41 @@ pub fn place(r: &mut Random, lengths: &[usize]) -> Flash {
     Flash::over(image, areas)
 }
 
-/// A formatted file system; the calls fill it.
+/// A formatted file system; the calls fill it. Sometimes its areas were
+/// collected oftener.
 pub fn life(r: &mut Random) -> Flash {
     let mut flash = shape(r);
     crate::format(&mut flash.image, &flash.areas);
+    if r.chance(40) {
+        for (area, count) in counts(r, flash.areas.len() / 2).into_iter().enumerate() {
+            let at = flash.offset(area);
+            flash.image[at + AreaHeader::COUNT_AT] = count;
+        }
+    }
     flash
+}
+
+/// Collection counts of so many areas: few, about the passage from 255 to 0,
+/// within 127 of each other across it or not, or any of a few distances apart
+/// at which the order of counts changes.
+fn counts(r: &mut Random, areas: usize) -> Vec<u8> {
+    let first: u8 = r.pick(&[0, 1, 100, 127, 128, 200, 254, 255]);
+    let across = 255 - r.below(127) as u8;
+    let manner = r.below(8);
+    let mut count = || match manner {
+        0 | 1 => r.below(3) as u8,
+        2 | 3 => r.pick(&[254, 255, 0, 1]),
+        4 => across.wrapping_add(r.below(128) as u8),
+        5 => first.wrapping_add(r.pick(&[0, 100, 200])),
+        _ => first.wrapping_add(r.pick(&[0, 0, 1, 64, 126, 127, 128, 129, 192, 255])),
+    };
+    (0..areas).map(|_| count()).collect()
+}
+
+/// A reserved byte that isn't 0.
+pub fn reserved(r: &mut Random) -> u8 {
+    let any = r.between(1, 255) as u8;
+    r.pick(&[1, 2, 0x7f, 0x80, 0xff, 0xff, any])
 }
 
 /// Valid headers with one scratch area that is long enough, mostly.
@@ -60,17 +92,31 @@ pub fn write_headers(r: &mut Random, flash: &mut Flash) -> usize {
     let count = flash.areas.len() / 2;
     let longest = (0..count).max_by_key(|i| flash.length(*i)).unwrap_or(0);
     let scratch = if r.chance(97) { longest } else { r.below(count) };
-    let near = r.chance(50);
-    for area in 0..count {
-        let collections = if near { r.pick(&[254, 255, 0, 1]) } else { r.below(3) as u8 };
-        let reserved = if r.chance(10) { r.draw() as u8 } else { 0 };
+    for (area, collections) in counts(r, count).into_iter().enumerate() {
         let id = if area == scratch { 255 } else { area as u8 };
-        flash.head(area, collections, reserved, id);
+        flash.head(area, collections, 0, id);
+    }
+    if r.chance(5) {
+        reserved_header(r, flash, scratch);
     }
     if r.chance(25) {
         dirty_scratch(r, flash, scratch);
     }
     scratch
+}
+
+/// A header with a reserved byte that isn't 0: the scratch area's, or that of a
+/// file area, which sometimes would be a second scratch area or share its id.
+fn reserved_header(r: &mut Random, flash: &mut Flash, scratch: usize) {
+    let count = flash.areas.len() / 2;
+    let files: Vec<usize> = (0..count).filter(|area| *area != scratch).collect();
+    let area = if r.chance(20) { scratch } else { r.pick(&files) };
+    let at = flash.offset(area);
+    flash.image[at + AreaHeader::RESERVED_AT] = reserved(r);
+    if area != scratch && r.chance(40) {
+        let other = r.pick(&files) as u8;
+        flash.image[at + AreaHeader::ID_AT] = r.pick(&[255, other]);
+    }
 }
 
 /// A scratch area left behind with records, which are never read.
@@ -91,7 +137,8 @@ pub fn tree(r: &mut Random) -> Flash {
     let mut records = Vec::new();
     if r.chance(97) {
         let sequence = if r.chance(80) { 0 } else { r.pick(&SEQUENCES) };
-        records.push(Inode::new(ROOT, sequence, NONE, b"").bytes());
+        let root = Inode::new(ROOT, sequence, NONE, b"").bytes();
+        records.push(if r.below(200) == 0 { with_reserved(&root, reserved(r)) } else { root });
     }
     if r.chance(2) {
         borrowed_chain(r, &mut records);
@@ -144,8 +191,13 @@ fn versions(r: &mut Random, id: u32, parents: &[u32], hostile: bool, records: &m
             inode.parent = NONE;
             inode.name = if named { inode.name } else { Vec::new() };
         }
-        inode.reserved = if r.chance(8) { r.draw() as u8 } else { 0 };
-        records.push(inode.bytes());
+        let odd = r.chance(2);
+        records.push(if odd { with_reserved(&inode.bytes(), reserved(r)) } else { inode.bytes() });
+    }
+    if r.chance(1) {
+        let last = sequences.into_iter().max().unwrap_or(0);
+        let deletion = Inode::new(id, last.saturating_add(1), NONE, b"").bytes();
+        records.push(with_reserved(&deletion, reserved(r)));
     }
 }
 
@@ -205,11 +257,10 @@ fn odd_records(r: &mut Random, records: &mut Vec<Vec<u8>>) {
             records.push(Inode::new(id, 0x1000, ROOT, b"z").bytes());
         }
     }
-    if r.chance(4) {
-        let mut inode = Inode::new(r.pick(&FILES), 6, ROOT, b"r");
-        records.push(inode.bytes());
-        inode.reserved = 1;
-        records.push(inode.bytes());
+    if r.chance(3) {
+        let inode = Inode::new(r.pick(&FILES), 6, ROOT, b"r").bytes();
+        records.push(with_reserved(&inode, reserved(r)));
+        records.push(inode);
     }
     while r.chance(15) {
         let record = unacceptable(r);
@@ -225,7 +276,7 @@ fn odd_records(r: &mut Random, records: &mut Vec<Vec<u8>>) {
 fn unacceptable(r: &mut Random) -> Vec<u8> {
     let file = FIRST_FILE + 7;
     let block = FIRST_BLOCK + 7;
-    match r.below(15) {
+    match r.below(18) {
         0 => Inode::new(file, 9, ROOT, b"x/y").bytes(),
         1 => Inode::new(file, 9, NONE, b"x\0").bytes(),
         2 => Inode::new(file, 9, ROOT, b"").bytes(),
@@ -240,7 +291,13 @@ fn unacceptable(r: &mut Random) -> Vec<u8> {
         11 => Block::new(NONE, 9, file, NONE, b"x").bytes(),
         12 => Block::new(block, 9, file, NONE, b"").bytes(),
         13 => Block::new(block, 9, FIRST_BLOCK, NONE, b"x").bytes(),
-        _ => Block::new(file, 9, file, NONE, b"x").bytes(),
+        14 => Block::new(file, 9, file, NONE, b"x").bytes(),
+        15 => with_reserved(&Inode::new(file, 9, ROOT, b"x").bytes(), reserved(r)),
+        16 => {
+            let deleted = r.pick(&FILES);
+            with_reserved(&Inode::new(deleted, 9, NONE, b"").bytes(), reserved(r))
+        }
+        _ => with_reserved(&Inode::new(ROOT, 9, NONE, b"").bytes(), reserved(r)),
     }
 }
 
@@ -317,11 +374,12 @@ pub fn headers(r: &mut Random) -> Flash {
     for _ in 0..r.between(1, 2) {
         let area = r.below(count);
         let at = flash.offset(area);
-        match r.below(5) {
+        match r.below(6) {
             0 => flash.image[at + r.below(24)] ^= 1 << r.below(8),
             1 => flash.image[at + 23] = 255,
             2 => flash.image[at + 23] = r.below(3) as u8,
             3 => flash.image[at + 20] = 1,
+            4 => flash.image[at + AreaHeader::RESERVED_AT] = reserved(r),
             _ => flash.fill(area, 0xff),
         }
     }

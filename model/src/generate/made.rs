@@ -3,13 +3,15 @@
 
 use std::collections::BTreeSet;
 
-use crate::area;
+use crate::area::{self, Reading};
+use crate::collect::{count_precedes, is_eligible, source};
 use crate::compare::{Answer, Call, Case, Side};
 use crate::file::contents;
-use crate::layout::{is_block, AreaHeader, Block, Record, FIRST_FILE, ROOT};
+use crate::forge::with_reserved;
+use crate::layout::{is_block, AreaHeader, Block, Inode, Record, FIRST_FILE, ROOT};
 use crate::mount::{
-    descriptors, greatest_block, mount, FileArea, FileSystem, BLOCKS, DESCRIPTORS, IMAGE, INODES,
-    SHORTEST_AREA,
+    descriptors, greatest_block, mount, Fate, FileArea, FileSystem, BLOCKS, DESCRIPTORS, IMAGE,
+    INODES, SHORTEST_AREA,
 };
 use crate::path::PATH;
 use crate::refusal::Refusal;
@@ -69,9 +71,42 @@ pub enum Made {
     MoreThan8192BytesGiven,
     /// Create answers an id a thousand and more behind its range's first.
     NewIdFarFromTheStart,
+    /// An image that mounts, without an area whose header has a wrong reserved
+    /// byte alone.
+    ReservedAreaPassedOver,
+    /// 3 for the reserved byte of the scratch area's header alone.
+    ReservedScratchPassedOver,
+    /// An image that mounts; with the reserved byte of a header 0 it had two
+    /// scratch areas.
+    ReservedSecondScratchPassedOver,
+    /// An image that isn't 2; with the reserved byte of a header 0 it were.
+    ReservedSharedIdPassedOver,
+    /// An inode of an image that mounts, acceptable but for its reserved byte.
+    ReservedInodeSkipped,
+    /// Such a deletion record; what it was to delete is live.
+    ReservedDeletionSkipped,
+    /// Such an inode beside an equal one whose reserved byte is 0.
+    ReservedTwinSkipped,
+    /// 7, with such a root record there.
+    ReservedRootSkipped,
+    /// The source has not the lowest count, and no eligible area precedes it.
+    CollectionAcrossTheWrap,
+    /// Each eligible area is preceded by one.
+    EveryEligibleAreaPreceded,
+    /// By so many the source precedes an eligible area that comes before it in
+    /// descriptor order.
+    CountsApartBy127,
+    /// Three eligible areas and more, two of them 128 apart.
+    CountsApartBy128,
+    /// The source's count is 255.
+    CountPassesTo0,
+    /// An area that isn't as long as scratch precedes the source.
+    ShorterAreaPrecedes,
+    /// The scratch area's count precedes the source's.
+    ScratchPrecedes,
 }
 
-pub const ALL: [Made; 31] = [
+pub const ALL: [Made; 46] = [
     Made::WholeVolume,
     Made::ThousandsOfNamedIds,
     Made::TenDirectoriesDeep,
@@ -103,6 +138,21 @@ pub const ALL: [Made; 31] = [
     Made::BufferOver8192,
     Made::MoreThan8192BytesGiven,
     Made::NewIdFarFromTheStart,
+    Made::ReservedAreaPassedOver,
+    Made::ReservedScratchPassedOver,
+    Made::ReservedSecondScratchPassedOver,
+    Made::ReservedSharedIdPassedOver,
+    Made::ReservedInodeSkipped,
+    Made::ReservedDeletionSkipped,
+    Made::ReservedTwinSkipped,
+    Made::ReservedRootSkipped,
+    Made::CollectionAcrossTheWrap,
+    Made::EveryEligibleAreaPreceded,
+    Made::CountsApartBy127,
+    Made::CountsApartBy128,
+    Made::CountPassesTo0,
+    Made::ShorterAreaPrecedes,
+    Made::ScratchPrecedes,
 ];
 
 /// Those that hold, of things with whether they do.
@@ -121,11 +171,85 @@ pub fn in_list(list: &[u32]) -> Vec<Made> {
 
 /// What the image has that a case begins with.
 pub fn in_image(case: &Case) -> Vec<Made> {
-    match mount(&case.image, &case.areas) {
-        Ok(fs) => [in_areas(&fs, case), in_tables(&fs)].concat(),
+    let mounted = mount(&case.image, &case.areas);
+    let mut made = match &mounted {
+        Ok(fs) => [in_areas(fs, case), in_tables(fs), in_damage(fs, case)].concat(),
         Err(Refusal::Tables) => over_the_tables(case),
+        Err(Refusal::NoRoot) => without_a_root(case),
         Err(_) => Vec::new(),
+    };
+    made.extend(in_headers(&mounted, case));
+    made
+}
+
+/// What headers with a wrong reserved byte do to an image: it is compared with
+/// the image in which these bytes are 0.
+fn in_headers(mounted: &Result<FileSystem, Refusal>, case: &Case) -> Vec<Made> {
+    let mut image = case.image.clone();
+    for at in descriptors(&image, &case.areas).unwrap_or_default() {
+        image[at.start + AreaHeader::RESERVED_AT] = 0;
     }
+    if image == case.image {
+        return Vec::new();
+    }
+    let zeroed = mount(&image, &case.areas);
+    let areas = |fs: &FileSystem| fs.file_areas.len();
+    let fewer = matches!((mounted, &zeroed), (Ok(a), Ok(b)) if areas(a) < areas(b));
+    let (now, then) = (mounted.as_ref().err(), zeroed.as_ref().err());
+    let (two, three) = (Some(&Refusal::SharedAreaId), Some(&Refusal::Areas));
+    holding(&[
+        (Made::ReservedAreaPassedOver, fewer),
+        (Made::ReservedScratchPassedOver, now == three && then.is_none()),
+        (Made::ReservedSecondScratchPassedOver, now.is_none() && then == three),
+        (Made::ReservedSharedIdPassedOver, now != two && then == two),
+    ])
+}
+
+/// The inode at the front of these bytes that is acceptable but for its reserved
+/// byte.
+fn reserved_inode(rest: &[u8]) -> Option<Inode> {
+    if rest.len() < Inode::HEADER || !rest.starts_with(&Inode::MAGIC.to_le_bytes()) {
+        return None;
+    }
+    let inode = rest.get(..Inode::HEADER + usize::from(rest[17]))?;
+    let reserved = inode[Inode::RESERVED_AT];
+    let check_is_right = with_reserved(inode, reserved) == inode;
+    let zeroed = Record::acceptable(&with_reserved(inode, 0))?;
+    zeroed.inode().filter(|_| reserved != 0 && check_is_right).cloned()
+}
+
+/// Such inodes among the bytes of a file area that are skipped.
+fn reserved_inodes(area: &[u8], reading: &Reading) -> Vec<Inode> {
+    let places = reading.damage.iter().flat_map(|stretch| stretch.offset..stretch.end());
+    places.filter_map(|at| reserved_inode(&area[at..])).collect()
+}
+
+fn in_damage(fs: &FileSystem, case: &Case) -> Vec<Made> {
+    let inodes = |area: &FileArea| reserved_inodes(&case.image[area.at.clone()], &area.reading);
+    let skipped: Vec<Inode> = fs.file_areas.iter().flat_map(inodes).collect();
+    let back = |inode: &Inode| {
+        let newer = fs.inode(inode.id).is_some_and(|other| other.sequence < inode.sequence);
+        inode.is_deletion() && newer && fs.fate(inode.id) == Fate::Live
+    };
+    let twin = |inode: &Inode| fs.accepted().any(|record| record.inode() == Some(inode));
+    holding(&[
+        (Made::ReservedInodeSkipped, !skipped.is_empty()),
+        (Made::ReservedDeletionSkipped, skipped.iter().any(back)),
+        (Made::ReservedTwinSkipped, skipped.iter().any(twin)),
+    ])
+}
+
+fn without_a_root(case: &Case) -> Vec<Made> {
+    let areas = file_areas(case).into_iter();
+    let mut skipped = areas.flat_map(|area| reserved_inodes(area, &area::read(area)));
+    holding(&[(Made::ReservedRootSkipped, skipped.any(|inode| inode.id == ROOT))])
+}
+
+/// The bytes of the file areas of an image that doesn't mount.
+fn file_areas(case: &Case) -> Vec<&[u8]> {
+    let areas = descriptors(&case.image, &case.areas).unwrap_or_default();
+    let areas = areas.into_iter().map(|at| &case.image[at]);
+    areas.filter(|area| AreaHeader::valid(area).is_some_and(|head| !head.is_scratch())).collect()
 }
 
 fn in_areas(fs: &FileSystem, case: &Case) -> Vec<Made> {
@@ -159,11 +283,8 @@ fn in_tables(fs: &FileSystem) -> Vec<Made> {
 
 /// Of an image that is refused for its ids: by how many.
 fn over_the_tables(case: &Case) -> Vec<Made> {
-    let areas = descriptors(&case.image, &case.areas).unwrap_or_default();
-    let areas = areas.into_iter().map(|at| &case.image[at]);
-    let files = areas.filter(|area| AreaHeader::valid(area).is_some_and(|head| !head.is_scratch()));
-    let ids: BTreeSet<u32> =
-        files.flat_map(|area| area::read(area).records).map(|taken| taken.record.id()).collect();
+    let records = file_areas(case).into_iter().flat_map(|area| area::read(area).records);
+    let ids: BTreeSet<u32> = records.map(|taken| taken.record.id()).collect();
     let blocks = ids.iter().filter(|id| is_block(**id)).count();
     holding(&[
         (Made::OneInodeTooMany, ids.len() - blocks == INODES + 1),
@@ -189,6 +310,38 @@ fn has_block(image: &[u8], length: usize) -> bool {
     starts
         .filter_map(|at| Record::parse(&image[at..]))
         .any(|record| record.block().is_some_and(|block| block.data.len() == length))
+}
+
+/// What a call has by what it is given: a collection, by the counts.
+pub fn before_call(call: &Call, side: &Side) -> Vec<Made> {
+    if *call != Call::Collect {
+        return Vec::new();
+    }
+    mounts(side).map_or_else(Vec::new, |fs| in_collection(&fs))
+}
+
+fn in_collection(fs: &FileSystem) -> Vec<Made> {
+    let Some(at) = source(fs) else { return Vec::new() };
+    let source = fs.file_areas[at].header.count;
+    let counts = |eligible: bool| {
+        let areas = fs.file_areas.iter().filter(move |area| is_eligible(fs, area) == eligible);
+        areas.map(|area| area.header.count).collect::<Vec<u8>>()
+    };
+    let (eligible, others) = (counts(true), counts(false));
+    let precedes = |count: &u8| count_precedes(*count, source);
+    let preceded = eligible.iter().any(precedes);
+    let behind = |area: &FileArea| area.header.count.wrapping_sub(source) == 127;
+    let behind = fs.file_areas[..at].iter().any(|area| is_eligible(fs, area) && behind(area));
+    let apart = |by: u8| eligible.iter().any(|a| eligible.contains(&a.wrapping_add(by)));
+    holding(&[
+        (Made::CollectionAcrossTheWrap, !preceded && eligible.iter().min() != Some(&source)),
+        (Made::EveryEligibleAreaPreceded, preceded),
+        (Made::CountsApartBy127, behind),
+        (Made::CountsApartBy128, eligible.len() > 2 && apart(128)),
+        (Made::CountPassesTo0, source == 255),
+        (Made::ShorterAreaPrecedes, others.iter().any(precedes)),
+        (Made::ScratchPrecedes, precedes(&fs.scratch.header.count)),
+    ])
 }
 
 /// What a call has, its answer, and what it left.

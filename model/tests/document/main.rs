@@ -12,5 +12,6 @@ mod mounting;
 mod paths;
 mod program;
 mod reading;
+mod reserved;
 mod tables;
 mod writing;

@@ -273,8 +273,11 @@ fn six_about_all_bytes() {
     flash.put(1, &inode.bytes());
     flash.put(1, &inode.bytes());
     assert_eq!(mount(&flash), 0);
-    flash.put(1, &Inode { reserved: 1, ..inode }.bytes());
-    assert_eq!(mount(&flash), 6);
+    for other in [Inode { parent: 1, ..inode.clone() }, Inode { name: b"b".to_vec(), ..inode }] {
+        let mut flash = flash.clone();
+        flash.put(1, &other.bytes());
+        assert_eq!(mount(&flash), 6);
+    }
 }
 
 #[test]

@@ -3,6 +3,8 @@
 use std::io::Write;
 use std::process::{Command, Stdio};
 
+use nffs_model::forge::with_reserved;
+
 use crate::calls;
 use crate::common::*;
 
@@ -70,6 +72,25 @@ fn the_bench_area_and_its_damage() {
     assert_eq!(program(&flash.image), "mount 0\ninodes 2 live 2 stretches 0 skipped 0\n");
     flash.image[4096 + 70] ^= 1;
     assert_eq!(program(&flash.image), "mount 0\ninodes 2 live 2 stretches 1 skipped 34\n");
+}
+
+/// A reserved byte that isn't 0 (document 02, T-14): in either header, in the root
+/// record, in the record of "a".
+#[test]
+fn reserved_bytes() {
+    for area in [0, 1] {
+        let mut flash = bench();
+        flash.image[4096 * area + 22] = 1;
+        assert_eq!(program(&flash.image), "mount 3\n");
+    }
+    for (at, text) in [(24, "mount 7\n"), (44, "mount 0\ninodes 1 live 1 stretches 1 skipped 21\n")]
+    {
+        let mut image = bench().image;
+        let length = 20 + usize::from(image[4096 + at + 17]);
+        let record = &mut image[4096 + at..][..length];
+        record.copy_from_slice(&with_reserved(record, 0x80));
+        assert_eq!(program(&image), text);
+    }
 }
 
 #[test]

@@ -5,7 +5,7 @@ use std::ops::Range;
 
 use nffs::raw::{self, ReportAnswer};
 use nffs::Area;
-use nffs_model::forge::Flash;
+use nffs_model::forge::{with_reserved, Flash};
 use nffs_model::layout::{Block, Inode, Record, NONE, ROOT};
 
 /// The most bits that a burst spans.
@@ -296,8 +296,8 @@ fn alone_in_a_volume() {
     assert_eq!(tried, 4 * 0xffff);
 }
 
-/// Bursts on both sides of the check field's front, the length field between them as it was, are caught too, in inodes with names of every length. In
-/// a block they would have 18 bits at least.
+/// Bursts on both sides of the check field's front, the length field between them as it was, are caught too, in inodes with names of every length: they
+/// alter the reserved byte, and with T-14 that alone suffices. In a block they would have 18 bits at least.
 #[test]
 fn across_the_check_fields_front() {
     let mut tried = 0;
@@ -320,6 +320,67 @@ fn across_the_check_fields_front() {
     println!("{tried} bursts across the front of the check field");
     // for each number of bits in the check field: any in the reserved byte behind the first, one at least in the check field
     assert_eq!(tried, 256 * (0..8).map(|check| (1 << (7 - check)) * ((1 << check) - 1)).sum::<u64>());
+}
+
+/// With T-14 an altered reserved byte is enough, whatever becomes of the check: it and the check field altered in every way, and none is read. Of a
+/// byte of a block's body each other value has a check with which it is (`every_check_field_and_byte`).
+#[test]
+fn every_reserved_byte_and_check_field() {
+    let mut tried = 0;
+    for record in [deletion(), inode(13)] {
+        let mut copies = Copies::of(&record);
+        for altered in 1..1u32 << 24 {
+            let [_, reserved, low, high] = altered.to_be_bytes();
+            copies.alter(|copy| {
+                copy[16] ^= reserved;
+                copy[18] ^= low;
+                copy[19] ^= high;
+            });
+        }
+        tried += copies.all_caught();
+    }
+    println!("{tried} alterations of reserved byte and check field");
+    assert_eq!(tried, 2 * 0xff_ffff);
+}
+
+/// Every other reserved byte with the check right for it, in inodes with names of every length; of some also alone in a volume, and on the model.
+#[test]
+fn every_reserved_byte_with_its_check() {
+    let mut tried = 0;
+    for record in [deletion()].into_iter().chain((1..=255).map(inode)) {
+        let mut copies = Copies::of(&record);
+        for reserved in 1..=255 {
+            let altered = with_reserved(&record, reserved);
+            copies.alter(|copy| copy.copy_from_slice(&altered));
+        }
+        tried += copies.all_caught();
+    }
+    for record in [deletion(), inode(1), inode(255)] {
+        assert!((1..=255).all(|reserved| !is_read(&record, &with_reserved(&record, reserved))));
+    }
+    println!("{tried} reserved bytes with a right check");
+    assert_eq!(tried, 256 * 255);
+}
+
+/// Every burst that alters the reserved byte is caught, also where it goes on in the length field.
+#[test]
+fn bursts_of_the_reserved_byte() {
+    let mut tried = 0;
+    for record in [root(), deletion(), inode(1), inode(13), inode(255)] {
+        let mut copies = Copies::of(&record);
+        each_burst(bits(15..19), SPAN, |first, burst| {
+            let mut altered = record.clone();
+            flip(&mut altered, first, burst);
+            if altered[16] != record[16] {
+                copies.alter(|copy| copy.copy_from_slice(&altered));
+            }
+        });
+        tried += copies.all_caught();
+    }
+    println!("{tried} bursts that alter the reserved byte");
+    // but for those of one side alone, and of both sides and not of it: any bits of the one byte behind the first, one at least of the other
+    let others = number(bits(15..16), SPAN) + number(bits(17..19), SPAN) + (0..8).map(|k| (1 << (7 - k)) * ((1 << k) - 1)).sum::<u64>();
+    assert_eq!(tried, 5 * (number(bits(15..19), SPAN) - others));
 }
 
 /// One, two and three altered bits anywhere but in the length field, on the model too.

@@ -2,7 +2,7 @@
 
 use nffs_compare::Proved;
 use nffs_model::compare::{Engine, Model, Side};
-use nffs_model::damage::{answers_stay, mount_number, overwrite, reads_as_untouched, spared, Touched};
+use nffs_model::damage::{answers_stay, mount_number, overwrite, reads_as_untouched, reserve, spared, Touched};
 use nffs_model::generate::{self, Random};
 use nffs_model::mount::{mount, FileSystem};
 
@@ -44,6 +44,36 @@ fn holds(count: &mut Count, (whole, old): (&Side, &FileSystem), after: &Side, to
         count.files += 1;
         count.ambiguous += u64::from(answers_stay(&Proved, (whole, old), (after, &new), id));
     }
+}
+
+/// "demand 3 reads the new rule" (T-14): inodes of which only the reserved byte says that they are none, their checks being right, a third of them at
+/// once, or one.
+#[test]
+fn reserved_bytes_alone() {
+    let mut count = Count::default();
+    let mut inodes = 0;
+    for seed in 0..2_000 {
+        let Some((whole, old)) = clean(seed) else { continue };
+        let mut r = Random::new(seed ^ 0x14);
+        let share = if r.chance(50) { 33 } else { 5 };
+        let (mut after, mut touched) = (whole.clone(), Touched::new());
+        for (i, area) in old.file_areas.iter().enumerate() {
+            for taken in area.reading.records.iter().filter(|taken| taken.record.inode().is_some()) {
+                if r.chance(share) {
+                    let start = area.at.start + taken.offset;
+                    reserve(&mut after.image[start..start + taken.record.size()], r.between(1, 255) as u8);
+                    touched.push((i, taken.clone()));
+                }
+            }
+        }
+        if !touched.is_empty() {
+            inodes += touched.len();
+            holds(&mut count, (&whole, &old), &after, &touched);
+        }
+    }
+    println!("{inodes} inodes, {count:?}");
+    let Count { images, rootless, files, ambiguous: _ } = count;
+    assert!(images > 300 && rootless > 50 && files > 300, "too few to tell");
 }
 
 #[test]

@@ -20,6 +20,8 @@ mod mounting;
 mod paths;
 #[path = "../../../model/tests/document/reading.rs"]
 mod reading;
+#[path = "../../../model/tests/document/reserved.rs"]
+mod reserved;
 #[path = "../../../model/tests/document/tables.rs"]
 mod tables;
 #[path = "../../../model/tests/document/writing.rs"]

@@ -377,45 +377,77 @@ fn volumes_of_version_0_2_0() {
     }
 }
 
-/// The area of the lowest count is collected, the first among equals, and its count goes on, from 255 to 0.
+/// "count a precedes count b when (b - a) taken modulo 256 is 1 to 127" (T-14).
+fn precedes(a: u8, b: u8) -> bool {
+    (1..=127).contains(&(i32::from(b) - i32::from(a)).rem_euclid(256))
+}
+
+/// The area that no other precedes is collected, the first of several, and its count goes on, from 255 to 0: the areas take turns.
 #[test]
 fn counts_that_wrap() {
     let mut pair = Pair::formatted(&[512; 3]);
     assert_eq!(pair.create(b"/dose").number, 0);
     assert_eq!(pair.append(b"/dose", b"0.5 ml/h"), 0);
-    let (mut counts, mut scratch, mut wrapped) = (vec![0u8; 3], 0, [0; 3]);
-    for _ in 0..1600 {
-        let source = (0..3).filter(|area| *area != scratch).min_by_key(|area| counts[*area]).expect("two file areas");
-        wrapped[source] += u32::from(counts[source] == 255);
-        counts[source] = counts[source].wrapping_add(1);
-        scratch = source;
+    let (mut times, mut scratch) = ([0u32; 3], 0);
+    for turn in 1..=1600 {
+        let counts = times.map(|times| times as u8);
+        let (first, second) = [(1, 2), (0, 2), (0, 1)][scratch];
+        scratch = if precedes(counts[second], counts[first]) { second } else { first };
+        times[scratch] += 1;
         assert_eq!(pair.collect(), 0);
-        assert_eq!(pair.counts(), counts);
+        assert_eq!(pair.counts(), times.map(|times| times as u8));
         assert_eq!(pair.contents(b"/dose"), b"0.5 ml/h");
+        assert!(times.iter().all(|times| (turn / 3..=turn / 3 + 1).contains(times)), "{times:?}");
     }
-    println!("counts that went from 255 to 0, by area: {wrapped:?}");
-    assert!(wrapped.iter().filter(|times| **times > 0).count() >= 2);
+    println!("collections of each area, its count twice going from 255 to 0: {times:?}");
+    assert!(times.iter().all(|times| times / 256 == 2));
 }
 
-/// Each area as the source with each count: what it becomes, and that the two others keep theirs.
+/// Which of two file areas is the source, the first or the second: areas in this order, scratch last, with these counts. The source becomes scratch,
+/// its count one more; the two others keep theirs.
+fn source_of_two(order: [usize; 3], counts: [u8; 3]) -> usize {
+    let mut flash = Flash::of(&[128; 3]);
+    for (area, (count, id)) in order.into_iter().zip(counts.into_iter().zip([7, 8, 255])) {
+        flash.head(area, count, 0, id);
+        flash.root(area);
+    }
+    let mut pair = Pair { ours: flash.image.clone(), model: flash.image, areas: flash.areas };
+    assert_eq!(pair.collect(), 0);
+    let headers = order.map(|area| (pair.area(area)[21], pair.area(area)[23]));
+    let source = usize::from(headers[1].1 == 255);
+    let mut expected = [(counts[0], 7), (counts[1], 8), (counts[2], [7, 8][source])];
+    expected[source] = (counts[source].wrapping_add(1), 255);
+    assert_eq!(headers, expected);
+    source
+}
+
+/// Each area as the source with each count: what it becomes, and that the two others keep theirs. The second of two is the source where it precedes
+/// the first, across 255 to 0 too.
 #[test]
 fn every_count_of_every_area() {
-    for (source, scratch) in [(0, 1), (0, 2), (1, 0), (1, 2), (2, 0), (2, 1)] {
-        let other = 3 - source - scratch;
-        // among equals the first is the source; one behind the other has to have less
-        let more = u8::from(source > other);
-        for count in 0..=255 - more {
-            let mut flash = Flash::of(&[512; 3]);
-            flash.head(source, count, 0, 7);
-            flash.head(other, count + more, 0, 8);
-            flash.head(scratch, 255 - count, 0, 255);
-            flash.root(source);
-            let mut pair = Pair { ours: flash.image.clone(), model: flash.image, areas: flash.areas };
-            assert_eq!(pair.collect(), 0);
-            let headers = [source, other, scratch].map(|area| (pair.area(area)[21], pair.area(area)[23]));
-            assert_eq!(headers, [(count.wrapping_add(1), 255), (count + more, 8), (255 - count, 7)]);
+    for order in [[0, 2, 1], [0, 1, 2], [1, 2, 0]] {
+        for count in 0..=255u8 {
+            assert_eq!(source_of_two(order, [count, count, 255 - count]), 0);
+            assert_eq!(source_of_two(order, [count, count.wrapping_add(1), 255 - count]), 0);
+            assert_eq!(source_of_two(order, [count.wrapping_add(1), count, 255 - count]), 1);
         }
     }
+}
+
+/// All 65,536 pairs of counts of two file areas. Scratch's count, the first's, the second's or one between them, takes no part.
+#[test]
+fn every_two_counts() {
+    let mut second = 0;
+    for a in 0..=255u8 {
+        for b in 0..=255u8 {
+            let scratch = [a, b, a.wrapping_add(b.wrapping_sub(a) / 2)][usize::from(a ^ b) % 3];
+            let source = source_of_two([1, 2, 0], [a, b, scratch]);
+            assert_eq!(source, usize::from(precedes(b, a)), "{a} and {b}");
+            second += source;
+        }
+    }
+    println!("of 65536 pairs of counts {second} have the second area collected");
+    assert_eq!(second, 256 * 127);
 }
 
 /// The run with overflow checks has them.

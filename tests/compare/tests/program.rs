@@ -6,7 +6,7 @@ use std::os::fd::OwnedFd;
 use std::os::unix::net::UnixStream;
 use std::process::{Command, Stdio};
 
-use nffs_model::forge::Flash;
+use nffs_model::forge::{with_reserved, Flash};
 
 const DIRECTORY: u32 = 1;
 const FILE: u32 = 0x1000_0000;
@@ -69,6 +69,30 @@ fn the_bench_area_and_its_flips() {
         let mut image = flash.image.clone();
         image[4096 + byte] ^= 1;
         assert_eq!(program(&image), report(2, 2, 1, bytes));
+    }
+}
+
+/// A reserved byte that is not 0 (T-14), checks right: in a header the area is passed over, and what lay in it is no damage; in a record it is damage.
+#[test]
+fn reserved_bytes() {
+    for reserved in [1, 0x80, 0xff] {
+        for area in [0, 1] {
+            let mut flash = bench();
+            flash.image[4096 * area + 22] = reserved;
+            assert_eq!(program(&flash.image), refused(3));
+        }
+        let mut flash = volume(3);
+        assert!(flash.root(1) && flash.inode(2, FILE, 0, 0, b"a") && flash.put(2, b"torn"));
+        assert_eq!(program(&flash.image), report(2, 2, 1, 4));
+        flash.head(2, 0, reserved, 1);
+        assert_eq!(program(&flash.image), report(1, 1, 0, 0));
+        for (at, expected) in [(24, refused(7)), (44, report(1, 1, 1, 21))] {
+            let mut image = bench().image;
+            let record = 4096 + at..4096 + at + 20 + usize::from(image[4096 + at + 17]);
+            let altered = with_reserved(&image[record.clone()], reserved);
+            image[record].copy_from_slice(&altered);
+            assert_eq!(program(&image), expected);
+        }
     }
 }
 
