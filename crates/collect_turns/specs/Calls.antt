@@ -1,6 +1,6 @@
 -- The calls that write and do not collect keep the headers: they can stand in a run.
 use Prim.Native.Nat.{ℕ}
-use mathlib.Core.Path.{_≡_, refl}
+use mathlib.Core.Path.{_≡_}
 use mathlib.Core.Logic.{_≢_}
 use mathlib.Core.List.{List}
 use native.Mathlib.Decide.{ℕ-discrete}
@@ -11,19 +11,19 @@ use Rattle.calls.specs.Append.{appendOf, imageAppended}
 use Rattle.calls.specs.Unlink.{unlinkOf, imageUnlinked}
 use Rattle.calls.specs.Collect.{collectOf, imageCollected}
 use Rattle.calls.specs.declared.Descriptor.{Descriptor}
+use Rattle.demand2.specs.Store.{SameHeaders}
 use Rattle.demand2_collect.specs.Demand2.{Demand2, demand2}
-use Rattle.collect_turns.specs.Words.{HeadersKept}
 
 -- accepted or refused; names, data and image are bytes
 pub record CallsKeep (image : Bytes) (ds : List Descriptor) : Type 0 where
-  pub create : (base path : Bytes) (kind : ℕ) → Octets base → Octets path → HeadersKept image (imageCreated image ds base path kind) ds
-  pub append : (base path text : Bytes) → Octets text → HeadersKept image (imageAppended image ds base path text) ds
-  pub unlink : (base path : Bytes) → Octets image → HeadersKept image (imageUnlinked image ds base path) ds
-  pub refused-collect : collectOf image ds ≢ 0 → HeadersKept image (imageCollected image ds) ds
+  pub create : (base path : Bytes) (kind : ℕ) → Octets base → Octets path → SameHeaders image (imageCreated image ds base path kind) ds
+  pub append : (base path text : Bytes) → Octets text → SameHeaders image (imageAppended image ds base path text) ds
+  pub unlink : (base path : Bytes) → Octets image → SameHeaders image (imageUnlinked image ds base path) ds
+  pub refused-collect : collectOf image ds ≢ 0 → SameHeaders image (imageCollected image ds) ds
 
 -- where nothing changed
-unchanged : (image image′ : Bytes) (ds : List Descriptor) → image′ ≡ image → HeadersKept image image′ ds
-unchanged image image′ ds e = record { same = λ d m. rw e }
+unchanged : (image image′ : Bytes) (ds : List Descriptor) → image′ ≡ image → SameHeaders image image′ ds
+unchanged image image′ ds e d m = rw e
 
 pub calls-keep : (image : Bytes) (ds : List Descriptor) → CallsKeep image ds
 calls-keep image ds = record {
@@ -37,14 +37,14 @@ calls-keep image ds = record {
     is = demand2 image ds
 
     created : (base path : Bytes) (kind : ℕ) → Octets base → Octets path → Dec (createOf image ds base path kind .number ≡ 0)
-        → HeadersKept image (imageCreated image ds base path kind) ds
-    created base path kind b p (yes e) = record { same = is .creates base path kind b p e .stored .headers }
+        → SameHeaders image (imageCreated image ds base path kind) ds
+    created base path kind b p (yes e) = is .creates base path kind b p e .stored .headers
     created base path kind b p (no n) = unchanged image (imageCreated image ds base path kind) ds (is .refused .create base path kind n .0)
 
-    appended : (base path text : Bytes) → Octets text → Dec (appendOf image ds base path text ≡ 0) → HeadersKept image (imageAppended image ds base path text) ds
-    appended base path text t (yes e) = record { same = is .appends base path text t e .headers }
+    appended : (base path text : Bytes) → Octets text → Dec (appendOf image ds base path text ≡ 0) → SameHeaders image (imageAppended image ds base path text) ds
+    appended base path text t (yes e) = is .appends base path text t e .headers
     appended base path text t (no n) = unchanged image (imageAppended image ds base path text) ds (is .refused .append base path text n)
 
-    unlinked : (base path : Bytes) → Octets image → Dec (unlinkOf image ds base path ≡ 0) → HeadersKept image (imageUnlinked image ds base path) ds
-    unlinked base path o (yes e) = record { same = is .unlinks base path o e .stored .headers }
+    unlinked : (base path : Bytes) → Octets image → Dec (unlinkOf image ds base path ≡ 0) → SameHeaders image (imageUnlinked image ds base path) ds
+    unlinked base path o (yes e) = is .unlinks base path o e .stored .headers
     unlinked base path o (no n) = unchanged image (imageUnlinked image ds base path) ds (is .refused .unlink base path n)

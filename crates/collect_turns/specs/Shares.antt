@@ -1,13 +1,13 @@
 -- Each area's share of the collections, by the counts that stand in the headers.
 use Prim.Native.Nat.{ℕ, _+_, _-_, _%_, _≤_, _<_}
-use mathlib.Core.Path.{_≡_, refl, sym, _∙_}
+use mathlib.Core.Path.{_≡_, refl}
 use mathlib.Core.Logic.{inl, inr}
-use mathlib.Core.List.{List, [], _∷_, List·Memᴰ}
+use mathlib.Core.List.{List, [], _∷_}
 use native.Mathlib.Omega.{arith}
 use Rattle.format.specs.Bytes.{Bytes}
 use Rattle.calls.specs.Areas.{fileAreas, scratchAreas}
 use Rattle.calls.specs.Format.{formatNumber, imageFormatted}
-use Rattle.calls.specs.Collect.{eligible, countOf}
+use Rattle.calls.specs.Collect.{countOf}
 use Rattle.calls.specs.declared.Descriptor.{Descriptor}
 use Rattle.collect_laws.specs.Source.{eligible-file}
 use Rattle.collect_laws.specs.Mounted.{scratch-is, file-is}

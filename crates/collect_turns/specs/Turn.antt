@@ -1,20 +1,18 @@
 -- One collection: it takes a least area, and tallies stay as near as they were.
-use Prim.Native.Nat.{ℕ, suc, _+_, _%_, _≤_, _<_}
+use Prim.Native.Nat.{ℕ, _+_, _%_, _≤_, _<_}
 use mathlib.Core.Path.{_≡_, refl, sym, ap, _∙_}
 use mathlib.Core.Logic.{_⊎_, inl, inr, _≢_, ⊎-elim}
-use mathlib.Core.Bool.{Bool, true, false, cond, _&&_}
-use mathlib.Core.Option.{some}
-use mathlib.Core.List.{List, [], _∷_, _++_, List·Memᴰ, List·Memᴰ·head, List·Memᴰ·tail, List·Memᴰ·not-nil, List·Memᴰ·cases-cons, Memᴰ·append-left, Memᴰ·append-right}
+use mathlib.Core.Bool.{true, false, cond}
+use mathlib.Core.List.{List, [], _∷_, List·Memᴰ, List·Memᴰ·head, List·Memᴰ·tail, List·Memᴰ·not-nil, List·Memᴰ·cases-cons, Memᴰ·append-left, Memᴰ·append-right}
 use native.Mathlib.Omega.{arith}
 use native.Mathlib.Decide.{decLe}
 use lib.ListN.{length}
 use lib.Dec.{T, eqb, eqb-refl, eqb→eq, ltb}
 use borrow.Author.Tests.{ltb-false, ltb-true}
 use Rattle.format.specs.Bytes.{Bytes}
-use Rattle.volume_laws.specs.Tests.{true→T, T→true, not-T→false, and-T, T-and}
-use Rattle.calls.specs.Areas.{areaBytes, fileAreas, scratchAreas}
-use Rattle.calls.specs.Attempt.{goes}
-use Rattle.calls.specs.Collect.{eligible, countOf, precedes, nextCount, collecting, collectOf, imageCollected}
+use Rattle.volume_laws.specs.Tests.{T→true, not-T→false, and-T, T-and}
+use Rattle.calls.specs.Areas.{areaBytes, fileAreas}
+use Rattle.calls.specs.Collect.{eligible, countOf, precedes, nextCount}
 use Rattle.calls.specs.declared.Descriptor.{Descriptor}
 use Rattle.calls.specs.Format.{emptyArea}
 use Rattle.format.specs.AreaHeader.{collectionCount, scratchId}
@@ -23,7 +21,7 @@ use Rattle.collect_laws.specs.Mounted.{scratch-is, file-is}
 use Rattle.demand2_collect.specs.Image.{not-both}
 use Rattle.collect_laws.specs.Source.{Leads, Preceded, IsSource, eligible-file, file-eligible}
 use Rattle.demand2.specs.Store.{same-area}
-use Rattle.demand2_collect.specs.Collect.{AfterCollect, collect}
+use Rattle.demand2_collect.specs.Collect.{AfterCollect}
 use Rattle.collect_turns.specs.Words.{TakesTurns, sameArea, Spread, FirstLeast}
 use Rattle.collect_turns.specs.Order.{precedes-is}
 

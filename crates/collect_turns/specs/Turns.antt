@@ -1,9 +1,7 @@
 -- Any number of collections, with other calls between them.
-use Prim.Native.Nat.{ℕ, _+_, _%_, _≤_, _<_}
-use mathlib.Core.Path.{_≡_, refl, sym, ap, _∙_}
-use mathlib.Core.Logic.{_⊎_, inl, inr, ⊎-elim}
-use mathlib.Core.Bool.{cond}
-use mathlib.Core.Option.{some}
+use Prim.Native.Nat.{ℕ, _+_, _≤_}
+use mathlib.Core.Path.{_≡_, sym, _∙_}
+use mathlib.Core.Logic.{inl, inr}
 use mathlib.Core.List.{List, [], _∷_, List·Memᴰ}
 use native.Mathlib.Omega.{arith}
 use Rattle.format.specs.Bytes.{Bytes}
@@ -11,28 +9,29 @@ use Rattle.format.specs.AreaHeader.{areaHeaderSize}
 use Rattle.format_laws.specs.Bytes.{same-byte}
 use Rattle.volume_laws.specs.Lists.{keep-cong}
 use Rattle.calls.specs.Areas.{areaBytes, fileAreas, scratchAreas}
-use Rattle.calls.specs.Collect.{eligible, countOf, sourceOf, collectOf, imageCollected}
+use Rattle.calls.specs.Collect.{countOf, imageCollected}
 use Rattle.calls.specs.declared.Descriptor.{Descriptor}
 use Rattle.calls_laws.specs.Checks.{header-file, header-scratch}
 use Rattle.collect_laws.specs.Source.{eligible-file}
 use Rattle.collect_laws.specs.Mounted.{scratch-is, file-is}
-use Rattle.demand2_collect.specs.Collect.{AfterCollect, collect}
-use Rattle.collect_turns.specs.Words.{TakesTurns, sameArea, times, HeadersKept, Run, ends, keeps, collects, Spread, Fair}
+use Rattle.demand2.specs.Store.{SameHeaders}
+use Rattle.demand2_collect.specs.Collect.{collect}
+use Rattle.collect_turns.specs.Words.{TakesTurns, times, Run, ends, keeps, collects, Spread, Fair}
 use Rattle.collect_turns.specs.Turn.{raised, turn, turns-kept}
 
 -- ---- headers kept
 
-module _ (image image′ : Bytes) (ds : List Descriptor) (h : HeadersKept image image′ ds) where
+module _ (image image′ : Bytes) (ds : List Descriptor) (h : SameHeaders image image′ ds) where
   same-files : fileAreas image′ ds ≡ fileAreas image ds
   unfolding fileAreas
-  same-files = keep-cong _ _ ds (λ d m. header-file (d .length) (areaBytes image′ d) (areaBytes image d) (h .same d m))
+  same-files = keep-cong _ _ ds (λ d m. header-file (d .length) (areaBytes image′ d) (areaBytes image d) (h d m))
 
   same-scratch : scratchAreas image′ ds ≡ scratchAreas image ds
   unfolding scratchAreas
-  same-scratch = keep-cong _ _ ds (λ d m. header-scratch (d .length) (areaBytes image′ d) (areaBytes image d) (h .same d m))
+  same-scratch = keep-cong _ _ ds (λ d m. header-scratch (d .length) (areaBytes image′ d) (areaBytes image d) (h d m))
 
   same-count : (d : Descriptor) → List·Memᴰ d ds → countOf image′ d ≡ countOf image d
-  same-count d m = same-byte areaHeaderSize (areaBytes image′ d) (areaBytes image d) (h .same d m) 21 (omega arith)
+  same-count d m = same-byte areaHeaderSize (areaBytes image′ d) (areaBytes image d) (h d m) 21 (omega arith)
 
   kept-turns : (t d : Descriptor) → TakesTurns image ds t d → TakesTurns image′ ds t d
   kept-turns t d p = rw same-files p

@@ -9,13 +9,12 @@ use mathlib.Core.Logic.{_⊎_}
 use mathlib.Core.Bool.{Bool, cond, _&&_}
 use mathlib.Core.Option.{some}
 use mathlib.Core.List.{List, [], _∷_, _++_, List·Memᴰ}
-use lib.ListN.{take}
 use lib.Dec.{eqb}
 use Rattle.format.specs.Bytes.{Bytes}
-use Rattle.format.specs.AreaHeader.{areaHeaderSize}
-use Rattle.calls.specs.Areas.{areaBytes, fileAreas, scratchAreas}
+use Rattle.calls.specs.Areas.{fileAreas, scratchAreas}
 use Rattle.calls.specs.Collect.{eligible, countOf, sourceOf, collectOf, imageCollected}
 use Rattle.calls.specs.declared.Descriptor.{Descriptor}
+use Rattle.demand2.specs.Store.{SameHeaders}
 
 -- ---- which areas take turns, and how often each did
 
@@ -33,14 +32,10 @@ times d (s ∷ l) = cond (sameArea d s) 1 0 + times d l
 
 -- ---- what happens to a volume
 
--- the headers of the areas are as they were
-pub record HeadersKept (image image′ : Bytes) (ds : List Descriptor) : Type 0 where
-  pub same : (d : Descriptor) → List·Memᴰ d ds → take areaHeaderSize (areaBytes image′ d) ≡ take areaHeaderSize (areaBytes image d)
-
--- collections of the areas l, in this order, and between them anything that keeps the headers, as create, append and unlink do
+-- collections of the areas l, in this order, and between them anything that leaves the areas' headers as they are, as create, append and unlink do
 pub data Run (ds : List Descriptor) : Bytes → List Descriptor → Bytes → Type 0 where
   ends : {image : Bytes} → Run ds image [] image
-  keeps : {image between image′ : Bytes} {l : List Descriptor} → HeadersKept image between ds → Run ds between l image′ → Run ds image l image′
+  keeps : {image between image′ : Bytes} {l : List Descriptor} → SameHeaders image between ds → Run ds between l image′ → Run ds image l image′
   collects : {image image′ : Bytes} {l : List Descriptor} (t s : Descriptor) → collectOf image ds ≡ 0 → scratchAreas image ds ≡ t ∷ []
       → sourceOf image (fileAreas image ds) t ≡ some s → Run ds (imageCollected image ds) l image′ → Run ds image (s ∷ l) image′
 

@@ -1,5 +1,5 @@
 -- Each call's number is given exactly when the table says.
-use Prim.Native.Nat.{ℕ, suc, _+_, _≤_, _<_}
+use Prim.Native.Nat.{ℕ, suc, _+_, _<_}
 use mathlib.Core.Path.{_≡_, refl, sym, ap, _∙_}
 use mathlib.Core.Logic.{_⊎_, inl, inr, _≢_, ⊎-elim}
 use mathlib.Core.Bool.{Bool, true, false, cond, not, _||_}
@@ -7,15 +7,14 @@ use mathlib.Core.Option.{Option, none, some}
 use mathlib.Core.List.{List, [], _∷_, _++_, List·Memᴰ, List·Memᴰ·head, List·Memᴰ·tail, List·Memᴰ·cases-cons, List·Memᴰ·not-nil}
 use mathlib.Core.List.{List·Memᴰ·eq-of-singleton}
 use native.Mathlib.Omega.{arith}
-use native.Mathlib.Decide.{decLe}
 use lib.ListN.{length}
-use lib.Dec.{T, eqb, ltb, leb, eqb-refl, ltb→lt, not-T}
+use lib.Dec.{T, eqb, ltb, leb}
 use borrow.Author.Tests.{eqb-true, eqb-false, ltb-true, ltb-false, leb-true, leb-false}
 use Rattle.format.specs.Bytes.{Bytes}
 use Rattle.format.specs.Ids.{isDirectoryId}
 use Rattle.format.specs.Record.{recordSize}
 use Rattle.format.specs.Reading.{areaClean}
-use Rattle.volume.specs.Lists.{bind, keep, all}
+use Rattle.volume.specs.Lists.{bind}
 use Rattle.volume.specs.View.{byBytes}
 use Rattle.volume.specs.Counting.{Volume, inodeOf, inodeIds, blockIds}
 use Rattle.volume.specs.Fate.{Fate, live, dead, orphan, isLive, fateOf}
@@ -23,7 +22,6 @@ use Rattle.volume.specs.Contents.{fileBlocks, textOf}
 use Rattle.volume.specs.Path.{goodPath, pathNames}
 use Rattle.volume.specs.Tree.{Found, found, absent, children, lookupNames}
 use Rattle.volume_laws.specs.Tests.{true→T, T→true, eqb-differ, or-is-false, not-is-false}
-use Rattle.volume_laws.specs.Lists.{mem-keep, mem-all}
 use Rattle.volume_laws.specs.Tree.{children-mem}
 use Rattle.calls.specs.Refusal.{firstRefusal}
 use Rattle.calls.specs.Mount.{mostInodes, mostBlocks, volume, badDescription, wrongAreas, mountNumber}

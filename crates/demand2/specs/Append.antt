@@ -10,7 +10,6 @@ use lib.ListN.{length, take, drop}
 use lib.Dec.{eqb, ltb, leb, nltb→le, leb→le, le→leb}
 use Rattle.format.specs.Bytes.{Bytes}
 use Rattle.format.specs.Ids.{NONE, firstFileId, firstBlockId, rootId, isDirectoryId}
-use Rattle.format.specs.AreaHeader.{areaHeaderSize}
 use Rattle.format.specs.Reading.{areaClean}
 use Rattle.format.specs.Record.{recordSize, recordId}
 use Rattle.format.specs.BlockSize.{greatestBlock}
@@ -42,6 +41,7 @@ use Rattle.calls_laws.specs.Checks.{Passes, passes, mounts}
 use Rattle.calls_laws.specs.Records.{volume-sound}
 use Rattle.calls_laws.specs.Attempt.{attempt-goes}
 use Rattle.demand2.specs.Area.{Whole}
+use Rattle.demand2.specs.Store.{SameHeaders}
 use Rattle.demand2.specs.Places.{AreaGrown, areas-grown, place-found, Written, all-placed, octets-written, written-areas, written-headers, written-clean}
 use Rattle.demand2.specs.Unused.{Unused, block-named, unnamed-unused, named-used, few-named}
 use Rattle.demand2.specs.Added.{same-inode, same-fate, same-lookup}
@@ -169,7 +169,7 @@ pub record AfterAppend (image image′ : Bytes) (ds : List Descriptor) (base pat
   pub areas : (d : Descriptor) → List·Memᴰ d ds → AreaGrown image image′ d (newBlocks image ds file text)
   -- the file areas are the same, with the headers that they had, and each is as clean as it was
   pub same-areas : fileAreas image′ ds ≡ fileAreas image ds
-  pub headers : (d : Descriptor) → List·Memᴰ d ds → take areaHeaderSize (areaBytes image′ d) ≡ take areaHeaderSize (areaBytes image d)
+  pub headers : SameHeaders image image′ ds
   pub clean-after : (d : Descriptor) → List·Memᴰ d ds → areaClean recordSize (areaBytes image′ d) ≡ areaClean recordSize (areaBytes image d)
   -- an image of bytes stays one, for the next call
   pub octets : Octets image → Octets image′

@@ -7,12 +7,11 @@ use mathlib.Core.Option.{Option, none, some}
 use mathlib.Core.List.{List, [], _∷_, _++_, append-nil, append-assoc, List·Memᴰ·cases-cons, List·Memᴰ·not-nil, List·Memᴰ, List·Memᴰ·head}
 use mathlib.Core.List.{List·Memᴰ·tail, Memᴰ·cast}
 use native.Mathlib.Omega.{arith}
-use lib.ListN.{length, take}
+use lib.ListN.{length}
 use lib.Dec.{T, leb, ltb, leb→le}
 use borrow.Author.Tests.{leb-true, leb-false}
 use Rattle.format.specs.Bytes.{Bytes}
 use Rattle.format.specs.Record.{recordSize}
-use Rattle.format.specs.AreaHeader.{areaHeaderSize}
 use Rattle.format.specs.Reading.{Placed, areaFree, areaClean}
 use Rattle.format_laws.specs.Crc.{Octets}
 use Rattle.volume.specs.Lists.{keep, all, bind}
@@ -26,7 +25,7 @@ use Rattle.calls.specs.declared.Descriptor.{Descriptor}
 use Rattle.calls_laws.specs.Storing.{kept-fit}
 use Rattle.demand2.specs.Octet.{octets-put}
 use Rattle.demand2.specs.Area.{Whole}
-use Rattle.demand2.specs.Store.{OneStored, same-area, freePlace, RecordFits, FirstWithRoom, one-stored, file-listed}
+use Rattle.demand2.specs.Store.{SameHeaders, OneStored, same-area, freePlace, RecordFits, FirstWithRoom, one-stored, file-listed}
 use Rattle.demand2.specs.Store.{same-file-areas, same-clean, same-described}
 
 -- no area is listed twice
@@ -220,7 +219,7 @@ octets-written {image = image} (written {b = b} area f t w rest) h o =
 -- the file areas are those that were, with the headers that they had, and each is as clean as it was
 module _ (ds : List Descriptor) where
   pub written-headers : {image image′ : Bytes} {bs : List Bytes} → badDescription image ds ≡ false → Written ds image bs image′
-      → (d : Descriptor) → List·Memᴰ d ds → take areaHeaderSize (areaBytes image′ d) ≡ take areaHeaderSize (areaBytes image d)
+      → SameHeaders image image′ ds
   written-headers described all-written d m = refl
   written-headers {image} described (written {b = b} area f t w rest) d m =
       let s = one-stored image ds described area b f w in

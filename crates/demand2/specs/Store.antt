@@ -51,9 +51,13 @@ pub record FirstWithRoom (image : Bytes) (fs : List Descriptor) (area : Descript
       → areaEnd d < freePlace image d + length b
 
 -- what becomes of the image when it is stored there
+-- every area has the header that it had
+abbrev pub SameHeaders : Bytes → Bytes → List Descriptor → Type 0
+SameHeaders image image′ ds = (d : Descriptor) → List·Memᴰ d ds → take areaHeaderSize (areaBytes image′ d) ≡ take areaHeaderSize (areaBytes image d)
+
 pub record OneStored (image image′ : Bytes) (ds : List Descriptor) (area : Descriptor) (b : Bytes) : Type 0 where
   pub one-length : length image′ ≡ length image
-  pub headers : (d : Descriptor) → List·Memᴰ d ds → take areaHeaderSize (areaBytes image′ d) ≡ take areaHeaderSize (areaBytes image d)
+  pub headers : SameHeaders image image′ ds
   -- the area reads as its old records followed by the new one, and stays clean
   pub reads : recordsOf image′ area ≡ recordsOf image area ++ (record { place = areaFree recordSize (areaBytes image area); bytes = b } ∷ [])
   pub clean : areaClean recordSize (areaBytes image′ area) ≡ true

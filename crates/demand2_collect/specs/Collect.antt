@@ -3,27 +3,27 @@
 use Prim.Native.Nat.{ℕ, _≤_}
 use mathlib.Core.Path.{_≡_, refl, sym, ap, _∙_}
 use mathlib.Core.Logic.{_⊎_, inl, inr, _≢_, ⊎-elim, _↔_}
-use mathlib.Core.Bool.{Bool, true, false, cond, not}
+use mathlib.Core.Bool.{true, false, not}
 use mathlib.Core.Option.{Option, none, some}
-use mathlib.Core.List.{List, [], _∷_, _++_, map, List·Memᴰ, List·Memᴰ·head, List·Memᴰ·tail, List·Memᴰ·cases-cons, List·Memᴰ·not-nil, Memᴰ·cast}
+use mathlib.Core.List.{List, [], _∷_, map, List·Memᴰ, List·Memᴰ·head, List·Memᴰ·tail, List·Memᴰ·cases-cons, List·Memᴰ·not-nil, Memᴰ·cast}
 use mathlib.Core.List.{Memᴰ·map, Memᴰ·of-map}
 use native.Mathlib.Omega.{arith}
 use lib.ListN.{length}
-use lib.Dec.{T, eqb, leb, eqb→eq, eqb-refl, leb→le, le→leb, nltb→le}
+use lib.Dec.{T, eqb, leb, leb→le, le→leb, nltb→le}
 use Rattle.format.specs.Bytes.{Bytes, byteAt}
 use Rattle.format.specs.Ids.{rootId}
 use Rattle.format.specs.AreaHeader.{areaId, scratchId}
 use Rattle.format.specs.Record.{recordSize, recordId, recordLink}
 use Rattle.format.specs.Reading.{areaClean}
 use Rattle.format_laws.specs.Crc.{Octets}
-use Rattle.volume.specs.Lists.{keep, all, once}
+use Rattle.volume.specs.Lists.{all, once}
 use Rattle.volume.specs.View.{byBytes}
 use Rattle.volume.specs.Counting.{Volume, volumeOf, inodeOf, blockOf, inodeIds, blockIds}
 use Rattle.volume.specs.Fate.{Fate, live, dead, orphan, isLive, isDead, fateOf, blockDead}
 use Rattle.volume.specs.Contents.{fileBlocks}
 use Rattle.volume.specs.Path.{pathNames}
 use Rattle.volume_laws.specs.Tests.{true→T, T→true, not-is-false, eqb-differ}
-use Rattle.volume_laws.specs.Lists.{all-mem, mem-all, not-all, keep-mem, same-refl, keep-shorter}
+use Rattle.volume_laws.specs.Lists.{all-mem, mem-all, same-refl, keep-shorter}
 use Rattle.volume_laws.specs.Once.{Nodup, once-nodup, once-mem, pigeons}
 use Rattle.volume_laws.specs.Counting.{agree-sub, test-agree, counting-mem, counting-absent, fewer-ids}
 use Rattle.volume_laws.specs.Sound.{kinds-apart}
