@@ -1,10 +1,11 @@
 -- The source area found by tests of one area after the other. Document 02, T-14.
-use Prim.Native.Nat.{ℕ, _+_, _≤_, _<_}
+use Prim.Native.Nat.{ℕ, suc, _+_, _≤_, _<_}
 use mathlib.Core.Path.{_≡_, refl, sym, _∙_}
 use mathlib.Core.Bool.{Bool, true, false, cond, not, _&&_}
 use mathlib.Core.Option.{Option, none, some}
 use mathlib.Core.List.{List, [], _∷_, _++_}
 use native.Mathlib.Omega.{arith}
+use native.Mathlib.Decide.{decLt}
 use lib.ListN.{length, drop, getD}
 use lib.Seq.{getD-take, getD-drop}
 use lib.Dec.{eqb, ltb}
@@ -15,6 +16,7 @@ use Rattle.volume.specs.Lists.{keep, all, first}
 use Rattle.volume_laws.specs.Lists.{keep-keep, keep-cong}
 use Rattle.calls.specs.Collect.{eligible, countOf, precedes, unpreceded, sourceOf}
 use Rattle.calls.specs.declared.Descriptor.{Descriptor}
+use Rattle.table_words.specs.Position.{positionOf}
 use Rattle.area_list.specs.Described.{areaOf, described, described-step, described-end}
 
 -- r is the collection count of the area at o, whatever its length
@@ -44,9 +46,27 @@ leads image wanted fs d = asLong wanted d && noneAhead image wanted (countOf ima
 abbrev pub areaAt : List ℕ → List ℕ → ℕ → Option Descriptor
 areaAt starts spans i = cond (ltb i (length starts)) (some (areaOf (getD starts i 0) (getD spans i 0))) none
 
--- r is the place of the first of the wanted length, whatever the starts
-pub record FirstAsLong (spans : List ℕ) (wanted r : ℕ) : Type 0 where
-  pub is : (starts : List ℕ) → length starts ≡ length spans → areaAt starts spans r ≡ first (keep (asLong wanted) (described starts spans))
+-- the first of the wanted length
+area-as-long : (wanted : ℕ) (starts spans : List ℕ) → length starts ≡ length spans
+    → areaAt starts spans (positionOf wanted spans) ≡ first (keep (asLong wanted) (described starts spans))
+unfolding first keep described positionOf
+area-as-long wanted [] [] e = refl
+area-as-long wanted [] (n ∷ spans) e = absurd (omega arith)
+area-as-long wanted (o ∷ starts) [] e = absurd (omega arith)
+area-as-long wanted (o ∷ starts) (n ∷ spans) e = go (eqb n wanted) (area-as-long wanted starts spans (omega arith))
+  where
+    later : (i : ℕ) → areaAt (o ∷ starts) (n ∷ spans) (suc i) ≡ areaAt starts spans i
+    later i = go (decLt i (length starts))
+      where
+        go : Dec (i < length starts) → areaAt (o ∷ starts) (n ∷ spans) (suc i) ≡ areaAt starts spans i
+        go (yes h) = rw (lt-ltb (suc i) (suc (length starts)) (omega arith), lt-ltb i (length starts) h)
+        go (no h) = rw (le-ltb (suc i) (suc (length starts)) (omega arith), le-ltb i (length starts) (omega arith))
+
+    go : (b : Bool) → areaAt starts spans (positionOf wanted spans) ≡ first (keep (asLong wanted) (described starts spans))
+        → areaAt (o ∷ starts) (n ∷ spans) (cond b 0 (suc (positionOf wanted spans)))
+        ≡ first (cond b (areaOf o n ∷ keep (asLong wanted) (described starts spans)) (keep (asLong wanted) (described starts spans)))
+    go true ih = rw (lt-ltb 0 (suc (length starts)) (omega arith))
+    go false ih = later (positionOf wanted spans) ∙ ih
 
 -- ---- the source by these tests
 
@@ -93,10 +113,11 @@ module _ (image : Bytes) (t : Descriptor) (starts spans : List ℕ) (r : ℕ)
       let e : areaAt starts spans r ≡ some (areaOf (getD starts r 0) (getD spans r 0)) = rw (lt-ltb r (length starts) h) in
       e ∙ sym (source-leads image t (described starts spans) (sym leading ∙ e))
 
-  pub source-else : length starts ≤ r → first (keep (asLong (t .length)) (described starts spans)) ≡ sourceOf image (described starts spans) t
-  source-else h =
+  pub source-else : length starts ≡ length spans → length starts ≤ r
+      → areaAt starts spans (positionOf (t .length) spans) ≡ sourceOf image (described starts spans) t
+  source-else pairs h =
       let e : areaAt starts spans r ≡ none = rw (le-ltb r (length starts) h) in
-      sym (source-rest image t (described starts spans) (sym leading ∙ e))
+      area-as-long (t .length) starts spans pairs ∙ sym (source-rest image t (described starts spans) (sym leading ∙ e))
 
 -- ---- one area tested
 

@@ -7,10 +7,11 @@ ghost use Rattle.volume.specs.Lists.{keep, first};
 ghost use Rattle.calls.specs.Collect.{precedes, sourceOf};
 ghost use Rattle.area_list.specs.Described.{areaOf, described};
 ghost use Rattle.area_pass.specs.Listing.{AreasFit};
-ghost use Rattle.collect_source.specs.Source.{HasCount, ahead, noneAhead, leads, areaAt, FirstAsLong};
+ghost use Rattle.collect_source.specs.Source.{HasCount, ahead, noneAhead, leads, areaAt};
 use area_read::COUNT_AT;
 use byte_fields::wide;
 use calls::Descriptor;
+use table_words::position;
 
 // Whether an area of count `a` is collected before one of count `b`.
 fn precedes(a: u8, b: u8) -> bool
@@ -81,28 +82,15 @@ fn first_leading(image: &[u8], starts: &[u32], spans: &[u32], wanted: u32) -> us
     i
 }
 
-// The place in the list of the first area of the wanted length, or the number of areas where none is.
-fn first_as_long(spans: &[u32], wanted: u32) -> usize
-    ensures { λ r. ⌜ FirstAsLong (now (spans .entry)) wanted r ⌝ }
-{
-    let mut i = 0;
-    while i < spans.len() {
-        if spans[i] == wanted {
-            return i;
-        }
-        i += 1;
-    }
-    i
-}
-
 // The place in the list of the source area, or the number of areas where none is as long as scratch.
 pub fn choose_source(image: &[u8], starts: &[u32], spans: &[u32], scratch: Descriptor) -> usize
     requires { ⌜ AreasFit (now image) (now starts) (now spans) ⌝ }
     ensures { λ r. ⌜ areaAt (now (starts .entry)) (now (spans .entry)) r ≡ sourceOf (now (image .entry)) (described (now (starts .entry)) (now (spans .entry))) scratch ⌝ }
 {
-    let leading = first_leading(image, starts, spans, scratch.length);
+    let wanted = scratch.length;
+    let leading = first_leading(image, starts, spans, wanted);
     if leading < starts.len() {
         return leading;
     }
-    first_as_long(spans, scratch.length)
+    position(spans, spans.len(), wanted)
 }
