@@ -1,24 +1,28 @@
--- The calls that write and do not collect keep the headers: they can stand in a run.
+-- Every call that writes, accepted or refused, can stand in a run, but for a format that is accepted: with that a new run begins (format-shares).
 use Prim.Native.Nat.{ℕ}
 use mathlib.Core.Path.{_≡_}
 use mathlib.Core.Logic.{_≢_}
-use mathlib.Core.List.{List}
+use mathlib.Core.List.{List, _∷_}
 use native.Mathlib.Decide.{ℕ-discrete}
 use Rattle.format.specs.Bytes.{Bytes}
 use Rattle.format_laws.specs.Crc.{Octets}
+use Rattle.calls.specs.Format.{formatNumber, imageFormatted}
 use Rattle.calls.specs.Create.{createOf, imageCreated}
 use Rattle.calls.specs.Append.{appendOf, imageAppended}
 use Rattle.calls.specs.Unlink.{unlinkOf, imageUnlinked}
 use Rattle.calls.specs.Collect.{collectOf, imageCollected}
 use Rattle.calls.specs.declared.Descriptor.{Descriptor}
 use Rattle.demand2.specs.Store.{SameHeaders}
+use Rattle.demand2_collect.specs.Collect.{collect}
 use Rattle.demand2_collect.specs.Demand2.{Demand2, demand2}
+use Rattle.collect_turns.specs.Words.{Run, collects}
 
 -- accepted or refused; names, data and image are bytes
 pub record CallsKeep (image : Bytes) (ds : List Descriptor) : Type 0 where
   pub create : (base path : Bytes) (kind : ℕ) → Octets base → Octets path → SameHeaders image (imageCreated image ds base path kind) ds
   pub append : (base path text : Bytes) → Octets text → SameHeaders image (imageAppended image ds base path text) ds
   pub unlink : (base path : Bytes) → Octets image → SameHeaders image (imageUnlinked image ds base path) ds
+  pub refused-format : formatNumber image ds ≢ 0 → SameHeaders image (imageFormatted image ds) ds
   pub refused-collect : collectOf image ds ≢ 0 → SameHeaders image (imageCollected image ds) ds
 
 -- where nothing changed
@@ -30,6 +34,7 @@ calls-keep image ds = record {
   create = λ base path kind b p. created base path kind b p (ℕ-discrete (createOf image ds base path kind .number) 0);
   append = λ base path text t. appended base path text t (ℕ-discrete (appendOf image ds base path text) 0);
   unlink = λ base path o. unlinked base path o (ℕ-discrete (unlinkOf image ds base path) 0);
+  refused-format = λ n. unchanged image (imageFormatted image ds) ds (is .refused .format n);
   refused-collect = λ n. unchanged image (imageCollected image ds) ds (is .refused .collect n);
 }
   where
@@ -48,3 +53,10 @@ calls-keep image ds = record {
     unlinked : (base path : Bytes) → Octets image → Dec (unlinkOf image ds base path ≡ 0) → SameHeaders image (imageUnlinked image ds base path) ds
     unlinked base path o (yes e) = is .unlinks base path o e .stored .headers
     unlinked base path o (no n) = unchanged image (imageUnlinked image ds base path) ds (is .refused .unlink base path n)
+
+-- a collect that is accepted has a source, with which a run goes on
+pub accepted-collect : (image : Bytes) (ds : List Descriptor) → collectOf image ds ≡ 0
+    → (s : Descriptor) × ((l : List Descriptor) (image′ : Bytes) → Run ds (imageCollected image ds) l image′ → Run ds image (s ∷ l) image′)
+accepted-collect image ds accepted =
+    let a = collect image ds accepted in
+    (a .source, λ l image′ r. collects (a .scratch) (a .source) accepted (a .was-scratch) (a .chosen) r)

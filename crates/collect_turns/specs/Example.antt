@@ -1,5 +1,5 @@
 -- Three areas with counts on both sides of the wrap, and four collections of them.
-use Prim.Native.Nat.{ℕ, _+_, _≤_, _<_}
+use Prim.Native.Nat.{ℕ, _+_, _-_, _≤_, _<_}
 use mathlib.Core.Path.{_≡_, refl}
 use mathlib.Core.Logic.{inl, inr, ⊎-elim}
 use mathlib.Core.List.{List, [], _∷_, _++_, List·Memᴰ·cases-cons, List·Memᴰ·eq-of-singleton}
@@ -26,7 +26,8 @@ use Rattle.calls.specs.Collect.{dropsInode, drops, copies, isBlank, resetStores
 use Rattle.calls.specs.Collect.{collecting, collectOf, imageCollected}
 use Rattle.calls.specs.declared.Descriptor.{Descriptor}
 use Rattle.collect_turns.specs.Words.{TakesTurns, times, Run, ends, collects}
-use Rattle.collect_turns.specs.Shares.{past, Among, shares}
+use Rattle.collect_turns.specs.Order.{past}
+use Rattle.collect_turns.specs.Shares.{Among, shares}
 
 -- areas of 128 bytes
 abbrev pub a : Descriptor
@@ -91,20 +92,20 @@ computed = record {
   counts-after = refl;
 }
 
--- the counts are among the two from 255 on, so that the theorem speaks of this run
-among : Among 255 2 start areas c
+-- the counts are among those from 255 on, so that the theorem speaks of this run
+among : Among 255 start areas c
 among = record { one-scratch = computed .one-scratch; from = omega arith; counts = λ d q. counted d q }
   where
-    in-order : (d : Descriptor) (n : ℕ) → countOf start d ≡ n → n < 256 → past 255 n < 2 → (countOf start d < 256) × (past 255 (countOf start d) < 2)
+    in-order : (d : Descriptor) (n : ℕ) → countOf start d ≡ n → n < 256 → past 255 n < 128 → (countOf start d < 256) × (past 255 (countOf start d) < 128)
     in-order d n e h g = rw e (h, g)
 
-    counted : (d : Descriptor) → TakesTurns start areas c d → (countOf start d < 256) × (past 255 (countOf start d) < 2)
+    counted : (d : Descriptor) → TakesTurns start areas c d → (countOf start d < 256) × (past 255 (countOf start d) < 128)
     counted d (inl e) = rw e (in-order c 0 (computed .count-c) (omega arith) (omega arith))
     counted d (inr m) = ⊎-elim
         (λ e. rw e (in-order a 255 (computed .count-a) (omega arith) (omega arith)))
         (λ n. let e : d ≡ b = List·Memᴰ·eq-of-singleton n in rw e (in-order b 0 (computed .count-b) (omega arith) (omega arith)))
         (List·Memᴰ·cases-cons (rw (computed .files) at m))
 
-pub example : (d e : Descriptor) → TakesTurns start areas c d → TakesTurns start areas c e
-    → past 255 (countOf start d) + times d (a ∷ b ∷ a ∷ c ∷ []) ≤ past 255 (countOf start e) + times e (a ∷ b ∷ a ∷ c ∷ []) + 2
-example = shares 255 2 (omega arith) (omega arith) start areas c among (computed .run)
+pub example : (d e : Descriptor) → TakesTurns start areas c e
+    → times d (a ∷ b ∷ a ∷ c ∷ []) ≤ times e (a ∷ b ∷ a ∷ c ∷ []) + 1 + (past 255 (countOf start e) - past 255 (countOf start d))
+example = shares 255 start areas c among (computed .run)

@@ -1,7 +1,7 @@
 -- One collection: it takes a least area, and tallies stay as near as they were.
 use Prim.Native.Nat.{ℕ, _+_, _%_, _≤_, _<_}
 use mathlib.Core.Path.{_≡_, refl, sym, ap, _∙_}
-use mathlib.Core.Logic.{_⊎_, inl, inr, _≢_, ⊎-elim}
+use mathlib.Core.Logic.{_⊎_, inl, inr, _≢_, ⊎-elim, _↔_}
 use mathlib.Core.Bool.{true, false, cond}
 use mathlib.Core.List.{List, [], _∷_, List·Memᴰ, List·Memᴰ·head, List·Memᴰ·tail, List·Memᴰ·not-nil, List·Memᴰ·cases-cons, Memᴰ·append-left, Memᴰ·append-right}
 use native.Mathlib.Omega.{arith}
@@ -22,7 +22,7 @@ use Rattle.demand2_collect.specs.Image.{not-both}
 use Rattle.collect_laws.specs.Source.{Leads, Preceded, IsSource, eligible-file, file-eligible}
 use Rattle.demand2.specs.Store.{same-area}
 use Rattle.demand2_collect.specs.Collect.{AfterCollect}
-use Rattle.collect_turns.specs.Words.{TakesTurns, sameArea, Spread, FirstLeast}
+use Rattle.collect_turns.specs.Words.{TakesTurns, sameArea, InOrder, FirstLeast}
 use Rattle.collect_turns.specs.Order.{precedes-is}
 
 -- ---- the least of some areas
@@ -77,7 +77,7 @@ module _ (image : Bytes) (es : List Descriptor) (tally : Descriptor → ℕ)
 
 -- ---- one area more often collected
 
-same-self : (d : Descriptor) → sameArea d d ≡ true
+pub same-self : (d : Descriptor) → sameArea d d ≡ true
 same-self d = T→true (T-and (eqb (d .offset) (d .offset)) (eqb (d .length) (d .length)) (eqb-refl (d .offset)) (eqb-refl (d .length)))
 
 same-is : (d e : Descriptor) → T (sameArea d e) → d ≡ e
@@ -87,7 +87,7 @@ same-is d e t =
     let n = eqb→eq (d .length) (e .length) (p .1) in
     λ i. record { offset = o i; length = n i }
 
-other-area : (d e : Descriptor) → d ≢ e → sameArea d e ≡ false
+pub other-area : (d e : Descriptor) → d ≢ e → sameArea d e ≡ false
 other-area d e n = not-T→false (λ t. n (same-is d e t))
 
 -- the tallies once s was collected
@@ -133,28 +133,32 @@ module _ (image image′ : Bytes) (ds : List Descriptor) (a : AfterCollect image
   scratch-joins = file-eligible (fileAreas image′ ds) s (a .now-file) (sym (a .as-long))
 
   -- the same areas take turns
-  pub turns-kept : (d : Descriptor) → TakesTurns image ds t d → TakesTurns image′ ds s d
-  turns-kept d (inl e) = inr (rw e scratch-joins)
-  turns-kept d (inr m) = go (same-area d s)
+  pub turns-kept : (d : Descriptor) → TakesTurns image ds t d ↔ TakesTurns image′ ds s d
+  turns-kept d = (on (same-area d s), back)
     where
-      go : Dec (d ≡ s) → TakesTurns image′ ds s d
-      go (yes e) = inl e
-      go (no n) = inr (stays d m n)
+      on : Dec (d ≡ s) → TakesTurns image ds t d → TakesTurns image′ ds s d
+      on q (inl e) = inr (rw e scratch-joins)
+      on (yes e) (inr m) = inl e
+      on (no n) (inr m) = inr (stays d m n)
+
+      back : TakesTurns image′ ds s d → TakesTurns image ds t d
+      back (inl e) = inr (rw e source-there)
+      back (inr m) = ⊎-elim inl (λ k. inr (k .0)) (others d m)
 
   -- an area is not both a file area and scratch
   apart : (d : Descriptor) → List·Memᴰ d (fileAreas image ds) → d ≢ t
   apart d m e = not-both (t .length) (areaBytes image t) (rw e at (file-is image ds d m .1)) (scratch-is image ds t (a .was-scratch) .1)
 
-  joined : t ≢ s
+  pub joined : t ≢ s
   joined e = apart s (a .was-file) (sym e)
 
   count-raised : countOf image′ s ≡ nextCount (countOf image s)
   unfolding emptyArea
   count-raised = ap collectionCount (a .emptied) ∙ header-count (s .length) (nextCount (countOf image s)) scratchId _
 
-  module _ (k : ℕ) (tally : Descriptor → ℕ) (some-room : 1 ≤ k) (in-order : k ≤ 127) (p : Spread k tally image ds t) where
-    least : FirstLeast tally es s
-    least = source-least image es tally (λ d m. p .counts d (inr m)) (λ d e m n. omega (arith, p .close d e m n)) s (a .is-source)
+  module _ (tally : Descriptor → ℕ) (p : InOrder tally image ds t) where
+    pub least : FirstLeast tally es s
+    least = source-least image es tally (λ d m. p .counts d (inr m)) (p .close) s (a .is-source)
 
     raised-counts : (d : Descriptor) → TakesTurns image′ ds s d → raised s tally d % 256 ≡ countOf image′ d
     unfolding nextCount
@@ -170,28 +174,37 @@ module _ (image image′ : Bytes) (ds : List Descriptor) (a : AfterCollect image
             ap (λ (n : ℕ). n % 256) (raised-other s tally d q) ∙ p .counts d (inr n)
             ∙ sym (ap collectionCount (a .elsewhere d (file-is image ds d (f .0) .0) (apart d (f .0)) q))
 
-    pub turn : Spread k (raised s tally) image′ ds s
+    pub turn : InOrder (raised s tally) image′ ds s
     turn = record {
       one-scratch = a .now-scratch;
       counts = raised-counts;
       close = λ d e m n. near d e (others d m) (others e n);
       above = λ d m. rw (raised-source s tally) (scratch-above d (others d m));
+      second = λ d e m n q h. rw (raised-source s tally) (scratch-second d e (others d m) (others e n) q h);
       below = λ d m. rw (raised-source s tally) (scratch-below d (others d m));
     }
       where
         at-scratch : (d : Descriptor) → d ≡ t → raised s tally d ≡ tally t
         at-scratch d e = rw e (raised-other s tally t joined)
 
-        near : (d e : Descriptor) → (d ≡ t) ⊎ (List·Memᴰ d es × (d ≢ s)) → (e ≡ t) ⊎ (List·Memᴰ e es × (e ≢ s)) → raised s tally d ≤ raised s tally e + k
+        near : (d e : Descriptor) → (d ≡ t) ⊎ (List·Memᴰ d es × (d ≢ s)) → (e ≡ t) ⊎ (List·Memᴰ e es × (e ≢ s)) → raised s tally d ≤ raised s tally e + 127
         near d e (inl x) (inl y) = rw (at-scratch d x, at-scratch e y) (omega arith)
-        near d e (inl x) (inr y) = rw (at-scratch d x, raised-other s tally e (y .1)) (p .above e (y .0))
+        near d e (inl x) (inr y) = rw (at-scratch d x, raised-other s tally e (y .1)) (p .second s e source-there (y .0) (λ z. y .1 (sym z)) (least .least e (y .0)))
         near d e (inr x) (inl y) = rw (raised-other s tally d (x .1), at-scratch e y) (omega (arith, p .below d (x .0)))
         near d e (inr x) (inr y) = rw (raised-other s tally d (x .1), raised-other s tally e (y .1)) (p .close d e (x .0) (y .0))
 
-        scratch-above : (d : Descriptor) → (d ≡ t) ⊎ (List·Memᴰ d es × (d ≢ s)) → tally s + 1 ≤ raised s tally d + k
+        scratch-above : (d : Descriptor) → (d ≡ t) ⊎ (List·Memᴰ d es × (d ≢ s)) → tally s + 1 ≤ raised s tally d + 128
         scratch-above d (inl x) = rw (at-scratch d x) (omega (arith, p .below s source-there))
         scratch-above d (inr x) = rw (raised-other s tally d (x .1)) (omega (arith, least .least d (x .0)))
 
-        scratch-below : (d : Descriptor) → (d ≡ t) ⊎ (List·Memᴰ d es × (d ≢ s)) → raised s tally d < tally s + 1 + k
+        scratch-second : (d e : Descriptor) → (d ≡ t) ⊎ (List·Memᴰ d es × (d ≢ s)) → (e ≡ t) ⊎ (List·Memᴰ e es × (e ≢ s)) → d ≢ e
+            → raised s tally d ≤ raised s tally e → tally s + 1 ≤ raised s tally e + 127
+        scratch-second d e (inl x) (inl y) q h = absurd (q (x ∙ sym y))
+        scratch-second d e (inr x) (inl y) q h =
+            let c : tally d ≤ tally t = rw (raised-other s tally d (x .1), at-scratch e y) at h in
+            rw (at-scratch e y) (omega (arith, least .least d (x .0)))
+        scratch-second d e x (inr y) q h = rw (raised-other s tally e (y .1)) (omega (arith, least .least e (y .0)))
+
+        scratch-below : (d : Descriptor) → (d ≡ t) ⊎ (List·Memᴰ d es × (d ≢ s)) → raised s tally d < tally s + 1 + 128
         scratch-below d (inl x) = rw (at-scratch d x) (omega (arith, p .above s source-there))
         scratch-below d (inr x) = rw (raised-other s tally d (x .1)) (omega (arith, p .close d s (x .0) source-there))

@@ -3,9 +3,9 @@
 -- A count is a byte, so that it passes from 255 to 0. Here it is unwrapped: a tally, a number that leaves the count as its remainder by 256, and
 -- that rises by one with each collection of the area and never falls. Which tallies the counts of some areas have is free up to a multiple of 256;
 -- counts 254, 255 and 1 can be 254, 255 and 257.
-use Prim.Native.Nat.{ℕ, _+_, _%_, _≤_, _<_}
+use Prim.Native.Nat.{ℕ, _+_, _-_, _%_, _≤_, _<_}
 use mathlib.Core.Path.{_≡_}
-use mathlib.Core.Logic.{_⊎_}
+use mathlib.Core.Logic.{_⊎_, _≢_, _↔_}
 use mathlib.Core.Bool.{Bool, cond, _&&_}
 use mathlib.Core.Option.{some}
 use mathlib.Core.List.{List, [], _∷_, _++_, List·Memᴰ}
@@ -41,14 +41,17 @@ pub data Run (ds : List Descriptor) : Bytes → List Descriptor → Bytes → Ty
 
 -- ---- how far counts lie apart
 
--- The tallies of the areas as long as scratch t lie within k of each other; that of scratch too, and none lies k or more above it.
-pub record Spread (k : ℕ) (tally : Descriptor → ℕ) (image : Bytes) (ds : List Descriptor) (t : Descriptor) : Type 0 where
+-- The tallies of the areas as long as scratch t lie within 127 of each other, so that counts are in their order; that of scratch too, or it is one
+-- more above one area, which is collected next.
+pub record InOrder (tally : Descriptor → ℕ) (image : Bytes) (ds : List Descriptor) (t : Descriptor) : Type 0 where
   pub one-scratch : scratchAreas image ds ≡ t ∷ []
   pub counts : (d : Descriptor) → TakesTurns image ds t d → tally d % 256 ≡ countOf image d
   pub close : (d e : Descriptor) → List·Memᴰ d (eligible (fileAreas image ds) t) → List·Memᴰ e (eligible (fileAreas image ds) t)
-      → tally d ≤ tally e + k
-  pub above : (d : Descriptor) → List·Memᴰ d (eligible (fileAreas image ds) t) → tally t ≤ tally d + k
-  pub below : (d : Descriptor) → List·Memᴰ d (eligible (fileAreas image ds) t) → tally d < tally t + k
+      → tally d ≤ tally e + 127
+  pub above : (d : Descriptor) → List·Memᴰ d (eligible (fileAreas image ds) t) → tally t ≤ tally d + 128
+  pub second : (d e : Descriptor) → List·Memᴰ d (eligible (fileAreas image ds) t) → List·Memᴰ e (eligible (fileAreas image ds) t)
+      → d ≢ e → tally d ≤ tally e → tally t ≤ tally e + 127
+  pub below : (d : Descriptor) → List·Memᴰ d (eligible (fileAreas image ds) t) → tally d < tally t + 128
 
 -- ---- the theorems
 
@@ -60,12 +63,12 @@ pub record FirstLeast (tally : Descriptor → ℕ) (es : List Descriptor) (s : D
   pub least : (d : Descriptor) → List·Memᴰ d es → tally s ≤ tally d
   pub first : (d : Descriptor) → List·Memᴰ d before → tally s < tally d
 
--- After a run that began with tallies so far apart, of at most 127
-pub record Fair (k : ℕ) (tally : Descriptor → ℕ) (image image′ : Bytes) (ds : List Descriptor) (t : Descriptor) (l : List Descriptor) : Type 0 where
-  -- each tally has risen by the number of the area's collections, and they are no further apart than they were
+-- After a run that began with tallies in order
+pub record Fair (tally : Descriptor → ℕ) (image image′ : Bytes) (ds : List Descriptor) (t : Descriptor) (l : List Descriptor) : Type 0 where
+  -- each tally has risen by the number of the area's collections, and they are in order still
   pub scratch : Descriptor
-  pub spread : Spread k (λ d. tally d + times d l) image′ ds scratch
+  pub in-order : InOrder (λ d. tally d + times d l) image′ ds scratch
   -- the same areas take turns
-  pub same-turns : (d : Descriptor) → TakesTurns image ds t d → TakesTurns image′ ds scratch d
-  -- so that no area is collected more often than another by more than what it was behind, and k
-  pub within : (d e : Descriptor) → TakesTurns image ds t d → TakesTurns image ds t e → tally d + times d l ≤ tally e + times e l + k
+  pub same-turns : (d : Descriptor) → TakesTurns image ds t d ↔ TakesTurns image′ ds scratch d
+  -- an area is collected more often than another at most by what its tally was lower, and one
+  pub within : (d e : Descriptor) → TakesTurns image ds t e → times d l ≤ times e l + 1 + (tally e - tally d)
