@@ -81,7 +81,7 @@ pub struct Seen {
     /// The areas with a valid header that are not listed.
     pub areas: Vec<Area>,
     /// The headers, of listed areas too, whose reserved byte is not 0.
-    pub reserved: Vec<Placed>,
+    pub reserved_headers: Vec<Placed>,
 }
 
 /// The headers that are seen, but for the valid ones of listed areas. Inside an area none is looked
@@ -96,7 +96,7 @@ pub fn seen(image: &[u8], listed: &[Area]) -> Seen {
         };
         let area = Area { offset: offset as u32, length: header.length };
         if !header.is_valid() {
-            found.reserved.push(Placed { offset: area.offset, header });
+            found.reserved_headers.push(Placed { offset: area.offset, header });
         } else if !listed.contains(&area) {
             found.areas.push(area);
         }
@@ -119,7 +119,7 @@ pub struct Chosen {
     /// Headers that the list leaves out.
     pub left_out: Vec<Area>,
     /// Headers that are passed over for their reserved byte.
-    pub reserved: Vec<Placed>,
+    pub reserved_headers: Vec<Placed>,
 }
 
 /// The areas by `--areas`, or else by their headers; nothing is said of them.
@@ -127,10 +127,10 @@ pub fn choose(arguments: &Arguments, image: &[u8]) -> Result<Chosen, Failure> {
     let list = listed(arguments)?;
     let found = list.is_none();
     let listed = list.unwrap_or_default();
-    let Seen { areas, reserved } = seen(image, &listed);
+    let Seen { areas, reserved_headers } = seen(image, &listed);
     Ok(match found {
-        true => Chosen { areas, found, left_out: Vec::new(), reserved },
-        false => Chosen { areas: listed, found, left_out: areas, reserved },
+        true => Chosen { areas, found, left_out: Vec::new(), reserved_headers },
+        false => Chosen { areas: listed, found, left_out: areas, reserved_headers },
     })
 }
 

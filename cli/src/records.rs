@@ -40,7 +40,7 @@ pub fn is_each_once(image: &[u8], areas: &[Area]) -> bool {
 }
 
 /// An inode's record but for its reserved byte, which is not 0.
-pub struct Reserved {
+pub struct ReservedRecord {
     pub offset: usize,
     pub reserved: u8,
     pub id: u32,
@@ -50,10 +50,10 @@ pub struct Reserved {
 
 /// The records that are not acceptable since version 0.4.0, for their reserved byte. Their check is
 /// right: without it a record that was torn behind its magic would look like one.
-pub fn reserved(image: &[u8], areas: &[Area]) -> Vec<Reserved> {
+pub fn reserved_records(image: &[u8], areas: &[Area]) -> Vec<ReservedRecord> {
     let one = |(offset, bytes): (usize, &[u8])| {
         let (header, name) = inode(bytes)?;
-        let found = Reserved {
+        let found = ReservedRecord {
             offset,
             reserved: header[16],
             id: field(header, 4),
