@@ -64,10 +64,9 @@ fn hints(text: &str) -> usize {
 }
 
 #[test]
-fn every_command_hints_at_an_area_that_is_passed_over() {
+fn every_command_that_reads_hints_at_an_area_that_is_passed_over() {
     let folder = Folder::new("reserved_area");
-    std::fs::create_dir(folder.path("folder")).unwrap();
-    let bytes = with_area(0x55, &[inode(FILE + 1, 0, 0, b"other")]);
+    folder.write("image", with_area(0x55, &[inode(FILE + 1, 0, 0, b"other")]));
     let hint = format!("nffs: h{}", area_hint("file area 1", 8192, 0x55).trim_end()) + ADVICE;
     for (words, status) in [
         (&["areas", "image"][..], 0),
@@ -76,16 +75,9 @@ fn every_command_hints_at_an_area_that_is_passed_over() {
         (&["cat", "image", "/dose"], 0),
         (&["cat", "image", "/other"], 1),
         (&["export", "image", "out"], 0),
-        (&["put", "image", "/new"], 0),
-        (&["append", "image", "/dose"], 0),
-        (&["import", "image", "folder"], 0),
-        (&["mkdir", "image", "/new"], 0),
-        (&["rm", "image", "/dose"], 0),
-        (&["collect", "image"], 0),
         (&["report", "image", "--areas", "4096x3"], 0),
         (&["report", "image", "--areas", "4096x2"], 0),
     ] {
-        folder.write("image", &bytes);
         // it is no note, so it is told without notes too
         for quiet in [&[][..], &["-q"]] {
             let words = [words, quiet].concat();
@@ -94,12 +86,73 @@ fn every_command_hints_at_an_area_that_is_passed_over() {
             }
             let said = said(&folder, &words, status);
             assert!(said.contains(&hint) && hints(&said) == 1, "{words:?}: {said}");
-            folder.write("image", &bytes);
         }
     }
-    // what it holds is left as it is
+}
+
+/// Each command that changes an image, on what `with_area` holds.
+const CHANGES: [&[&str]; 7] = [
+    &["put", "image", "/new"],
+    &["put", "image", "/dose", "--replace", "--collect"],
+    &["append", "image", "/dose"],
+    &["import", "image", "folder"],
+    &["mkdir", "image", "/new"],
+    &["rm", "image", "/dose"],
+    &["collect", "image"],
+];
+
+#[test]
+fn nothing_is_changed_where_a_found_area_is_passed_over() {
+    let folder = Folder::new("reserved_change");
+    std::fs::create_dir(folder.path("folder")).unwrap();
+    folder.write("folder/new", b"data");
+    // the other file has the id that a new one would be given
+    let bytes = with_area(0x55, &[inode(FILE + 1, 0, 0, b"other")]);
+    let hint = format!("nffs: h{}", area_hint("file area 1", 8192, 0x55).trim_end()) + ADVICE;
+    let end = "\nnffs: image was not changed: an area that may be a part of the volume is passed \
+               over for its reserved byte (hint above). If it is none, name the areas with \
+               --areas.\n";
+    for words in CHANGES {
+        folder.write("image", &bytes);
+        for quiet in [&[][..], &["-q"]] {
+            let said = folder.bad(&[words, quiet].concat(), b"data", 2);
+            assert!(said.starts_with(&hint) && hints(&said) == 1, "{words:?}: {said}");
+            assert!(said.ends_with(end), "{words:?}: {said}");
+        }
+        // who names the areas has decided; what lies in the other is left as it is
+        for list in ["4096x2", "4096x3"] {
+            folder.write("image", &bytes);
+            let said = said(&folder, &[words, &["--areas", list]].concat(), 0);
+            assert!(said.starts_with(&hint) && hints(&said) == 1, "{words:?}: {said}");
+            assert!(!said.contains("was not changed"), "{words:?}: {said}");
+            let after = folder.bytes("image");
+            assert!(after[..8192] != bytes[..8192] && after[8192..] == bytes[8192..], "{words:?}");
+        }
+        // without the byte it is an area like others
+        folder.write("image", with_area(0, &[inode(FILE + 1, 0, 0, b"other")]));
+        folder.good(words, b"data");
+    }
+    // a format makes all anew
+    folder.write("image", &bytes);
+    folder.good(&["format", "image", "--force", "--areas", "4096x3"], b"");
     folder.good(&["put", "image", "/new"], b"data");
-    assert_eq!(folder.bytes("image")[8192..], bytes[8192..]);
+}
+
+#[test]
+fn nothing_is_changed_also_where_the_volume_does_not_mount() {
+    let folder = Folder::new("reserved_change_none");
+    for at in [0, 4096] {
+        let mut bytes = image(&[]);
+        bytes[at + 22] = 1;
+        folder.write("image", &bytes);
+        let said = folder.bad(&["put", "image", "/new"], b"data", 2);
+        assert!(said.contains("\nnffs: image was not changed: "), "{said}");
+        let said = folder.refused(&["put", "image", "/new", "--areas", "4096x2"], b"data");
+        assert!(said.contains("refused with 3, ") && hints(&said) == 1, "{said}");
+    }
+    // a record that is not read is damage, which a call counts
+    folder.write("image", with_area(0, &[inode_with(1, FILE + 1, 0, 0, b"other")]));
+    folder.good(&["put", "image", "/new"], b"data");
 }
 
 #[test]
@@ -165,10 +218,20 @@ fn a_volume_without_its_only_file_area_or_scratch() {
     );
     let said = folder.bad(&["report", "image"], b"", 2);
     assert!(said.starts_with(&(both.clone() + ADVICE)), "{said}");
-    assert!(said.contains("\nnffs: no valid area header is seen in image: "), "{said}");
-    assert!(folder.bad(&["areas", "image"], b"", 2).starts_with(&both));
+    let none = "\nnffs: no valid area header is seen in image: it holds no volume, or the headers \
+                are damaged (then name the areas with --areas) or are passed over for their \
+                reserved byte (then see the hint), or the volume lies elsewhere in it (--at)\n";
+    assert!(said.ends_with(none), "{said}");
+    for words in [&["areas", "image"][..], &["put", "image", "/new"]] {
+        let said = folder.bad(words, b"", 2);
+        assert!(said.starts_with(&both) && said.ends_with(none), "{said}");
+    }
     assert!(folder.refused(&["report", "image", "--areas", "4096x2"], b"").starts_with(&both));
-    assert_eq!(hints(&page(&folder, &[], 1)), 2);
+    let page = page(&folder, &[], 1);
+    let seen = "\nareas: no valid header is seen; headers are passed over for their reserved byte \
+                (see the hint)\nHint: ";
+    assert!(page.contains("does not mount: 1, ") && page.contains(seen), "{page}");
+    assert_eq!(hints(&page), 2);
 }
 
 #[test]
