@@ -84,8 +84,9 @@ pub struct Seen {
     pub reserved_headers: Vec<Placed>,
 }
 
-/// The headers that are seen, but for the valid ones of listed areas. Inside an area none is looked
-/// for, also where it is passed over for its reserved byte: a file may hold anything.
+/// The headers that are seen, but for the valid ones of listed areas. Inside an area whose own
+/// header is seen none is looked for, also where it is passed over for its reserved byte: a file may
+/// hold anything.
 pub fn seen(image: &[u8], listed: &[Area]) -> Seen {
     let mut found = Seen::default();
     let mut offset = 0;

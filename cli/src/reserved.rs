@@ -116,7 +116,7 @@ fn record_line(record: &ReservedRecord) -> String {
     };
     format!(
         "{what} would begin at {}, but its reserved byte (byte 16) is 0x{:02x} and not 0: since \
-         version 0.4.0 it is not read",
+         version 0.4.0 it is not read, for this byte at least",
         record.offset, record.reserved
     )
 }

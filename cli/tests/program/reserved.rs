@@ -36,7 +36,7 @@ fn area_hint(what: &str, offset: usize, reserved: u8) -> String {
 fn record_hint(what: &str, offset: usize, reserved: u8) -> String {
     format!(
         "int: {what} would begin at {offset}, but its reserved byte (byte 16) is \
-         0x{reserved:02x} and not 0: since version 0.4.0 it is not read\n"
+         0x{reserved:02x} and not 0: since version 0.4.0 it is not read, for this byte at least\n"
     )
 }
 
@@ -292,6 +292,26 @@ fn an_inode_that_is_not_read() {
 }
 
 #[test]
+fn a_record_that_no_version_read() {
+    let folder = Folder::new("reserved_other_rules");
+    // for its id, its name, or the root's parent
+    for (id, parent, name, what) in [
+        (0x9000_0000, 0, "dose", "a record of inode 90000000, dose,"),
+        (FILE, 0, "do/se", "a record of inode 10000000, do/se,"),
+        (0, 5, "", "a record of the root"),
+    ] {
+        let hint = record_hint(what, ROOT + 20, 1);
+        folder.write("image", image(&[inode_with(1, id, 0, parent, name.as_bytes())]));
+        let page_of = page(&folder, &[], 3);
+        assert!(page_of.contains(&format!("\nH{}{ADVICE}", hint.trim_end())), "{page_of}");
+        // with a 0 there it is not read either, and that is no hint
+        folder.write("image", image(&[inode(id, 0, parent, name.as_bytes())]));
+        let page_of = page(&folder, &[], 3);
+        assert!(page_of.contains("\ndamage: 1 stretch, ") && hints(&page_of) == 0, "{page_of}");
+    }
+}
+
+#[test]
 fn no_hint_where_there_is_nothing() {
     let folder = Folder::new("reserved_not");
     let clean = |bytes: Vec<u8>, status: i32| {
@@ -385,4 +405,33 @@ fn what_is_listed_is_looked_at_from_its_start() {
     let said = folder.refused(&["report", "image", "--areas", "4096:4096"], b"");
     assert!(said.contains(&area_hint("file area 0", 4096, 2)[..40]) && hints(&said) == 2, "{said}");
     assert_eq!(hints(&folder.bad(&["report", "image"], b"", 2)), 1);
+}
+
+#[test]
+fn an_old_header_hides_areas_that_can_be_named() {
+    let folder = Folder::new("reserved_hides");
+    let mut old = header(3, 12_288);
+    old[22] = 1;
+    folder.write("image", [old, vec![0xff; 4072], image(&[])].concat());
+    assert_eq!(hints(&folder.bad(&["report", "image"], b"", 2)), 1);
+    let named = ["--areas", "4096:4096,8192:4096"];
+    folder.good(&[&["put", "image", "/dose"], &named[..]].concat(), b"20 mSv");
+    assert_eq!(folder.text(&[&["cat", "image", "/dose"], &named[..]].concat()), "20 mSv");
+    assert_eq!(hints(&said(&folder, &[&["report", "image"], &named[..]].concat(), 0)), 1);
+}
+
+#[test]
+fn inside_a_listed_area_without_a_header_of_its_own() {
+    let folder = Folder::new("reserved_inside");
+    let mut bytes = with_area(1, &[]);
+    bytes.copy_within(8192..8216, 8192 + 1000);
+    // the length goes over the end from there
+    bytes[8192 + 1000 + 16..][..4].copy_from_slice(&128_u32.to_le_bytes());
+    let listed = ["report", "image", "--areas", "4096x3"];
+    folder.write("image", &bytes);
+    assert_eq!(hints(&said(&folder, &listed, 0)), 1);
+    bytes[8192] = 0;
+    folder.write("image", &bytes);
+    let said = said(&folder, &listed, 0);
+    assert!(said.contains("file area 1 would begin at 9192 (length 128)"), "{said}");
 }
