@@ -81,11 +81,12 @@ pub struct Seen {
     /// The areas with a valid header that are not listed.
     pub areas: Vec<Area>,
     /// The headers, of listed areas too, whose reserved byte is not 0.
-    pub reserved: Vec<Placed>,
+    pub reserved_headers: Vec<Placed>,
 }
 
-/// The headers that are seen, but for the valid ones of listed areas. Inside an area none is looked
-/// for, also where it is passed over for its reserved byte: a file may hold anything.
+/// The headers that are seen, but for the valid ones of listed areas. Inside an area whose own
+/// header is seen none is looked for, also where it is passed over for its reserved byte: a file may
+/// hold anything.
 pub fn seen(image: &[u8], listed: &[Area]) -> Seen {
     let mut found = Seen::default();
     let mut offset = 0;
@@ -96,7 +97,7 @@ pub fn seen(image: &[u8], listed: &[Area]) -> Seen {
         };
         let area = Area { offset: offset as u32, length: header.length };
         if !header.is_valid() {
-            found.reserved.push(Placed { offset: area.offset, header });
+            found.reserved_headers.push(Placed { offset: area.offset, header });
         } else if !listed.contains(&area) {
             found.areas.push(area);
         }
@@ -119,7 +120,7 @@ pub struct Chosen {
     /// Headers that the list leaves out.
     pub left_out: Vec<Area>,
     /// Headers that are passed over for their reserved byte.
-    pub reserved: Vec<Placed>,
+    pub reserved_headers: Vec<Placed>,
 }
 
 /// The areas by `--areas`, or else by their headers; nothing is said of them.
@@ -127,25 +128,25 @@ pub fn choose(arguments: &Arguments, image: &[u8]) -> Result<Chosen, Failure> {
     let list = listed(arguments)?;
     let found = list.is_none();
     let listed = list.unwrap_or_default();
-    let Seen { areas, reserved } = seen(image, &listed);
+    let Seen { areas, reserved_headers } = seen(image, &listed);
     Ok(match found {
-        true => Chosen { areas, found, left_out: Vec::new(), reserved },
-        false => Chosen { areas: listed, found, left_out: areas, reserved },
+        true => Chosen { areas, found, left_out: Vec::new(), reserved_headers },
+        false => Chosen { areas: listed, found, left_out: areas, reserved_headers },
     })
 }
 
 /// The same; which areas were found is said, a header that was left out is warned of, and reserved
 /// bytes that are not 0 are hinted at.
-pub fn take(arguments: &Arguments, image: &[u8]) -> Result<Vec<Area>, Failure> {
+fn take(arguments: &Arguments, image: &[u8]) -> Result<Chosen, Failure> {
     let chosen = choose(arguments, image)?;
     warn(&chosen.left_out);
     Hints::of_a_run(image, &chosen).say();
     if !chosen.found {
-        return Ok(chosen.areas);
+        return Ok(chosen);
     }
     let many = chosen.areas.len();
     if many == 0 {
-        return Err(none_seen(arguments));
+        return Err(none_seen(arguments, &chosen));
     }
     if many > MOST_AREAS {
         return Err(Failure::Unfit(format!(
@@ -157,6 +158,25 @@ pub fn take(arguments: &Arguments, image: &[u8]) -> Result<Vec<Area>, Failure> {
     }
     if !arguments.given("--quiet") {
         say(&format!("areas {}, found by their headers", list(&chosen.areas)));
+    }
+    Ok(chosen)
+}
+
+/// The areas of a volume that is only read.
+pub fn take_to_read(arguments: &Arguments, image: &[u8]) -> Result<Vec<Area>, Failure> {
+    take(arguments, image).map(|chosen| chosen.areas)
+}
+
+/// The areas of a volume that is to be changed. Where they were found, none may be passed over for
+/// its reserved byte: if it is a part of the volume, ids that stand in it would be given again.
+pub fn take_to_change(arguments: &Arguments, image: &[u8]) -> Result<Vec<Area>, Failure> {
+    let chosen = take(arguments, image)?;
+    if chosen.found && !chosen.reserved_headers.is_empty() {
+        return Err(Failure::Unfit(format!(
+            "{} was not changed: an area that may be a part of the volume is passed over for its \
+             reserved byte (hint above). If it is none, name the areas with --areas.",
+            arguments.image.display()
+        )));
     }
     Ok(chosen.areas)
 }
@@ -172,10 +192,14 @@ pub fn warn(left_out: &[Area]) {
     }
 }
 
-pub fn none_seen(arguments: &Arguments) -> Failure {
+pub fn none_seen(arguments: &Arguments, chosen: &Chosen) -> Failure {
+    let passed_over = match chosen.reserved_headers.is_empty() {
+        true => "",
+        false => " or are passed over for their reserved byte (then see the hint)",
+    };
     Failure::Unfit(format!(
         "no valid area header is seen in {}: it holds no volume, or the headers are damaged (then \
-         name the areas with --areas), or the volume lies elsewhere in it (--at)",
+         name the areas with --areas){passed_over}, or the volume lies elsewhere in it (--at)",
         arguments.image.display()
     ))
 }

@@ -50,8 +50,9 @@ fn mounted(image: &[u8], areas: &[Area]) -> Result<Mounted, Refusal> {
 
 /// Which inodes that are not live were deleted, and which are orphans. No call tells them apart,
 /// but a collection drops the deleted in the end and keeps orphans for ever: so a copy is collected
-/// until nothing more goes. Two things can keep the deleted too, and then it is not known: an area
-/// shorter than scratch, which is never collected, and equal records in two areas.
+/// until nothing more goes. Three things can keep the deleted too, and then it is not known: an area
+/// shorter than scratch, which is never collected; counts, which may keep an area from its turn; and
+/// equal records in two areas.
 fn gone(image: &[u8], areas: &[Area], report: &Report) -> Gone {
     if report.inodes == report.live {
         return Gone { deleted: Some(0), orphans: Some(0), named: Vec::new() };

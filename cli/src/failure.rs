@@ -12,7 +12,7 @@ const NO_FIT: &str =
                       The collections were made on a copy and are not kept.";
 
 const NO_TURN: &str =
-    "It was given up: counts that do not lie within 127 of each other, from 255 on to 0, can keep \
+    "It was given up: counts that are not all among 128 numbers in a row (0 follows 255) can keep \
      an area from ever being collected. `nffs export` copies the files out, and a format sets all \
      counts to 0. The collections were made on a copy and are not kept.";
 

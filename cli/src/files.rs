@@ -17,7 +17,7 @@ use std::path::Path;
 /// The image and the areas of a volume that is only read.
 pub fn open(arguments: &Arguments) -> Result<(Vec<u8>, Vec<Area>), Failure> {
     let image = image_file::load(&arguments.image, arguments.number("--at")?)?;
-    let areas = areas::take(arguments, &image)?;
+    let areas = areas::take_to_read(arguments, &image)?;
     Ok((image, areas))
 }
 
@@ -27,7 +27,7 @@ fn change(
     calls: impl FnOnce(&mut Work) -> Result<(), Refusal>,
 ) -> Result<(), Failure> {
     let held = Held::of(&arguments.image, arguments.number("--at")?)?;
-    let areas = areas::take(arguments, held.image())?;
+    let areas = areas::take_to_change(arguments, held.image())?;
     let mut work = Work::new(arguments, held.image(), &areas);
     calls(&mut work).map_err(|refusal| work.refused(arguments.what(), refusal))?;
     let (image, collections) = work.done();
@@ -44,7 +44,7 @@ pub fn areas_seen(arguments: &Arguments) -> Result<(), Failure> {
     areas::warn(&chosen.left_out);
     Hints::of_a_run(&image, &chosen).say();
     if chosen.areas.is_empty() {
-        return Err(areas::none_seen(arguments));
+        return Err(areas::none_seen(arguments, &chosen));
     }
     print(format!("{}\n", areas::list(&chosen.areas)).as_bytes())
 }

@@ -38,7 +38,7 @@ enum Stored {
 pub fn import(arguments: &Arguments) -> Result<(), Failure> {
     let sources = gather(Path::new(arguments.word(0).unwrap_or_default()), arguments.path(1))?;
     let held = Held::of(&arguments.image, arguments.number("--at")?)?;
-    let areas = areas::take(arguments, held.image())?;
+    let areas = areas::take_to_change(arguments, held.image())?;
     nffs::report(held.image(), &areas).map_err(|refusal| arguments.refused(refusal))?;
     let mut work = Work::new(arguments, held.image(), &areas);
     let mut done: Vec<(&Source, Stored)> = Vec::new();

@@ -91,6 +91,11 @@ impl Page {
 
     fn areas_text(&self) -> String {
         let from = match (self.chosen.found, self.chosen.areas.is_empty()) {
+            (true, true) if self.hints.has_headers() => {
+                "areas: no valid header is seen; headers are passed over for their reserved byte \
+                 (see the hint)\n"
+                    .to_string()
+            }
             (true, true) => "areas: no valid header is seen\n".to_string(),
             (true, false) => format!("areas: {}, found\n", list(&self.chosen.areas)),
             (false, _) => format!("areas: {}, as listed\n", list(&self.chosen.areas)),

@@ -4,6 +4,8 @@
 //! like an inode's record: neither checks nor sequence numbers are looked at, so what is found may
 //! be damaged, old or part of a file. Every live inode is among it, since a record begins there.
 //! These are candidates only: what is live, where it stands and what it holds is asked of the calls.
+//!
+//! Of records with a reserved byte that is not 0 the check is looked at, and no other rule.
 
 use nffs::Area;
 use std::collections::BTreeSet;
@@ -39,8 +41,8 @@ pub fn is_each_once(image: &[u8], areas: &[Area]) -> bool {
     places(image, areas).filter_map(id).all(|id| ids.insert(id))
 }
 
-/// An inode's record but for its reserved byte, which is not 0.
-pub struct Reserved {
+/// What begins like an inode's record, with a right check and a reserved byte that is not 0.
+pub struct ReservedRecord {
     pub offset: usize,
     pub reserved: u8,
     pub id: u32,
@@ -48,12 +50,13 @@ pub struct Reserved {
     pub name: Vec<u8>,
 }
 
-/// The records that are not acceptable since version 0.4.0, for their reserved byte. Their check is
-/// right: without it a record that was torn behind its magic would look like one.
-pub fn reserved(image: &[u8], areas: &[Area]) -> Vec<Reserved> {
+/// The records that are not acceptable since version 0.4.0, for their reserved byte at least: no rule
+/// on ids, parents and names is looked at, and by one of these no version may have read them. Their
+/// check is right: without it a record that was torn behind its magic would look like one.
+pub fn reserved_records(image: &[u8], areas: &[Area]) -> Vec<ReservedRecord> {
     let one = |(offset, bytes): (usize, &[u8])| {
         let (header, name) = inode(bytes)?;
-        let found = Reserved {
+        let found = ReservedRecord {
             offset,
             reserved: header[16],
             id: field(header, 4),

@@ -4,11 +4,11 @@
 //! A hint is from the bytes alone and states nothing of the volume: what it is about may lie in a
 //! file, or belong to another volume. That is for whoever reads it to say.
 
-use crate::areas::{header, Chosen, Placed};
+use crate::areas::{header, Chosen, Header, Placed};
 use crate::console::{say, shown};
 use crate::json;
 use crate::page::{path_fields, Row};
-use crate::records::{reserved, Reserved};
+use crate::records::{reserved_records, ReservedRecord};
 use nffs::{Area, Refusal};
 
 const NONE: u32 = 0xffff_ffff;
@@ -24,15 +24,14 @@ const ADVICE: &str =
 /// What is hinted at.
 pub struct Hints {
     headers: Vec<Placed>,
-    records: Vec<Reserved>,
+    records: Vec<ReservedRecord>,
 }
 
 impl Hints {
     /// Of a run: headers, and records where it is the root's that is not read.
     pub fn of_a_run(image: &[u8], chosen: &Chosen) -> Hints {
         let rootless = nffs::report(image, &chosen.areas) == Err(Refusal::NO_ROOT);
-        let is_file_area = |a: &&Area| header(image, **a).is_some_and(|h| !h.is_scratch());
-        let areas = chosen.areas.iter().filter(|_| rootless).filter(is_file_area);
+        let areas = chosen.areas.iter().filter(|a| rootless && is_file_area(header(image, **a)));
         Hints::new(image, chosen, areas.copied().collect())
     }
 
@@ -40,16 +39,15 @@ impl Hints {
     /// one every byte is a record's or free, so what looks like such a record is a part of others.
     pub fn of_a_page(image: &[u8], chosen: &Chosen, rows: &[Row]) -> Hints {
         let is_unclean = |row: &&Row| !matches!(row.damage, Some((0, _)));
-        let is_file_area = |row: &&Row| row.header.is_some_and(|h| !h.is_scratch());
-        let areas = rows.iter().filter(is_file_area).filter(is_unclean);
+        let areas = rows.iter().filter(|row| is_file_area(row.header)).filter(is_unclean);
         Hints::new(image, chosen, areas.map(|row| row.area).collect())
     }
 
     fn new(image: &[u8], chosen: &Chosen, areas: Vec<Area>) -> Hints {
-        let mut records = reserved(image, &areas);
+        let mut records = reserved_records(image, &areas);
         // the root's first: without it nothing is read
         records.sort_by_key(|record| (record.id != 0, record.offset));
-        Hints { headers: chosen.reserved.clone(), records }
+        Hints { headers: chosen.reserved_headers.clone(), records }
     }
 
     pub fn has_headers(&self) -> bool {
@@ -88,6 +86,10 @@ impl Hints {
     }
 }
 
+fn is_file_area(header: Option<Header>) -> bool {
+    header.is_some_and(|h| !h.is_scratch())
+}
+
 fn more(number: usize, what: &str) -> Option<String> {
     let left = number.checked_sub(SHOWN).filter(|left| *left > 0)?;
     Some(format!("{left} more such {what} (`nffs check IMAGE --json` has all)"))
@@ -106,7 +108,7 @@ fn header_line(placed: &Placed) -> String {
     )
 }
 
-fn record_line(record: &Reserved) -> String {
+fn record_line(record: &ReservedRecord) -> String {
     let what = match (record.id, record.parent) {
         (0, _) => "a record of the root".to_string(),
         (id, NONE) => format!("a record that deletes inode {id:08x}"),
@@ -114,7 +116,7 @@ fn record_line(record: &Reserved) -> String {
     };
     format!(
         "{what} would begin at {}, but its reserved byte (byte 16) is 0x{:02x} and not 0: since \
-         version 0.4.0 it is not read",
+         version 0.4.0 it is not read, for this byte at least",
         record.offset, record.reserved
     )
 }
@@ -130,7 +132,7 @@ fn header_json(placed: &Placed) -> String {
     ])
 }
 
-fn record_json(record: &Reserved) -> String {
+fn record_json(record: &ReservedRecord) -> String {
     let [name, bytes] = path_fields("name", &record.name);
     json::object(&[
         ("offset", record.offset.to_string()),

@@ -6,9 +6,11 @@ use crate::console::{count, Progress};
 use crate::failure::Failure;
 use nffs::{Area, Kind, Refusal, MOST_AREAS};
 
-/// No volume is collected oftener for one call: so often each area's count has gone round. Where
-/// counts do not lie within 127 of each other, an area may never have its turn.
-pub const COLLECTIONS_MOST: u32 = 256 * MOST_AREAS as u32;
+/// No volume is collected oftener for one call. Counts that are all among 128 numbers in a row (0
+/// follows 255) are level after some 127 x 15 collections, and then each round of 16 drops at least
+/// one of at most 255 nested inodes: some 6,030 in all. More are made only where counts keep an
+/// area from its turn.
+pub const COLLECTIONS_MOST: u32 = 512 * MOST_AREAS as u32;
 
 /// Collections of one volume, as long as they can give something. They give nothing more once
 /// every area has been collected since records went the last time.

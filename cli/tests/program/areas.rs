@@ -70,6 +70,7 @@ fn no_header_or_too_many() {
     for words in [&["areas", "blank"][..], &["report", "blank"], &["rm", "blank", "/a"]] {
         let said = folder.bad(words, b"", 2);
         assert!(said.contains("no valid area header is seen in blank"), "{said}");
+        assert!(!said.contains("hint"), "{said}");
     }
     // of another version, or longer than what follows
     let mut other = records::image(&[]);

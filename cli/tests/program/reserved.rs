@@ -36,7 +36,7 @@ fn area_hint(what: &str, offset: usize, reserved: u8) -> String {
 fn record_hint(what: &str, offset: usize, reserved: u8) -> String {
     format!(
         "int: {what} would begin at {offset}, but its reserved byte (byte 16) is \
-         0x{reserved:02x} and not 0: since version 0.4.0 it is not read\n"
+         0x{reserved:02x} and not 0: since version 0.4.0 it is not read, for this byte at least\n"
     )
 }
 
@@ -64,10 +64,9 @@ fn hints(text: &str) -> usize {
 }
 
 #[test]
-fn every_command_hints_at_an_area_that_is_passed_over() {
+fn every_command_that_reads_hints_at_an_area_that_is_passed_over() {
     let folder = Folder::new("reserved_area");
-    std::fs::create_dir(folder.path("folder")).unwrap();
-    let bytes = with_area(0x55, &[inode(FILE + 1, 0, 0, b"other")]);
+    folder.write("image", with_area(0x55, &[inode(FILE + 1, 0, 0, b"other")]));
     let hint = format!("nffs: h{}", area_hint("file area 1", 8192, 0x55).trim_end()) + ADVICE;
     for (words, status) in [
         (&["areas", "image"][..], 0),
@@ -76,16 +75,9 @@ fn every_command_hints_at_an_area_that_is_passed_over() {
         (&["cat", "image", "/dose"], 0),
         (&["cat", "image", "/other"], 1),
         (&["export", "image", "out"], 0),
-        (&["put", "image", "/new"], 0),
-        (&["append", "image", "/dose"], 0),
-        (&["import", "image", "folder"], 0),
-        (&["mkdir", "image", "/new"], 0),
-        (&["rm", "image", "/dose"], 0),
-        (&["collect", "image"], 0),
         (&["report", "image", "--areas", "4096x3"], 0),
         (&["report", "image", "--areas", "4096x2"], 0),
     ] {
-        folder.write("image", &bytes);
         // it is no note, so it is told without notes too
         for quiet in [&[][..], &["-q"]] {
             let words = [words, quiet].concat();
@@ -94,12 +86,73 @@ fn every_command_hints_at_an_area_that_is_passed_over() {
             }
             let said = said(&folder, &words, status);
             assert!(said.contains(&hint) && hints(&said) == 1, "{words:?}: {said}");
-            folder.write("image", &bytes);
         }
     }
-    // what it holds is left as it is
+}
+
+/// Each command that changes an image, on what `with_area` holds.
+const CHANGES: [&[&str]; 7] = [
+    &["put", "image", "/new"],
+    &["put", "image", "/dose", "--replace", "--collect"],
+    &["append", "image", "/dose"],
+    &["import", "image", "folder"],
+    &["mkdir", "image", "/new"],
+    &["rm", "image", "/dose"],
+    &["collect", "image"],
+];
+
+#[test]
+fn nothing_is_changed_where_a_found_area_is_passed_over() {
+    let folder = Folder::new("reserved_change");
+    std::fs::create_dir(folder.path("folder")).unwrap();
+    folder.write("folder/new", b"data");
+    // the other file has the id that a new one would be given
+    let bytes = with_area(0x55, &[inode(FILE + 1, 0, 0, b"other")]);
+    let hint = format!("nffs: h{}", area_hint("file area 1", 8192, 0x55).trim_end()) + ADVICE;
+    let end = "\nnffs: image was not changed: an area that may be a part of the volume is passed \
+               over for its reserved byte (hint above). If it is none, name the areas with \
+               --areas.\n";
+    for words in CHANGES {
+        folder.write("image", &bytes);
+        for quiet in [&[][..], &["-q"]] {
+            let said = folder.bad(&[words, quiet].concat(), b"data", 2);
+            assert!(said.starts_with(&hint) && hints(&said) == 1, "{words:?}: {said}");
+            assert!(said.ends_with(end), "{words:?}: {said}");
+        }
+        // who names the areas has decided; what lies in the other is left as it is
+        for list in ["4096x2", "4096x3"] {
+            folder.write("image", &bytes);
+            let said = said(&folder, &[words, &["--areas", list]].concat(), 0);
+            assert!(said.starts_with(&hint) && hints(&said) == 1, "{words:?}: {said}");
+            assert!(!said.contains("was not changed"), "{words:?}: {said}");
+            let after = folder.bytes("image");
+            assert!(after[..8192] != bytes[..8192] && after[8192..] == bytes[8192..], "{words:?}");
+        }
+        // without the byte it is an area like others
+        folder.write("image", with_area(0, &[inode(FILE + 1, 0, 0, b"other")]));
+        folder.good(words, b"data");
+    }
+    // a format makes all anew
+    folder.write("image", &bytes);
+    folder.good(&["format", "image", "--force", "--areas", "4096x3"], b"");
     folder.good(&["put", "image", "/new"], b"data");
-    assert_eq!(folder.bytes("image")[8192..], bytes[8192..]);
+}
+
+#[test]
+fn nothing_is_changed_also_where_the_volume_does_not_mount() {
+    let folder = Folder::new("reserved_change_none");
+    for at in [0, 4096] {
+        let mut bytes = image(&[]);
+        bytes[at + 22] = 1;
+        folder.write("image", &bytes);
+        let said = folder.bad(&["put", "image", "/new"], b"data", 2);
+        assert!(said.contains("\nnffs: image was not changed: "), "{said}");
+        let said = folder.refused(&["put", "image", "/new", "--areas", "4096x2"], b"data");
+        assert!(said.contains("refused with 3, ") && hints(&said) == 1, "{said}");
+    }
+    // a record that is not read is damage, which a call counts
+    folder.write("image", with_area(0, &[inode_with(1, FILE + 1, 0, 0, b"other")]));
+    folder.good(&["put", "image", "/new"], b"data");
 }
 
 #[test]
@@ -165,10 +218,20 @@ fn a_volume_without_its_only_file_area_or_scratch() {
     );
     let said = folder.bad(&["report", "image"], b"", 2);
     assert!(said.starts_with(&(both.clone() + ADVICE)), "{said}");
-    assert!(said.contains("\nnffs: no valid area header is seen in image: "), "{said}");
-    assert!(folder.bad(&["areas", "image"], b"", 2).starts_with(&both));
+    let none = "\nnffs: no valid area header is seen in image: it holds no volume, or the headers \
+                are damaged (then name the areas with --areas) or are passed over for their \
+                reserved byte (then see the hint), or the volume lies elsewhere in it (--at)\n";
+    assert!(said.ends_with(none), "{said}");
+    for words in [&["areas", "image"][..], &["put", "image", "/new"]] {
+        let said = folder.bad(words, b"", 2);
+        assert!(said.starts_with(&both) && said.ends_with(none), "{said}");
+    }
     assert!(folder.refused(&["report", "image", "--areas", "4096x2"], b"").starts_with(&both));
-    assert_eq!(hints(&page(&folder, &[], 1)), 2);
+    let page = page(&folder, &[], 1);
+    let seen = "\nareas: no valid header is seen; headers are passed over for their reserved byte \
+                (see the hint)\nHint: ";
+    assert!(page.contains("does not mount: 1, ") && page.contains(seen), "{page}");
+    assert_eq!(hints(&page), 2);
 }
 
 #[test]
@@ -226,6 +289,26 @@ fn an_inode_that_is_not_read() {
     let page_of = page(&folder, &[], 3);
     let both = format!("\nH{}H{}", area_hint("file area 1", 8192, 9), hint.trim_end()) + ADVICE;
     assert!(page_of.contains(&both), "{page_of}");
+}
+
+#[test]
+fn a_record_that_no_version_read() {
+    let folder = Folder::new("reserved_other_rules");
+    // for its id, its name, or the root's parent
+    for (id, parent, name, what) in [
+        (0x9000_0000, 0, "dose", "a record of inode 90000000, dose,"),
+        (FILE, 0, "do/se", "a record of inode 10000000, do/se,"),
+        (0, 5, "", "a record of the root"),
+    ] {
+        let hint = record_hint(what, ROOT + 20, 1);
+        folder.write("image", image(&[inode_with(1, id, 0, parent, name.as_bytes())]));
+        let page_of = page(&folder, &[], 3);
+        assert!(page_of.contains(&format!("\nH{}{ADVICE}", hint.trim_end())), "{page_of}");
+        // with a 0 there it is not read either, and that is no hint
+        folder.write("image", image(&[inode(id, 0, parent, name.as_bytes())]));
+        let page_of = page(&folder, &[], 3);
+        assert!(page_of.contains("\ndamage: 1 stretch, ") && hints(&page_of) == 0, "{page_of}");
+    }
 }
 
 #[test]
@@ -322,4 +405,33 @@ fn what_is_listed_is_looked_at_from_its_start() {
     let said = folder.refused(&["report", "image", "--areas", "4096:4096"], b"");
     assert!(said.contains(&area_hint("file area 0", 4096, 2)[..40]) && hints(&said) == 2, "{said}");
     assert_eq!(hints(&folder.bad(&["report", "image"], b"", 2)), 1);
+}
+
+#[test]
+fn an_old_header_hides_areas_that_can_be_named() {
+    let folder = Folder::new("reserved_hides");
+    let mut old = header(3, 12_288);
+    old[22] = 1;
+    folder.write("image", [old, vec![0xff; 4072], image(&[])].concat());
+    assert_eq!(hints(&folder.bad(&["report", "image"], b"", 2)), 1);
+    let named = ["--areas", "4096:4096,8192:4096"];
+    folder.good(&[&["put", "image", "/dose"], &named[..]].concat(), b"20 mSv");
+    assert_eq!(folder.text(&[&["cat", "image", "/dose"], &named[..]].concat()), "20 mSv");
+    assert_eq!(hints(&said(&folder, &[&["report", "image"], &named[..]].concat(), 0)), 1);
+}
+
+#[test]
+fn inside_a_listed_area_without_a_header_of_its_own() {
+    let folder = Folder::new("reserved_inside");
+    let mut bytes = with_area(1, &[]);
+    bytes.copy_within(8192..8216, 8192 + 1000);
+    // the length goes over the end from there
+    bytes[8192 + 1000 + 16..][..4].copy_from_slice(&128_u32.to_le_bytes());
+    let listed = ["report", "image", "--areas", "4096x3"];
+    folder.write("image", &bytes);
+    assert_eq!(hints(&said(&folder, &listed, 0)), 1);
+    bytes[8192] = 0;
+    folder.write("image", &bytes);
+    let said = said(&folder, &listed, 0);
+    assert!(said.contains("file area 1 would begin at 9192 (length 128)"), "{said}");
 }
