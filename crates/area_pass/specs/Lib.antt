@@ -1,4 +1,4 @@
--- One pass over the file areas: the places of their records in the image, and their readings, kept in the rows of areas.
+-- One pass over the file areas: the places of their records in the image, their damage, and what their rows tell of their readings.
 pub mod Listing
 pub mod Laws
 pub mod Areas

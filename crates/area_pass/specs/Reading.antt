@@ -1,9 +1,9 @@
--- What the reading of an area comes to, and the laws of the loop that reads. Document 01, "How an area is read".
-use Prim.Native.Nat.{ℕ, zero, suc, min, _+_, _-_, _≤_, _<_}
+-- What the reading of an area comes to, and the laws of the loop that reads. Document 01, "How an area is read", and T-08.
+use Prim.Native.Nat.{ℕ, zero, suc, _+_, _-_, _≤_, _<_}
 use mathlib.Core.Path.{_≡_, refl, sym, ap, _∙_}
 use mathlib.Core.Logic.{_≢_}
 use mathlib.Core.Bool.{Bool, true, false, cond, _&&_}
-use mathlib.Core.List.{List, [], _∷_, _++_}
+use mathlib.Core.List.{List, [], _∷_, _++_, append-nil, append-assoc}
 use native.Mathlib.Omega.{arith}
 use native.Mathlib.Numerals.{add-one}
 use lib.ListN.{length, take, drop, length-append, length-drop}
@@ -13,20 +13,25 @@ use borrow.Author.Tests.{eq-eqb, ne-eqb}
 use Rattle.format.specs.Bytes.{Bytes, byteAt}
 use Rattle.format.specs.Record.{recordSize}
 use Rattle.format.specs.AreaHeader.{areaHeaderSize}
-use Rattle.format.specs.Reading.{ERASED, parts, Stretch, erasedEnd, freeSize, damagedBytes, damaged, totalSize, areaParts, areaDamage, areaFree}
-use Rattle.format_laws.specs.Reading.{damaged-taken, damaged-last, free-taken, free-last, erased-end-le, total-append, total-damaged}
+use Rattle.format.specs.Reading.{ERASED, parts, Stretch, erasedEnd, freeSize, damagedBytes, damaged, totalSize, firstStretch, areaParts, areaDamage, areaFree}
+use Rattle.format_laws.specs.Reading.{damaged-taken, damaged-last, free-taken, free-last, erased-end-le, total-append}
+use Rattle.calls.specs.Areas.{largestImage}
 use Rattle.area_read.specs.Area.{nextRecord}
 use Rattle.area_read.specs.Laws.{Searched, searched}
 use Rattle.area_read.specs.declared.Next.{Next}
-use Rattle.area_pass.specs.declared.Reading.{Reading}
+use Rattle.area_damage.specs.Damage.{damageOf, Fewer, kept}
+use Rattle.area_damage.specs.declared.Damage.{Damage}
 
--- stretches of damage, their bytes, and where free space starts
-unfoldable pub readingOf : Bytes → Reading
-readingOf area = record {
-  stretches = length (areaDamage recordSize area);
-  skipped = totalSize (areaDamage recordSize area);
-  free = areaFree recordSize area;
-}
+-- d and free are the reading of an area, d with its stretch k, and no number is greater than the area is long
+pub record Reads (area : Bytes) (k : ℕ) (d : Damage) (free : ℕ) : Type 0 where
+  pub damage : d ≡ damageOf k (areaDamage recordSize area)
+  pub free-is : free ≡ areaFree recordSize area
+  pub free-bytes : length area - free ≡ freeSize (areaParts recordSize area)
+  pub stretches-few : d .stretches ≤ length area
+  pub skipped-few : d .skipped ≤ length area
+  pub offset-inside : d .offset ≤ length area
+  pub length-inside : d .length ≤ length area
+  pub free-inside : free ≤ length area
 
 -- ---- the erased end, byte by byte
 
@@ -67,35 +72,73 @@ erased-counted s i n h e = e ∙ rw (take-all i s h)
 
 -- ---- the loop of reading
 
-damaged-count : (p n : ℕ) → length (damagedBytes p n) ≡ min n 1
-unfolding damagedBytes
-damaged-count p zero = refl
-damaged-count p (suc n) = omega arith
+-- what lies before a place: no more stretches, and no more bytes of them, than bytes; each starts and ends before it
+pub record Before (at : ℕ) (l : List Stretch) : Type 0 where
+  pub few : length l ≤ at
+  pub short : totalSize l ≤ at
+  pub each : (k : ℕ) → (firstStretch (drop k l) .place ≤ at) × (firstStretch (drop k l) .size ≤ at)
 
--- reading has come to a place with so many stretches and damaged bytes: those and what is left make the whole
-pub record Read (area : Bytes) (at stretches skipped : ℕ) : Type 0 where
+before-none : (at : ℕ) → Before at []
+unfolding totalSize firstStretch
+before-none at = record { few = omega arith; short = omega arith; each = none }
+  where
+    none : (k : ℕ) → (firstStretch (drop k []) .place ≤ at) × (firstStretch (drop k []) .size ≤ at)
+    none zero = (omega arith, omega arith)
+    none (suc k) = (omega arith, omega arith)
+
+-- a stretch more, and a place behind it
+before-more : (at end : ℕ) (l : List Stretch) (n : ℕ) → at + n ≤ end → Before at l → Before end (l ++ damagedBytes at n)
+unfolding damagedBytes totalSize
+before-more at end l zero h b = rw (append-nil l) (record {
+  few = omega (arith, b .few);
+  short = omega (arith, b .short);
+  each = λ k. (omega (arith, b .each k .0), omega (arith, b .each k .1));
+})
+before-more at end l (suc n) h b =
+    let x : Stretch = record { place = at; size = suc n } in
+    record {
+      few = omega (arith, length-append l (x ∷ []), b .few);
+      short = omega (arith, total-append l (x ∷ []), b .short);
+      each = λ k. rw (kept k l x) (go (eqb (length l) k) (b .each k));
+    }
+  where
+    go : (t : Bool) {y : Stretch} → (y .place ≤ at) × (y .size ≤ at) → (cond t (record { place = at; size = suc n }) y .place ≤ end) × (cond t (record { place = at; size = suc n }) y .size ≤ end)
+    go true e = (omega arith, omega arith)
+    go false e = (omega arith, omega arith)
+
+-- reading has come to a place with some damage: that and what is left make the whole
+pub record Read (area : Bytes) (k at : ℕ) (d : Damage) : Type 0 where
   pub started : areaHeaderSize ≤ at
   pub within : at ≤ length area
-  pub few : stretches ≤ at
-  pub short : skipped ≤ at
-  pub stretches-left : stretches + length (damaged at (parts recordSize (drop at area) 0)) ≡ length (areaDamage recordSize area)
-  pub skipped-left : skipped + totalSize (damaged at (parts recordSize (drop at area) 0)) ≡ totalSize (areaDamage recordSize area)
+  pub so-far : List Stretch
+  pub is : d ≡ damageOf k so-far
+  pub before : Before at so-far
+  pub left : so-far ++ damaged at (parts recordSize (drop at area) 0) ≡ areaDamage recordSize area
   pub free-left : freeSize (parts recordSize (drop at area) 0) ≡ freeSize (areaParts recordSize area)
 
-pub read-begins : (area : Bytes) → areaHeaderSize ≤ length area → Read area areaHeaderSize 0 0
+pub read-begins : (area : Bytes) (k : ℕ) (d : Damage) → areaHeaderSize ≤ length area → d ≡ damageOf k [] → Read area k areaHeaderSize d
 unfolding areaDamage areaParts
-read-begins area h = record {
+read-begins area k d h e = record {
   started = omega arith;
   within = h;
-  few = omega arith;
-  short = omega arith;
-  stretches-left = omega arith;
-  skipped-left = omega arith;
+  so-far = [];
+  is = e;
+  before = before-none areaHeaderSize;
+  left = refl;
   free-left = refl;
 }
 
+-- there is room for one more
+pub fewer : (area : Bytes) (k at : ℕ) (d : Damage) → Read area k at d → length area ≤ largestImage → (p size : ℕ) → p + size ≤ largestImage → Fewer d p size
+unfolding damageOf
+fewer area k at d g s p size h = record {
+  few = omega (arith, g .before .few, g .within, ap (λ (y : Damage). y .stretches) (g .is));
+  short = omega (arith, g .before .short, g .within, ap (λ (y : Damage). y .skipped) (g .is));
+  inside = omega arith;
+}
+
 -- the next record f, sought from a place
-module _ (area : Bytes) (at stretches skipped : ℕ) (g : Read area at stretches skipped) (f : Next) (e : f ≡ nextRecord area at) where
+module _ (area : Bytes) (k at : ℕ) (d : Damage) (g : Read area k at d) (f : Next) (e : f ≡ nextRecord area at) where
   seen : Searched (drop at area) at f
   unfolding nextRecord
   seen = rw e (searched (drop at area) at)
@@ -128,34 +171,37 @@ module _ (area : Bytes) (at stretches skipped : ℕ) (g : Read area at stretches
         ∙ damaged-taken at (take (seen .gap) (drop at area)) (take (f .size) (drop (seen .gap) (drop at area))) _
         ∙ rw (b, gap-long, onward, a)
 
-    pub read-on : Read area (f .at + f .size) (stretches + min (f .at - at) 1) (skipped + (f .at - at))
-    read-on = record {
+    pub read-on : (d′ : Damage) → ((l : List Stretch) → d ≡ damageOf k l → d′ ≡ damageOf k (l ++ damagedBytes at (f .at - at))) → Read area k (f .at + f .size) d′
+    read-on d′ h = record {
       started = omega (arith, next-after, g .started);
       within = next-within;
-      few = omega (arith, next-after, g .few);
-      short = omega (arith, next-after, g .short);
-      stretches-left = omega (arith, g .stretches-left, ap length split, length-append (damagedBytes at (f .at - at)) left, damaged-count at (f .at - at));
-      skipped-left = omega (arith, g .skipped-left, ap totalSize split, total-append (damagedBytes at (f .at - at)) left, total-damaged at (f .at - at));
+      so-far = g .so-far ++ damagedBytes at (f .at - at);
+      is = h (g .so-far) (g .is);
+      before = before-more at (f .at + f .size) (g .so-far) (f .at - at) (omega (arith, next-after)) (g .before);
+      left = append-assoc (g .so-far) (damagedBytes at (f .at - at)) _ ∙ ap (λ (l : List Stretch). g .so-far ++ l) (sym split) ∙ g .left;
       free-left = sym (ap freeSize (seen .some z) ∙ free-taken (take (seen .gap) (drop at area)) _ _ ∙ rw onward) ∙ g .free-left;
     }
-      where
-        left : List Stretch
-        left = damaged (f .at + f .size) (parts recordSize (drop (f .at + f .size) area) 0)
 
-  pub read-ends : f .size ≡ 0 → (free : ℕ) → free ≡ erasedEnd (drop at area)
-      → record { stretches = stretches + min (length area - at - free) 1; skipped = skipped + (length area - at - free); free = length area - free } ≡ readingOf area
-  unfolding readingOf areaFree
-  read-ends z free q =
+  pub read-ends : f .size ≡ 0 → (free : ℕ) → free ≡ erasedEnd (drop at area) → free ≤ length area - at → (d′ : Damage)
+      → ((l : List Stretch) → d ≡ damageOf k l → d′ ≡ damageOf k (l ++ damagedBytes at (length area - at - free))) → Reads area k d′ (length area - free)
+  unfolding areaFree damageOf
+  read-ends z free q fits d′ h =
       let p = seen .none z .1 in
-      let l = length-drop at area in
-      let d : damaged at (parts recordSize (drop at area) 0) ≡ damagedBytes at (length area - at - free) =
-      ap (damaged at) p ∙ damaged-last at (drop at area) ∙ rw (l, q) in
-      let a : stretches + min (length area - at - free) 1 ≡ length (areaDamage recordSize area) =
-      omega (arith, g .stretches-left, ap length d, damaged-count at (length area - at - free)) in
-      let b : skipped + (length area - at - free) ≡ totalSize (areaDamage recordSize area) =
-      omega (arith, g .skipped-left, ap totalSize d, total-damaged at (length area - at - free)) in
+      let m : damaged at (parts recordSize (drop at area) 0) ≡ damagedBytes at (length area - at - free) =
+      ap (damaged at) p ∙ damaged-last at (drop at area) ∙ rw (length-drop at area, q) in
+      let b = before-more at (length area) (g .so-far) (length area - at - free) (omega (arith, g .within)) (g .before) in
+      let x = h (g .so-far) (g .is) in
       let c : free ≡ freeSize (areaParts recordSize area) = q ∙ sym (free-last (drop at area)) ∙ ap freeSize (sym p) ∙ g .free-left in
-      rw (a, b, c)
+      record {
+        damage = x ∙ ap (damageOf k) (ap (λ (l : List Stretch). g .so-far ++ l) (sym m) ∙ g .left);
+        free-is = ap (λ (n : ℕ). length area - n) c;
+        free-bytes = omega (arith, c);
+        stretches-few = omega (arith, b .few, ap (λ (y : Damage). y .stretches) x);
+        skipped-few = omega (arith, b .short, ap (λ (y : Damage). y .skipped) x);
+        offset-inside = omega (arith, b .each k .0, ap (λ (y : Damage). y .offset) x);
+        length-inside = omega (arith, b .each k .1, ap (λ (y : Damage). y .length) x);
+        free-inside = omega arith;
+      }
 
 pub erased-fits : (area : Bytes) (at free : ℕ) → free ≡ erasedEnd (drop at area) → free ≤ length area - at
 erased-fits area at free e = omega (arith, erased-end-le (drop at area), length-drop at area)

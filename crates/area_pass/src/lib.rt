@@ -1,40 +1,44 @@
 // One pass over the file areas: the places in the image of all their records, and what the reading of each area comes to.
 ghost use mathlib.Core.Path.{_≡_};
-ghost use Prim.Native.Nat.{min, _≤_};
+ghost use Prim.Native.Nat.{_≤_};
 ghost use lib.ListN.{length, take};
 ghost use Rattle.format.specs.Reading.{erasedEnd};
+ghost use Rattle.calls.specs.Report.{damageIn};
+ghost use Rattle.area_damage.specs.Damage.{damageOf};
 ghost use Rattle.area_list.specs.Described.{described};
 ghost use Rattle.table_rows.specs.Parts.{part};
 ghost use Rattle.area_pass.specs.Listing.{placesIn, Room, Listed};
-ghost use Rattle.area_pass.specs.Reading.{readingOf};
+ghost use Rattle.area_pass.specs.Reading.{Reads};
 ghost use Rattle.area_pass.specs.Rows.{spansAt, Lent, Readings};
+use area_damage::Damage;
+use area_damage::joined;
+use area_damage::no_damage;
+use area_damage::with_stretch;
 use area_read::HEADER_SIZE;
 use area_read::next_record;
 use byte_store::ERASED;
 use calls::MOST_AREAS;
 
-// The rows of the file areas in columns: starts first, then spans, stretches of damage, their bytes, and where free space starts.
+// The rows of the file areas in columns: starts first, then spans, stretches of damage, and where free space starts.
 pub const SPANS: usize = MOST_AREAS;
 
 pub const STRETCHES: usize = SPANS + MOST_AREAS;
 
-pub const SKIPPED: usize = STRETCHES + MOST_AREAS;
-
-pub const FREE: usize = SKIPPED + MOST_AREAS;
+pub const FREE: usize = STRETCHES + MOST_AREAS;
 
 pub const AREA_ROWS: usize = FREE + MOST_AREAS;
 
-// What the reading of an area comes to: stretches of damage, their bytes, and where free space starts.
-pub struct Reading {
-    pub stretches: usize,
-    pub skipped: usize,
+// How many places are listed, and the reading of an area: its damage, and where free space starts.
+pub struct Pass {
+    pub count: usize,
+    pub damage: Damage,
     pub free: usize,
 }
 
-// How many places are listed, and the reading of an area.
-pub struct Pass {
+// How many places are listed, and the damage of all areas.
+pub struct Listing {
     pub count: usize,
-    pub reading: Reading,
+    pub damage: Damage,
 }
 
 // How many erased bytes stand at the end of `s`.
@@ -55,65 +59,57 @@ fn erased_end(s: &[u8]) -> usize
     n
 }
 
-// 1 for a stretch that is not empty.
-fn one(size: usize) -> usize
-    ensures { λ r. ⌜ r ≡ min size 1 ⌝ }
-{
-    if 0 < size { 1 } else { 0 }
-}
-
-// Puts the places of the records of an area that starts at `base` behind the first `n` of `places`.
-pub fn list_area(area: &[u8], base: usize, places: &mut [u16], n: usize) -> Pass
+// Puts the places of the records of an area that starts at `base` behind the first `n` of `places`; of its damage, number `stretch` is kept, from 0.
+pub fn list_area(area: &[u8], base: usize, places: &mut [u16], n: usize, stretch: u32) -> Pass
     requires { ⌜ Room (now area) base (now places) n ⌝ }
     ensures listed { λ r. ⌜ Listed (now (area .entry)) base (now (places .entry)) n (r .count) (now (places .exit)) ⌝ }
-    ensures read { λ r. ⌜ r .reading ≡ readingOf (now (area .entry)) ⌝ }
-    ensures within { λ r. ⌜ (r .reading .stretches ≤ length (now (area .entry))) × (r .reading .skipped ≤ length (now (area .entry))) × (r .reading .free ≤ length (now (area .entry))) ⌝ }
+    ensures read { λ r. ⌜ Reads (now (area .entry)) stretch (r .damage) (r .free) ⌝ }
 {
     let mut k = n;
     let mut at = HEADER_SIZE;
-    let mut stretches = 0;
-    let mut skipped = 0;
+    let mut damage = no_damage();
     loop {
         let next = next_record(area, at);
         let start = next.at;
         if next.size == 0 {
             let free = erased_end(&area[at..]);
             let left = area.len() - at - free;
-            let reading = Reading {
-                stretches: stretches + one(left),
-                skipped: skipped + left,
+            return Pass {
+                count: k,
+                damage: with_stretch(damage, stretch, at, left),
                 free: area.len() - free,
             };
-            return Pass { count: k, reading };
         }
-        let gap = start - at;
-        stretches += one(gap);
-        skipped += gap;
+        damage = with_stretch(damage, stretch, at, start - at);
         places[k] = (base + start) as u16;
         k += 1;
         at = start + next.size;
     }
 }
 
-// Puts the places of the records of all the file areas into `places`, and their readings into their rows; answers how many places there are.
-pub fn list_areas(image: &[u8], rows: &mut [u32], files: usize, places: &mut [u16]) -> usize
+// Puts the places of the records of all the file areas into `places`, and what the writers ask of their readings into their rows; answers how
+// many places there are, and the damage.
+pub fn list_areas(image: &[u8], rows: &mut [u32], files: usize, places: &mut [u16]) -> Listing
     requires { ⌜ Lent (now image) (now rows) files (now places) ⌝ }
-    ensures listed { λ r. ⌜ take r (now (places .exit)) ≡ placesIn (now (image .entry)) (described (part 0 files (now (rows .entry))) (part spansAt files (now (rows .entry)))) ⌝ }
-    ensures within { λ r. ⌜ r ≤ length (now (places .exit)) ⌝ }
+    ensures listed { λ r. ⌜ take (r .count) (now (places .exit)) ≡ placesIn (now (image .entry)) (described (part 0 files (now (rows .entry))) (part spansAt files (now (rows .entry)))) ⌝ }
+    ensures within { λ r. ⌜ r .count ≤ length (now (places .exit)) ⌝ }
     ensures read { λ r. ⌜ Readings (now (image .entry)) files (now (rows .entry)) (now (rows .exit)) ⌝ }
+    ensures damage { λ r. ⌜ r .damage ≡ damageOf 0 (damageIn (now (image .entry)) (described (part 0 files (now (rows .entry))) (part spansAt files (now (rows .entry))))) ⌝ }
 {
     let mut k = 0;
+    let mut damage = no_damage();
     let mut i = 0;
     while i < files {
-        let start = rows[i] as usize;
+        let offset = rows[i];
+        let start = offset as usize;
         let end = start + rows[SPANS + i] as usize;
-        let pass = list_area(&image[start..end], start, &mut *places, k);
-        let reading = pass.reading;
+        let pass = list_area(&image[start..end], start, &mut *places, k, 0);
+        let of_area = pass.damage;
         k = pass.count;
-        rows[STRETCHES + i] = reading.stretches as u32;
-        rows[SKIPPED + i] = reading.skipped as u32;
-        rows[FREE + i] = reading.free as u32;
+        damage = joined(damage, offset, of_area);
+        rows[STRETCHES + i] = of_area.stretches;
+        rows[FREE + i] = pass.free as u32;
         i += 1;
     }
-    k
+    Listing { count: k, damage }
 }

@@ -9,6 +9,7 @@ use lib.Dec.{eqb}
 use Rattle.format.specs.Bytes.{Bytes, byteAt}
 use Rattle.format.specs.AreaHeader.{areaHeaderSize, areaId, scratchId, validHeader, isFileArea, isScratch}
 use Rattle.calls.specs.Areas.{areaBytes}
+use Rattle.calls.specs.Collect.{countOf}
 use Rattle.calls.specs.declared.Descriptor.{Descriptor}
 use Rattle.area_list.specs.Described.{areaOf}
 use Rattle.area_read.specs.declared.AreaKind.{AreaKind}
@@ -34,7 +35,7 @@ isScratchKind File = false
 isScratchKind Scratch = true
 isScratchKind Invalid = false
 
--- ---- ids
+-- ---- ids and counts
 
 abbrev pub idOf : Bytes → Descriptor → ℕ
 idOf image d = areaId (areaBytes image d)
@@ -46,6 +47,14 @@ pub record HasId (image : Bytes) (o r : ℕ) : Type 0 where
 -- the id byte of an area is one of the image's
 pub id-byte : (image : Bytes) (o n : ℕ) → areaHeaderSize ≤ n → byteAt image (o + 23) ≡ idOf image (areaOf o n)
 id-byte image o n h = sym (getD-take n (drop o image) 23 0 (omega arith) ∙ getD-drop o image 23 0)
+
+-- r is the collection count of the area at o, whatever its length
+pub record HasCount (image : Bytes) (o r : ℕ) : Type 0 where
+  pub is : (n : ℕ) → areaHeaderSize ≤ n → r ≡ countOf image (areaOf o n)
+
+-- the count's byte of an area is one of the image's
+pub count-byte : (image : Bytes) (o n : ℕ) → areaHeaderSize ≤ n → byteAt image (o + 21) ≡ countOf image (areaOf o n)
+count-byte image o n h = sym (getD-take n (drop o image) 21 0 (omega arith) ∙ getD-drop o image 21 0)
 
 -- ---- the kind by the header
 

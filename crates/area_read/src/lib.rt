@@ -7,7 +7,7 @@ ghost use Rattle.format.specs.AreaHeader.{areaHeaderSize, magicsRight, validHea
 ghost use Rattle.calls.specs.Areas.{goodArea, areaBytes};
 ghost use Rattle.area_list.specs.Described.{areaOf};
 ghost use Rattle.area_read.specs.Area.{nextRecord};
-ghost use Rattle.area_read.specs.Kinds.{HasId, kindOf};
+ghost use Rattle.area_read.specs.Kinds.{HasId, HasCount, kindOf};
 use area_list::area_end;
 use byte_fields::load32;
 use record_read::record_size;
@@ -101,6 +101,14 @@ pub fn area_id(image: &[u8], offset: u32) -> u8
     ensures { λ r. ⌜ HasId (now (image .entry)) offset r ⌝ }
 {
     image[offset as usize + ID_AT]
+}
+
+// The collection count of the area at `offset`, whatever its length.
+pub fn area_count(image: &[u8], offset: u32) -> u8
+    requires { ⌜ offset + areaHeaderSize ≤ length (now image) ⌝ }
+    ensures { λ r. ⌜ HasCount (now (image .entry)) offset r ⌝ }
+{
+    image[offset as usize + COUNT_AT]
 }
 
 // The kind of a good area of an image.

@@ -13,6 +13,7 @@ use Rattle.calls.specs.Refusal.{firstRefusal}
 use Rattle.calls.specs.Mount.{badDescription, mountChecks, mountNumber}
 use Rattle.calls.specs.Format.{formatNumber, imageFormatted}
 use Rattle.calls.specs.Report.{reportOf, refusedReport}
+use Rattle.calls.specs.AreaReport.{refusedAreaReport, areaReportNumber, areaReportOf}
 use Rattle.calls.specs.Lookup.{resolve, lookupOf, lookupAnswer, openOf, openAnswer}
 use Rattle.calls.specs.Read.{readGiven, refused}
 use Rattle.calls.specs.Attempt.{attemptAt}
@@ -56,6 +57,10 @@ formatted-whole image = whole image (imageFormatted image) image (λ l e. rw e)
 pub report-whole : (image : Bytes) (ds : List Descriptor) → reportOf image (take mostEntries ds) ≡ reportOf image ds
 unfolding reportOf
 report-whole image = whole image (reportOf image) (refusedReport 1) (λ l e. rw (mount-bad image l e))
+
+pub area-whole : (image : Bytes) (ds : List Descriptor) (i k : ℕ) → areaReportOf image (take mostEntries ds) i k ≡ areaReportOf image ds i k
+unfolding areaReportOf areaReportNumber firstRefusal
+area-whole image ds i k = whole image (λ l. areaReportOf image l i k) (refusedAreaReport 1) (λ l e. rw e) ds
 
 pub lookup-whole : (image : Bytes) (ds : List Descriptor) (base path : Bytes) → lookupOf image (take mostEntries ds) base path ≡ lookupOf image ds base path
 unfolding lookupOf resolve

@@ -1,9 +1,11 @@
-// The calls from image and areas. All but format mount the image anew, into two local arrays, and go on with the mounted volume.
+// The calls from image and areas. All but format and the report of one area mount the image anew, into two local arrays, and go on with the
+// mounted volume.
 // The area list comes by value, as numbers; programs in Rattle call these, and the exports lend them what C lends.
 ghost use mathlib.Core.Path.{_≡_};
 ghost use lib.ListN.{length};
 ghost use Rattle.calls.specs.Format.{formatNumber, imageFormatted};
 ghost use Rattle.calls.specs.Report.{reportOf};
+ghost use Rattle.calls.specs.AreaReport.{areaReportOf};
 ghost use Rattle.calls.specs.Lookup.{resolve, lookupOf, openOf};
 ghost use Rattle.calls.specs.Read.{readGiven, readAnswer, bufferAfter, handleAfter};
 ghost use Rattle.calls.specs.Create.{createOf, imageCreated};
@@ -14,6 +16,7 @@ ghost use Rattle.area_list.specs.Numbers.{areaList};
 ghost use Rattle.path_walk.specs.Resolved.{meaning, Kinded};
 use area_structs::Areas;
 use call_append::append_mounted;
+use call_area_report::report_area;
 use call_collect::collect_mounted;
 use call_create::create_mounted;
 use call_create::not_created;
@@ -25,6 +28,7 @@ use call_read::read_mounted;
 use call_report::refused_report;
 use call_report::report_mounted;
 use call_unlink::unlink_mounted;
+use calls::AreaReport;
 use calls::Created;
 use calls::Handle;
 use calls::Lookup;
@@ -56,6 +60,14 @@ pub fn report_of(image: &[u8], areas: Areas) -> Report
         return refused_report(m.number);
     }
     report_mounted(image, &tables[..], m)
+}
+
+// The report of one area of a list; nothing is mounted.
+pub fn area_report_of(image: &[u8], areas: Areas, index: u32, stretch: u32) -> AreaReport
+    ensures { λ r. ⌜ r ≡ areaReportOf (now (image .entry)) (areaList (areas .numbers)) index stretch ⌝ }
+{
+    let mut places = [0u16; MOST_RECORDS];
+    report_area(image, &areas.numbers, index, stretch, &mut places[..])
 }
 
 // What a path leads to, after the mount.

@@ -15,12 +15,12 @@ use Rattle.record_places.specs.Place.{bytesAt, byPlace}
 use Rattle.record_places.specs.Laws.{place-views}
 use Rattle.inode_fate.specs.Fates.{liveBy, liveRows}
 use Rattle.inode_fate.specs.Laws.{live-rows}
-use Rattle.calls.specs.Areas.{fileAreas}
 use Rattle.calls.specs.Mount.{volume, mountNumber}
-use Rattle.calls.specs.Report.{stretchesIn, damagedIn, refusedReport, mountedReport, reportOf}
+use Rattle.calls.specs.Report.{refusedReport, mountedReport, reportOf}
 use Rattle.calls.specs.declared.Descriptor.{Descriptor}
 use Rattle.calls.specs.declared.Report.{Report}
 use Rattle.area_pass.specs.Bridge.{placedVolume, volume-places}
+use Rattle.area_damage.specs.Damage.{damageOf}
 use Rattle.mount_state.specs.State.{inodeIdsIn, inodeSpotsIn, Safe, Holds, Mounts}
 use Rattle.mount_state.specs.Bridge.{inodes-number}
 use Rattle.mount_state.specs.declared.Mounted.{Mounted}
@@ -42,9 +42,15 @@ module _ {image : Bytes} {ds : List Descriptor} {m : Mounted} {t : List ℕ} (s 
       rw (volume-places image ds) (liveIds-map (byPlace image) byBytes (bytesAt image) (place-views image) (placedVolume image ds)) in
       ap length (live-rows (byPlace image) (placedVolume image ds) (length (inodeIdsIn m t)) (inodeIdsIn m t) (inodeSpotsIn m t) (h .inodes) (omega arith) ∙ sym e)
 
-  pub report-is : (live stretches skipped : ℕ)
-      → live ≡ length (liveRows (byPlace image) (length (inodeIdsIn m t)) (inodeIdsIn m t) (inodeSpotsIn m t))
-      → stretches ≡ stretchesIn image (fileAreas image ds) → skipped ≡ damagedIn image (fileAreas image ds)
-      → record { number = 0; inodes = m .inodes; live = live; stretches = stretches; skipped = skipped } ≡ reportOf image ds
-  unfolding reportOf mountedReport
-  report-is live stretches skipped l a b = rw (l, live-are, a, b, inodes-number s h, eq-eqb (mountNumber image ds) 0 (h .number))
+  pub report-is : (live : ℕ) → live ≡ length (liveRows (byPlace image) (length (inodeIdsIn m t)) (inodeIdsIn m t) (inodeSpotsIn m t))
+      → record {
+        number = 0;
+        inodes = m .inodes;
+        live = live;
+        stretches = m .damage .stretches;
+        skipped = m .damage .skipped;
+        «first_offset» = m .damage .offset;
+        «first_length» = m .damage .length;
+      } ≡ reportOf image ds
+  unfolding reportOf mountedReport damageOf
+  report-is live l = rw (l, live-are, h .damage, inodes-number s h, eq-eqb (mountNumber image ds) 0 (h .number))

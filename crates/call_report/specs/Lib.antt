@@ -1,3 +1,2 @@
--- The report of a mounted volume, by its rows of areas and of inodes.
-pub mod Sums
+-- The report of a mounted volume, by its rows of inodes and its damage.
 pub mod Counts

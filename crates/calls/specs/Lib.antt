@@ -4,6 +4,7 @@ pub mod Areas
 pub mod Refusal
 pub mod Mount
 pub mod Report
+pub mod AreaReport
 pub mod Lookup
 pub mod Read
 pub mod Format

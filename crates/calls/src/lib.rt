@@ -57,6 +57,13 @@ pub const DIRECTORY: u32 = 0;
 
 pub const FILE: u32 = 1;
 
+// The kinds of areas.
+pub const AREA_PASSED_OVER: u32 = 0;
+
+pub const AREA_FILE: u32 = 1;
+
+pub const AREA_SCRATCH: u32 = 2;
+
 // An area descriptor: where an area of flash starts and how long it is.
 #[repr(C)]
 pub struct Descriptor {
@@ -71,7 +78,7 @@ pub struct Handle {
     pub position: u32,
 }
 
-// The state of a volume: distinct inode ids, live ones, damage stretches and their bytes.
+// The state of a volume: distinct inode ids, live ones, damage stretches and their bytes, and where the first stretch lies in the image.
 #[repr(C)]
 pub struct Report {
     pub number: u32,
@@ -79,6 +86,24 @@ pub struct Report {
     pub live: u32,
     pub stretches: u32,
     pub skipped: u32,
+    pub first_offset: u32,
+    pub first_length: u32,
+}
+
+// One area: its kind, id and collection count by its header; records, damage stretches and their bytes, and bytes of free space by its reading;
+// and where one of the stretches lies, from the area's start.
+#[repr(C)]
+pub struct AreaReport {
+    pub number: u32,
+    pub kind: u32,
+    pub id: u32,
+    pub count: u32,
+    pub records: u32,
+    pub stretches: u32,
+    pub skipped: u32,
+    pub free: u32,
+    pub offset: u32,
+    pub length: u32,
 }
 
 // What a path leads to; kind 0 is a directory and 1 a file.

@@ -7,25 +7,15 @@ use mathlib.Core.List.{List, [], _∷_, _++_}
 use native.Mathlib.Omega.{arith}
 use native.Mathlib.Decide.{decLt}
 use lib.ListN.{length, drop, getD}
-use lib.Seq.{getD-take, getD-drop}
 use lib.Dec.{eqb, ltb}
 use borrow.Author.Tests.{eq-eqb, ne-eqb, lt-ltb, le-ltb}
-use Rattle.format.specs.Bytes.{Bytes, byteAt}
-use Rattle.format.specs.AreaHeader.{areaHeaderSize}
+use Rattle.format.specs.Bytes.{Bytes}
 use Rattle.volume.specs.Lists.{keep, all, first}
 use Rattle.volume_laws.specs.Lists.{keep-keep, keep-cong}
 use Rattle.calls.specs.Collect.{eligible, countOf, precedes, unpreceded, sourceOf}
 use Rattle.calls.specs.declared.Descriptor.{Descriptor}
 use Rattle.table_words.specs.Position.{positionOf}
 use Rattle.area_list.specs.Described.{areaOf, described, described-step, described-end}
-
--- r is the collection count of the area at o, whatever its length
-pub record HasCount (image : Bytes) (o r : ℕ) : Type 0 where
-  pub is : (n : ℕ) → areaHeaderSize ≤ n → r ≡ countOf image (areaOf o n)
-
--- the count's byte of an area is one of the image's
-pub count-byte : (image : Bytes) (o n : ℕ) → areaHeaderSize ≤ n → byteAt image (o + 21) ≡ countOf image (areaOf o n)
-count-byte image o n h = sym (getD-take n (drop o image) 21 0 (omega arith) ∙ getD-drop o image 21 0)
 
 -- an area of the wanted length
 abbrev pub asLong : ℕ → Descriptor → Bool

@@ -7,8 +7,8 @@ ghost use Rattle.volume.specs.Lists.{keep, first};
 ghost use Rattle.calls.specs.Collect.{precedes, sourceOf};
 ghost use Rattle.area_list.specs.Described.{areaOf, described};
 ghost use Rattle.area_pass.specs.Listing.{AreasFit};
-ghost use Rattle.collect_source.specs.Source.{HasCount, ahead, noneAhead, leads, areaAt};
-use area_read::COUNT_AT;
+ghost use Rattle.collect_source.specs.Source.{ahead, noneAhead, leads, areaAt};
+use area_read::area_count;
 use byte_fields::wide;
 use calls::Descriptor;
 use table_words::position;
@@ -21,14 +21,6 @@ fn precedes(a: u8, b: u8) -> bool
     1 <= n && n <= 127
 }
 
-// The collection count of the area at `offset`, whatever its length.
-pub fn count_at(image: &[u8], offset: u32) -> u8
-    requires { ⌜ offset + areaHeaderSize ≤ length (now image) ⌝ }
-    ensures { λ r. ⌜ HasCount (now (image .entry)) offset r ⌝ }
-{
-    image[offset as usize + COUNT_AT]
-}
-
 // Whether an area is of the wanted length and its count precedes `count`.
 fn is_ahead(image: &[u8], offset: u32, span: u32, wanted: u32, count: u8) -> bool
     requires { ⌜ (offset + areaHeaderSize ≤ length (now image)) × (areaHeaderSize ≤ span) ⌝ }
@@ -37,7 +29,7 @@ fn is_ahead(image: &[u8], offset: u32, span: u32, wanted: u32, count: u8) -> boo
     if span != wanted {
         return false;
     }
-    precedes(count_at(image, offset), count)
+    precedes(area_count(image, offset), count)
 }
 
 // Whether no area of the wanted length has a count that precedes `count`.
@@ -64,7 +56,7 @@ fn leads(image: &[u8], starts: &[u32], spans: &[u32], wanted: u32, offset: u32, 
     if span != wanted {
         return false;
     }
-    none_ahead(image, starts, spans, wanted, count_at(image, offset))
+    none_ahead(image, starts, spans, wanted, area_count(image, offset))
 }
 
 // The place in the list of the first area that leads, or the number of areas where none does.

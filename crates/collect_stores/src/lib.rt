@@ -20,6 +20,7 @@ use area_list::disjoint;
 use area_read::HEADER_SIZE;
 use area_read::ID_AT;
 use area_read::SCRATCH_ID;
+use area_read::area_count;
 use area_read::area_id;
 use area_write::write_area;
 use byte_store::ERASED;
@@ -27,7 +28,6 @@ use byte_store::copy;
 use byte_store::erase;
 use byte_store::put;
 use calls::Descriptor;
-use collect_source::count_at;
 use record_places::size_at;
 
 // The last collection count, which 0 follows.
@@ -142,7 +142,7 @@ pub fn move_records(image: &mut [u8], offset: u32, span: u32, scratch: Descripto
     ensures { λ _. ⌜ now (image .exit) ≡ movedInto (now (image .entry)) scratch (areaOf offset span) (now (places .entry)) ⌝ }
 {
     let id = area_id(&*image, offset);
-    let count = next_count(count_at(&*image, offset));
+    let count = next_count(area_count(&*image, offset));
     fill_scratch(&mut *image, scratch.offset, scratch.length, id, places);
     write_area(&mut *image, offset, span, count, SCRATCH_ID);
 }

@@ -29,6 +29,7 @@ use Rattle.calls.specs.Attempt.{Attempt, goes, refuses, numberOf, unless, atFou
 use Rattle.calls.specs.Areas.{areaEnd, areaBytes, fileAreas, scratchAreas}
 use Rattle.calls.specs.Storing.{Space, Fit, Store, spaces, keepSpace, firstFit, prepend, placeAll, noPlace}
 use Rattle.calls.specs.Report.{mountedReport, refusedReport, reportOf}
+use Rattle.calls.specs.AreaReport.{areaReport, refusedAreaReport, areaReportNumber, areaReportOf}
 use Rattle.calls.specs.Lookup.{resolve, lookupAnswer, lookupOf, fileOnly, openAnswer, openOf}
 use Rattle.calls.specs.Read.{refused, giveBlocks, giveFile, give, readGiven, readAnswer}
 use Rattle.calls.specs.Format.{formatNumber}
@@ -38,17 +39,18 @@ use Rattle.calls.specs.Rewrite.{lastSequence, sequenceOf, rewritePlan, rewriteN
 use Rattle.calls.specs.Unlink.{deletion, unlinkOne, unlinking, unlinkOf}
 use Rattle.calls.specs.Collect.{sourceOf, collectFrom, collectWith, collecting, collectOf}
 use Rattle.calls.specs.declared.Descriptor.{Descriptor}
+use Rattle.calls.specs.declared.AreaReport.{AreaReport}
 use Rattle.calls_laws.specs.Checks.{passes}
 use Rattle.collect_laws.specs.Source.{source-found, source-none, file-eligible}
 use Rattle.demand2.specs.Store.{freePlace}
 use Rattle.demand1.specs.Table.{Row, _given-when_, Answers, mountRows, walkRows, pathRows, LiveChild, NoRoom, NoRoomLeft}
-use Rattle.demand1.specs.Table.{BadPath, brokenRow, endRow, sourceRow, formatRows, lookupRows, openRows, readRows, createRows, appendRows}
+use Rattle.demand1.specs.Table.{BadPath, brokenRow, endRow, sourceRow, formatRows, areaReportRows, lookupRows, openRows, readRows, createRows, appendRows}
 use Rattle.demand1.specs.Table.{unlinkRows}
 use Rattle.demand1.specs.Table.{Exactly}
 use Rattle.demand1.specs.Stores.{fit-inside, space-of}
 use Rattle.demand1.specs.Paths.{named-names, path-means}
 use Rattle.demand1.specs.Walk.{child-means, child-listed, foundOr, walk-answers}
-use Rattle.demand1.specs.Mounting.{Means, ltb-means, eqb-means, is-means, fails-means, or-means, step, done, list-means, mount-answers}
+use Rattle.demand1.specs.Mounting.{Means, ltb-means, leb-means, eqb-means, is-means, fails-means, or-means, step, done, list-means, mount-answers}
 
 -- ---- rows one after the other
 
@@ -325,6 +327,15 @@ module _ (image : Bytes) (ds : List Descriptor) where
       go true e = sym (eqb-true (mountNumber image ds) 0 e)
       go false e = refl
 
+  area-number : (i k : ℕ) → areaReportOf image ds i k .number ≡ areaReportNumber image ds i
+  unfolding areaReportOf areaReport
+  area-number i k = go (eqb (areaReportNumber image ds i) 0) refl _ refl
+    where
+      go : (b : Bool) → eqb (areaReportNumber image ds i) 0 ≡ b → (r : AreaReport) → r .number ≡ 0
+          → cond b r (refusedAreaReport (areaReportNumber image ds i)) .number ≡ areaReportNumber image ds i
+      go true e r z = z ∙ sym (eqb-true (areaReportNumber image ds i) 0 e)
+      go false e r z = refl
+
   looked-up : (o : Found) → lookupAnswer o .number ≡ foundOr (λ i. 0) o
   looked-up (found i) = refl
   looked-up (absent r) = refl
@@ -347,6 +358,12 @@ module _ (image : Bytes) (ds : List Descriptor) where
   format-answers =
       step (badDescription image ds) 1 _ _ _ (list-means image ds)
       (λ e. step (ltb (length ds) 2) 3 0 _ [] (ltb-means (length ds) 2) (λ e. done))
+
+  area-answers : (i k : ℕ) → Answers (areaReportRows image ds i) (areaReportOf image ds i k .number)
+  unfolding areaReportNumber firstRefusal
+  area-answers i k = rw (area-number i k)
+      (step (badDescription image ds) 1 _ _ _ (list-means image ds)
+      (λ e. step (leb (length ds) i) 1 0 _ [] (leb-means (length ds) i) (λ e. done)))
 
   read-answers : (id position room : ℕ) → Answers (readRows image ds id position) (readAnswer (readGiven image ds id position room) .number)
   read-answers id position room =
@@ -414,6 +431,7 @@ module _ (image : Bytes) (ds : List Descriptor) where
     names = named-names;
     format = format-answers;
     report = rw report-number (mount-answers image ds);
+    area-report = area-answers;
     lookup = lookup-answers;
     opened = open-answers;
     read = read-answers;

@@ -47,6 +47,9 @@ no-way e = let z : _≡_ {A = ℕ} 0 1 = cc in omega arith
 pub ltb-means : (m n : ℕ) → Means (ltb m n) (m < n)
 ltb-means m n = (ltb-true m n, λ e h. let g = ltb-false m n e in omega arith)
 
+pub leb-means : (m n : ℕ) → Means (leb m n) (m ≤ n)
+leb-means m n = (leb-true m n, λ e h. let g = leb-false m n e in omega arith)
+
 pub eqb-means : (m n : ℕ) → Means (eqb m n) (m ≡ n)
 eqb-means m n = (eqb-true m n, eqb-false m n)
 

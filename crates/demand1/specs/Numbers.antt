@@ -11,10 +11,10 @@ use Rattle.volume_laws.specs.Lists.{all-mem}
 use Rattle.calls.specs.Storing.{isAmong}
 use Rattle.calls.specs.declared.Descriptor.{Descriptor}
 use Rattle.calls_laws.specs.Unused.{among}
-use Rattle.demand1.specs.Table.{Row, Answers, formatRows, mountRows, lookupRows, openRows, readRows, createRows, appendRows, unlinkRows}
+use Rattle.demand1.specs.Table.{Row, Answers, formatRows, mountRows, areaReportRows, lookupRows, openRows, readRows, createRows, appendRows, unlinkRows}
 use Rattle.demand1.specs.Table.{collectRows}
 use Rattle.demand1.specs.Table.{Exactly}
-use Rattle.demand1.specs.Words.{formatNumbers, reportNumbers, pathNumbers, readNumbers, createNumbers, appendNumbers, unlinkNumbers}
+use Rattle.demand1.specs.Words.{formatNumbers, reportNumbers, areaReportNumbers, pathNumbers, readNumbers, createNumbers, appendNumbers, unlinkNumbers}
 use Rattle.demand1.specs.Words.{collectNumbers}
 use Rattle.demand1.specs.Words.{Numbers}
 
@@ -41,6 +41,7 @@ unfolding isAmong all
 numbers image ds x = record {
   format = answers-within (formatRows image ds) formatNumbers refl _ (x .format);
   report = answers-within (mountRows image ds) reportNumbers refl _ (x .report);
+  area-report = λ i k. answers-within (areaReportRows image ds i) areaReportNumbers refl _ (x .area-report i k);
   lookup = λ base path. answers-within (lookupRows image ds base path) pathNumbers refl _ (x .lookup base path);
   opened = λ base path. answers-within (openRows image ds base path) pathNumbers refl _ (x .opened base path);
   read = λ id position room. answers-within (readRows image ds id position) readNumbers refl _ (x .read id position room);

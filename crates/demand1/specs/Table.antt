@@ -26,6 +26,7 @@ use Rattle.calls.specs.Rewrite.{lastSequence, sequenceOf}
 use Rattle.calls.specs.Unlink.{deletion, unlinkOf}
 use Rattle.calls.specs.Format.{formatNumber}
 use Rattle.calls.specs.Report.{reportOf}
+use Rattle.calls.specs.AreaReport.{areaReportOf}
 use Rattle.calls.specs.Lookup.{lookupOf, openOf}
 use Rattle.calls.specs.Read.{readGiven, readAnswer}
 use Rattle.calls.specs.Collect.{collectOf}
@@ -182,6 +183,10 @@ NoRoomLeft ss (b ∷ bs) = ((s : Space) → List·Memᴰ s ss → s .end < s .fr
 abbrev pub formatRows : Bytes → List Descriptor → List Row
 formatRows image ds = listRow image ds ∷ (3 given-when (length ds < 2)) ∷ []
 
+-- check 1, and 1 where the list has no area i
+abbrev pub areaReportRows : Bytes → List Descriptor → ℕ → List Row
+areaReportRows image ds i = listRow image ds ∷ (1 given-when (length ds ≤ i)) ∷ []
+
 abbrev pub lookupRows : Bytes → List Descriptor → Bytes → Bytes → List Row
 lookupRows image ds base path = pathRows image ds (BadPath base path) (pathNames base path) []
 
@@ -255,6 +260,7 @@ pub record Exactly (image : Bytes) (ds : List Descriptor) : Type 0 where
   pub names : (base path : Bytes) (ns : List Bytes) → Named base path ns → pathNames base path ≡ ns
   pub format : Answers (formatRows image ds) (formatNumber image ds)
   pub report : Answers (mountRows image ds) (reportOf image ds .number)
+  pub area-report : (i k : ℕ) → Answers (areaReportRows image ds i) (areaReportOf image ds i k .number)
   pub lookup : (base path : Bytes) → Answers (lookupRows image ds base path) (lookupOf image ds base path .number)
   pub opened : (base path : Bytes) → Answers (openRows image ds base path) (openOf image ds base path .number)
   pub read : (id position room : ℕ) → Answers (readRows image ds id position) (readAnswer (readGiven image ds id position room) .number)

@@ -20,6 +20,7 @@ use Rattle.calls.specs.Mount.{volume}
 use Rattle.calls.specs.Storing.{Store}
 use Rattle.calls.specs.Format.{formatNumber, imageFormatted}
 use Rattle.calls.specs.Report.{reportOf}
+use Rattle.calls.specs.AreaReport.{areaReportOf}
 use Rattle.calls.specs.Lookup.{resolve, lookupOf, openOf}
 use Rattle.calls.specs.Read.{Given, readGiven, readAnswer, bufferAfter, handleAfter}
 use Rattle.calls.specs.Create.{lastName, namesBefore, newInode, createOf, imageCreated}
@@ -43,6 +44,10 @@ formatNumbers = 0 ∷ 1 ∷ 3 ∷ []
 -- "Every call but format makes checks 1 to 7": a report has no other
 abbrev pub reportNumbers : List ℕ
 reportNumbers = 0 ∷ 1 ∷ 2 ∷ 3 ∷ 4 ∷ 5 ∷ 6 ∷ 7 ∷ []
+
+-- the report of one area makes check 1 alone
+abbrev pub areaReportNumbers : List ℕ
+areaReportNumbers = 0 ∷ 1 ∷ []
 
 -- "8: bad path or name", "Where a path is walked, the first failing step decides among 9, 10 and 11": lookup and open
 abbrev pub pathNumbers : List ℕ
@@ -73,6 +78,7 @@ collectNumbers = reportNumbers ++ (17 ∷ [])
 pub record Numbers (image : Bytes) (ds : List Descriptor) : Type 0 where
   pub format : List·Memᴰ (formatNumber image ds) formatNumbers
   pub report : List·Memᴰ (reportOf image ds .number) reportNumbers
+  pub area-report : (i k : ℕ) → List·Memᴰ (areaReportOf image ds i k .number) areaReportNumbers
   pub lookup : (base path : Bytes) → List·Memᴰ (lookupOf image ds base path .number) pathNumbers
   pub opened : (base path : Bytes) → List·Memᴰ (openOf image ds base path .number) pathNumbers
   pub read : (id position room : ℕ) → List·Memᴰ (readAnswer (readGiven image ds id position room) .number) readNumbers
@@ -121,7 +127,7 @@ pub record OnlyRead (g : Given) (h : Handle) (buffer : Bytes) : Type 0 where
   pub same-id : handleAfter g h .id ≡ h .id
   pub moved : handleAfter g h .position ≡ h .position + readAnswer g .given
 
--- "Accepted calls change only the bytes that document 01 names". Report, lookup, open and read leave no image.
+-- "Accepted calls change only the bytes that document 01 names". The reports, lookup, open and read leave no image.
 pub record AcceptedCalls (image : Bytes) (ds : List Descriptor) : Type 0 where
   -- "erases the described areas to FF, writes headers .. The root record .. goes to the first file area"
   pub format : formatNumber image ds ≡ 0

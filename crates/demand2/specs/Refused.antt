@@ -12,6 +12,7 @@ use Rattle.volume_laws.specs.Tests.{eqb-differ}
 use Rattle.calls.specs.Mount.{mountNumber}
 use Rattle.calls.specs.Format.{formatNumber, imageFormatted}
 use Rattle.calls.specs.Report.{refusedReport, mountedReport, reportOf}
+use Rattle.calls.specs.AreaReport.{areaReport, refusedAreaReport, areaReportNumber, areaReportOf}
 use Rattle.calls.specs.Lookup.{resolve, lookupAnswer, lookupOf, fileOnly, openAnswer, openOf}
 use Rattle.calls.specs.Read.{Given, given, refused, readGiven, readAnswer, bufferAfter, handleAfter}
 use Rattle.calls.specs.Create.{creating, createOf, imageCreated}
@@ -21,6 +22,7 @@ use Rattle.calls.specs.Collect.{collecting, collectOf, imageCollected}
 use Rattle.calls.specs.declared.Descriptor.{Descriptor}
 use Rattle.calls.specs.declared.Handle.{Handle}
 use Rattle.calls.specs.declared.Report.{Report}
+use Rattle.calls.specs.declared.AreaReport.{AreaReport}
 use Rattle.calls_laws.specs.Attempt.{refused-leaves}
 
 -- a refused read: zeros, and buffer and handle as they were
@@ -35,9 +37,26 @@ refused-read (refused r) h buffer n = record { answer = refl; same-buffer = refl
 
 -- the other answers: refused, they have zeros
 refused-report : (b : Bool) (r : Report) (n : ℕ) → r .number ≡ 0 → cond b r (refusedReport n) .number ≢ 0
-    → cond b r (refusedReport n) ≡ record { number = cond b r (refusedReport n) .number; inodes = 0; live = 0; stretches = 0; skipped = 0 }
+    → cond b r (refusedReport n)
+    ≡ record { number = cond b r (refusedReport n) .number; inodes = 0; live = 0; stretches = 0; skipped = 0; «first_offset» = 0; «first_length» = 0 }
 refused-report true r n e h = absurd (h e)
 refused-report false r n e h = refl
+
+refused-area : (b : Bool) (r : AreaReport) (n : ℕ) → r .number ≡ 0 → cond b r (refusedAreaReport n) .number ≢ 0
+    → cond b r (refusedAreaReport n) ≡ record {
+      number = cond b r (refusedAreaReport n) .number;
+      kind = 0;
+      id = 0;
+      count = 0;
+      records = 0;
+      stretches = 0;
+      skipped = 0;
+      free = 0;
+      offset = 0;
+      length = 0;
+    }
+refused-area true r n e h = absurd (h e)
+refused-area false r n e h = refl
 
 refused-lookup : (o : Found) → lookupAnswer o .number ≢ 0 → lookupAnswer o ≡ record { number = lookupAnswer o .number; id = 0; kind = 0 }
 refused-lookup (found i) h = absurd (h refl)
@@ -47,11 +66,25 @@ refused-open : (o : Found) → openAnswer o .number ≢ 0 → openAnswer o ≡ r
 refused-open (found i) h = absurd (h refl)
 refused-open (absent r) h = refl
 
--- Each call, where its number is not 0. Report, lookup, open and read change no image: they give none.
+-- Each call, where its number is not 0. The reports, lookup, open and read change no image: they give none.
 pub record RefusedCalls (image : Bytes) (ds : List Descriptor) : Type 0 where
   pub format : formatNumber image ds ≢ 0 → imageFormatted image ds ≡ image
   pub report : reportOf image ds .number ≢ 0
-      → reportOf image ds ≡ record { number = reportOf image ds .number; inodes = 0; live = 0; stretches = 0; skipped = 0 }
+      → reportOf image ds
+      ≡ record { number = reportOf image ds .number; inodes = 0; live = 0; stretches = 0; skipped = 0; «first_offset» = 0; «first_length» = 0 }
+  pub area-report : (i k : ℕ) → areaReportOf image ds i k .number ≢ 0
+      → areaReportOf image ds i k ≡ record {
+        number = areaReportOf image ds i k .number;
+        kind = 0;
+        id = 0;
+        count = 0;
+        records = 0;
+        stretches = 0;
+        skipped = 0;
+        free = 0;
+        offset = 0;
+        length = 0;
+      }
   pub lookup : (base path : Bytes) → lookupOf image ds base path .number ≢ 0
       → lookupOf image ds base path ≡ record { number = lookupOf image ds base path .number; id = 0; kind = 0 }
   pub opened : (base path : Bytes) → openOf image ds base path .number ≢ 0
@@ -67,10 +100,11 @@ pub record RefusedCalls (image : Bytes) (ds : List Descriptor) : Type 0 where
 
 pub refused-calls : (image : Bytes) (ds : List Descriptor) → RefusedCalls image ds
 unfolding
-    imageFormatted reportOf mountedReport lookupOf openOf createOf imageCreated appendOf imageAppended unlinkOf imageUnlinked collectOf imageCollected
+    imageFormatted reportOf mountedReport areaReportOf areaReport lookupOf openOf createOf imageCreated appendOf imageAppended unlinkOf imageUnlinked collectOf imageCollected
 refused-calls image ds = record {
   format = λ h. rw (imageFormatted, eqb-differ (formatNumber image ds) 0 h);
   report = refused-report (eqb (mountNumber image ds) 0) (mountedReport image ds) (mountNumber image ds) refl;
+  area-report = λ i k. refused-area (eqb (areaReportNumber image ds i) 0) _ (areaReportNumber image ds i) refl;
   lookup = λ base path. refused-lookup (resolve image ds base path);
   opened = λ base path. refused-open (fileOnly (resolve image ds base path));
   read = λ id position room n h buffer. refused-read (readGiven image ds id position room) h buffer n;

@@ -14,7 +14,7 @@ use Rattle.format.specs.Ids.{isDirectoryId, isFileId, isInodeId, isBlockId}
 use Rattle.format.specs.Record.{block, recordSize, nameGood, inodeRule, previousRule, blockRule, inodeRules, blockRules, checkRight, wellFormed, acceptable}
 use Rattle.format.specs.AreaHeader.{areaHeaderSize, magicsRight, validHeader, isScratch, isFileArea}
 use Rattle.format.specs.Encoding.{inodeFront, blockFront, sealed, inodeBytes, blockBytes, areaHeader}
-use Rattle.format.specs.Reading.{skip, parts, placed, erasedEnd, freeSize, damagedBytes, damaged, areaParts, areaRecords, areaDamage, areaFree}
+use Rattle.format.specs.Reading.{skip, parts, placed, erasedEnd, freeSize, damagedBytes, damaged, totalSize, firstStretch, areaParts, areaRecords, areaDamage, areaFree}
 use Rattle.format.specs.Reading.{areaClean}
 use Rattle.format.specs.BlockSize.{greatestBlock}
 use Rattle.volume.specs.Lists.{keep, all, first, same, once, only}
@@ -40,18 +40,20 @@ use Rattle.calls.specs.Collect.{dropsInode, drops, copies, isBlank, resetStores
 use Rattle.calls.specs.Collect.{collecting, collectOf, imageCollected}
 use Rattle.calls.specs.Areas.{areaBytes}
 use Rattle.calls.specs.Mount.{bytesOf, recordsOf}
+use Rattle.calls.specs.Report.{damageIn, mountedReport, reportOf}
+use Rattle.calls.specs.AreaReport.{kindNumber, ifValid, areaReport, areaReportNumber, areaReportOf}
 use Rattle.calls.specs.Lookup.{resolve}
 use Rattle.calls.specs.declared.Descriptor.{Descriptor}
 use Rattle.calls.specs.Read.{given, readGiven, give, giveBlocks}
 use Rattle.volume.specs.View.{byBytes}
 use Rattle.volume.specs.Counting.{inodeOf}
-use Rattle.volume.specs.Fate.{orphan}
+use Rattle.volume.specs.Fate.{orphan, liveIds}
 use Rattle.volume.specs.Tree.{absent}
 use Rattle.volume.specs.Contents.{textOf, headersFrom}
 use Rattle.demand_cases.specs.Story.{directory, fileInIt, text, image₀, image₁, image₂, image₃, image₄, image₅, image₆}
 use Rattle.demand_cases.specs.Volumes.{holding, area₀, area₁, area₂, area₃, two, three, rootRecord, file, other, a, b, slash}
 use Rattle.demand_cases.specs.Volumes.{oneByte, deleted, torn, orphaned, olderLast, usedScratch, clashing, twoFiles, firstHit, twins, looping}
-use Rattle.demand_cases.specs.Volumes.{reservedInode, reservedArea, reservedScratch, counted}
+use Rattle.demand_cases.specs.Volumes.{reservedInode, reservedArea, reservedScratch, counted, littered}
 
 -- the source among areas of these counts
 abbrev sourceIn : List ℕ → Option Descriptor
@@ -98,6 +100,22 @@ pub record Cases : Type 0 where
   pub half-way : precedes 0 128 ∷ precedes 128 0 ∷ precedes 7 7 ∷ precedes 0 127 ∷ precedes 127 0 ∷ [] ≡ false ∷ false ∷ false ∷ true ∷ false ∷ []
   -- of 0, 100 and 200 each is preceded: the first
   pub each-preceded : sourceIn (0 ∷ 100 ∷ 200 ∷ []) ∷ sourceIn (100 ∷ 200 ∷ 0 ∷ []) ∷ [] ≡ some area₀ ∷ some area₀ ∷ []
+  -- T-08, report-told: "the first of these over the file areas in descriptor order, as an offset in the image"; scratch's is none of them
+  pub first-damage : reportOf littered three
+      ≡ record { number = 0; inodes = 2; live = 2; stretches = 3; skipped = 10; «first_offset» = 44; «first_length» = 3 }
+  pub first-by-descriptors : reportOf littered (area₁ ∷ area₀ ∷ area₂ ∷ [])
+      ≡ record { number = 0; inodes = 2; live = 2; stretches = 3; skipped = 10; «first_offset» = 184; «first_length» = 5 }
+  -- T-08: the reading of an area, with its first stretch, its second, and a third, of which there is none; and of scratch
+  pub area-read : areaReportOf littered three 0 0 ∷ areaReportOf littered three 0 1 ∷ areaReportOf littered three 0 2 ∷ areaReportOf littered three 2 0 ∷ []
+      ≡ record { number = 0; kind = 1; id = 0; count = 0; records = 2; stretches = 2; skipped = 5; free = 90; offset = 44; length = 3 }
+      ∷ record { number = 0; kind = 1; id = 0; count = 0; records = 2; stretches = 2; skipped = 5; free = 90; offset = 68; length = 2 }
+      ∷ record { number = 0; kind = 1; id = 0; count = 0; records = 2; stretches = 2; skipped = 5; free = 90; offset = 0; length = 0 }
+      ∷ record { number = 0; kind = 2; id = 255; count = 7; records = 0; stretches = 1; skipped = 7; free = 129; offset = 24; length = 7 }
+      ∷ []
+  -- an area that is passed over is read too, by a header of which nothing is told; the list has no fourth area
+  pub passed-over-read : areaReportOf (set littered 182 1) three 1 0
+      ≡ record { number = 0; kind = 0; id = 0; count = 0; records = 0; stretches = 1; skipped = 5; free = 131; offset = 24; length = 5 }
+  pub beyond-the-list : areaReportOf littered three 3 0 .number ≡ 1
   -- the hypotheses of each theorem can be met: format, a directory, a file in it, two bytes appended, the directory unlinked, a collection
   pub accepted : formatNumber image₀ two ∷ createOf image₁ two [] directory 0 .number ∷ createOf image₂ two [] fileInIt 1 .number
       ∷ appendOf image₃ two [] fileInIt text ∷ unlinkOf image₄ two [] directory ∷ collectOf image₅ two ∷ mountNumber image₆ two ∷ []
@@ -117,6 +135,7 @@ unfolding
     imageFormatted attemptAt lastName namesBefore firstIdOf newId newInode createIn creating createOf imageCreated shortestLength cutInto piecesOf
     blockRecords newBlocks appendTo appending appendOf imageAppended deletion rewritten rewritePlan rewriteNumber imageRewritten unlinkOne unlinking
     unlinkOf imageUnlinked eligible precedes unpreceded first sourceOf isOther recordsElsewhere counts firstPlaces dropsBlock namesInode dropsInode drops
+    littered reportOf mountedReport damageIn totalSize firstStretch liveIds areaReportOf areaReport areaReportNumber kindNumber ifValid
     copies isBlank resetStores readyStores recordStores nextCount collectStores collected collecting collectOf imageCollected
 cases = record {
   format-writes-the-root = refl;
@@ -140,5 +159,10 @@ cases = record {
   unpreceded-source = refl;
   half-way = refl;
   each-preceded = refl;
+  first-damage = refl;
+  first-by-descriptors = refl;
+  area-read = refl;
+  passed-over-read = refl;
+  beyond-the-list = refl;
   accepted = refl;
 }

@@ -77,6 +77,11 @@ unfoldable pub totalSize : List Stretch → ℕ
 totalSize [] = 0
 totalSize (d ∷ l) = d .size + totalSize l
 
+-- T-08: "the offset of the first damage stretch and its length (both 0 if there is none)"
+unfoldable pub firstStretch : List Stretch → Stretch
+firstStretch [] = record { place = 0; size = 0 }
+firstStretch (d ∷ l) = d
+
 -- "Start at 24": the parts of an area, from its bytes
 unfoldable pub areaParts : Acceptor → Bytes → List Part
 areaParts size area = parts size (drop areaHeaderSize area) 0

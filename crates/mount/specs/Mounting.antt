@@ -17,6 +17,7 @@ use Rattle.table_rows.specs.Rows.{InodeTable, BlockTable, RowsOf}
 use Rattle.calls.specs.Areas.{mostAreas, fileAreas}
 use Rattle.calls.specs.Refusal.{firstRefusal}
 use Rattle.calls.specs.Mount.{acceptedRecords, volume, mountNumber, mostInodes, mostBlocks, mostRecords}
+use Rattle.calls.specs.Report.{damageIn}
 use Rattle.calls.specs.declared.Descriptor.{Descriptor}
 use Rattle.calls_laws.specs.Records.{records-sound}
 use Rattle.area_list.specs.Described.{described, described-length}
@@ -25,10 +26,11 @@ use Rattle.area_list.specs.Good.{AreaFits}
 use Rattle.area_kinds.specs.Places.{AreasPass, checked-pass, member-fits, scratch-member, files-apart, files-lie}
 use Rattle.area_kinds.specs.declared.CheckedAreas.{CheckedAreas}
 use Rattle.area_pass.specs.Listing.{placesIn, AreasFit}
-use Rattle.area_pass.specs.Reading.{readingOf}
-use Rattle.area_pass.specs.Rows.{spansAt, stretchesAt, skippedAt, freeAt, areaRows, areaAt, readingAt, Readings, Small}
+use Rattle.area_damage.specs.Damage.{damageOf}
+use Rattle.area_pass.specs.Rows.{spansAt, stretchesAt, freeAt, areaRows, areaAt, Tells, Readings, Small}
 use Rattle.area_pass.specs.Rows.{Lent as PassLent}
 use Rattle.area_pass.specs.Bridge.{placedVolume, places-bytes, places-lie}
+use Rattle.area_damage.specs.declared.Damage.{Damage}
 use Rattle.mount_state.specs.State.{tablesSize, inodeIdsAt, inodeSpotsAt, blockIdsAt, blockSpotsAt, Mounts, refusedMount}
 use Rattle.mount_state.specs.declared.Mounted.{Mounted}
 use Rattle.mount.specs.Filling.{checksIn, Ready, Rowed, Fills}
@@ -49,10 +51,6 @@ refuses image ds n t ps m e h q = rw e (record {
   safe-places = λ z. absurd (h z);
   holds-places = λ z. absurd (h z);
 })
-
-same-reading : (t r : List ℕ) (i : ℕ) → getD t (stretchesAt + i) 0 ≡ getD r (stretchesAt + i) 0 → getD t (skippedAt + i) 0 ≡ getD r (skippedAt + i) 0
-    → getD t (freeAt + i) 0 ≡ getD r (freeAt + i) 0 → readingAt t i ≡ readingAt r i
-same-reading t r i a b c = rw (a, b, c)
 
 -- the answer a of checks 1 to 4, which left the file areas in the tables t
 module _ (image : Bytes) (ds : List Descriptor) (a : CheckedAreas) (t : List ℕ) (long : length t ≡ tablesSize) (c : Checked image ds a t) where
@@ -79,9 +77,10 @@ module _ (image : Bytes) (ds : List Descriptor) (a : CheckedAreas) (t : List ℕ
     pub pass-lent : (places : List ℕ) → length places ≡ mostRecords → PassLent image t (a .files) places
     pass-lent places h = record { long = omega (arith, long); few = split .few; files-are = record { fit = fits; apart = files-apart image ds passed a t split (omega (arith, long)); room = omega arith } }
 
-    -- n places are listed, and the tables u have the readings of the areas
+    -- n places are listed, the tables u have the readings of the areas, and q is their damage
     module _ (n : ℕ) (ps u : List ℕ) (l : take n ps ≡ placesIn image (described (part 0 (a .files) t) (part spansAt (a .files) t)))
-        (few : n ≤ length ps) (u-same : length u ≡ length t) (read : Readings image (a .files) t u) where
+        (few : n ≤ length ps) (u-same : length u ≡ length t) (read : Readings image (a .files) t u)
+        (q : Damage) (damage : q ≡ damageOf 0 (damageIn image (described (part 0 (a .files) t) (part spansAt (a .files) t)))) where
       listed : take n ps ≡ placesIn image (fileAreas image ds)
       listed = l ∙ ap (placesIn image) (split .files)
 
@@ -146,22 +145,19 @@ module _ (image : Bytes) (ds : List Descriptor) (a : CheckedAreas) (t : List ℕ
               ∙ ap (part b k) (read .areas)
               ∙ part-front stretchesAt b k t h (omega (arith, long))
 
-          reads : (i : ℕ) → i < a .files → readingAt full i ≡ readingOf (areaAt image full i)
+          reads : (i : ℕ) → i < a .files → Tells (areaAt image full i) full i
           reads i h =
               let w : i < mostAreas = omega (arith, split .few) in
-              same-reading full u i (at-row (stretchesAt + i) (omega arith)) (at-row (skippedAt + i) (omega arith)) (at-row (freeAt + i) (omega arith))
-              ∙ read .read i h
-              ∙ ap readingOf (ap₂ (λ (x o : ℕ). take x (drop o image)) (sym (at-area (spansAt + i) (omega arith))) (sym (at-area i (omega arith))))
+              let t = read .read i h in
+              rw (at-area (spansAt + i) (omega arith), at-area i (omega arith)) (record {
+                stretches = at-row (stretchesAt + i) (omega arith) ∙ t .stretches;
+                free = at-row (freeAt + i) (omega arith) ∙ t .free;
+              })
 
           smalls : (i : ℕ) → i < a .files → Small full i
           smalls i h =
               let w : i < mostAreas = omega (arith, split .few) in
-              let s = read .small i h in
-              record {
-                stretches = omega (arith, s .stretches, at-row (stretchesAt + i) (omega arith));
-                skipped = omega (arith, s .skipped, at-row (skippedAt + i) (omega arith));
-                free = omega (arith, s .free, at-row (freeAt + i) (omega arith));
-              }
+              omega (arith, read .small i h, at-row (freeAt + i) (omega arith))
 
           is-volume : volumeOf (byPlace image) (take n ps) ≡ placedVolume image ds
           is-volume = ap (volumeOf (byPlace image)) listed
@@ -184,7 +180,8 @@ module _ (image : Bytes) (ds : List Descriptor) (a : CheckedAreas) (t : List ℕ
           block-spots : part blockSpotsAt (f .blocks) full ≡ part (inodeRows + mostBlocks) (f .blocks) rows
           block-spots = inner (inodeRows + mostBlocks) (f .blocks) (omega (arith, rowed .blocks-few))
 
-          pub mount-passes : length ps ≡ mostRecords → Mounts image ds (record { number = 0; files = a .files; records = n; inodes = f .inodes; blocks = f .blocks; scratch = a .scratch })
+          pub mount-passes : length ps ≡ mostRecords
+              → Mounts image ds (record { number = 0; files = a .files; records = n; inodes = f .inodes; blocks = f .blocks; damage = q; scratch = a .scratch })
               (putBack inodeIdsAt allRows u rows) ps
           mount-passes ps-long = record {
             number = sym y ∙ checked;
@@ -205,6 +202,7 @@ module _ (image : Bytes) (ds : List Descriptor) (a : CheckedAreas) (t : List ℕ
               number = sym (sym y ∙ checked);
               files = ap₂ described starts-still spans-still ∙ split .files;
               readings = reads;
+              damage = damage ∙ ap (λ (fs : List Descriptor). damageOf 0 (damageIn image fs)) (split .files);
               scratch = split .scratch;
               inodes = both (RowsOf (byPlace image) (placedVolume image ds .inodes)) inode-ids inode-spots
                   (subst (λ (v : Volume ℕ). RowsOf (byPlace image) (v .inodes) (part 0 (f .inodes) rows) (part mostInodes (f .inodes) rows)) is-volume (rowed .inode-rows));

@@ -3,6 +3,7 @@ ghost use mathlib.Core.Path.{_≡_};
 ghost use Rattle.area_list.specs.Numbers.{areaList};
 ghost use Rattle.mount_state.specs.State.{Lent, Mounts, refusedMount};
 ghost use Rattle.mount.specs.Filling.{Ready, Fills};
+use area_damage::Damage;
 use area_kinds::check_areas;
 use area_pass::list_areas;
 use calls::Descriptor;
@@ -80,6 +81,12 @@ fn refused(number: u32) -> Mounted
         records: 0,
         inodes: 0,
         blocks: 0,
+        damage: Damage {
+            stretches: 0,
+            skipped: 0,
+            offset: 0,
+            length: 0,
+        },
         scratch: Descriptor {
             offset: 0,
             length: 0,
@@ -97,11 +104,13 @@ pub fn mount(image: &[u8], areas: &[u32], tables: &mut [u32], places: &mut [u16]
     if found.number != 0 {
         return refused(found.number);
     }
-    let records = list_areas(image, &mut *tables, files, &mut *places);
+    let listing = list_areas(image, &mut *tables, files, &mut *places);
+    let records = listing.count;
     let filled = fill_tables(image, &*places, records, &mut tables[INODE_IDS..TABLES]);
     if filled.number != 0 {
         return refused(filled.number);
     }
+    let damage = listing.damage;
     let scratch = found.scratch;
     Mounted {
         number: 0,
@@ -109,6 +118,7 @@ pub fn mount(image: &[u8], areas: &[u32], tables: &mut [u32], places: &mut [u16]
         records,
         inodes: filled.inodes,
         blocks: filled.blocks,
+        damage,
         scratch,
     }
 }

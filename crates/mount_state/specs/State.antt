@@ -10,9 +10,10 @@ use Rattle.table_rows.specs.Parts.{part}
 use Rattle.table_rows.specs.Rows.{InodeTable, BlockTable, RowsOf}
 use Rattle.calls.specs.Areas.{mostAreas, fileAreas, scratchAreas}
 use Rattle.calls.specs.Mount.{mostInodes, mostBlocks, mostRecords, mountNumber}
+use Rattle.calls.specs.Report.{damageIn}
 use Rattle.calls.specs.declared.Descriptor.{Descriptor}
-use Rattle.area_pass.specs.Reading.{readingOf}
-use Rattle.area_pass.specs.Rows.{spansAt, areaRows, areaAt, readingAt, Small}
+use Rattle.area_damage.specs.Damage.{damageOf}
+use Rattle.area_pass.specs.Rows.{spansAt, areaRows, areaAt, Tells, Small}
 use Rattle.area_list.specs.Described.{described}
 use Rattle.area_list.specs.Good.{AreaFits}
 use Rattle.area_pass.specs.Listing.{placesIn, AreasFit}
@@ -77,7 +78,8 @@ pub record Safe (image : Bytes) (m : Mounted) (tables : List ℕ) : Type 0 where
 pub record Holds (image : Bytes) (ds : List Descriptor) (m : Mounted) (tables : List ℕ) : Type 0 where
   pub number : mountNumber image ds ≡ 0
   pub files : described (startsIn m tables) (spansIn m tables) ≡ fileAreas image ds
-  pub readings : (i : ℕ) → i < m .files → readingAt tables i ≡ readingOf (areaAt image tables i)
+  pub readings : (i : ℕ) → i < m .files → Tells (areaAt image tables i) tables i
+  pub damage : m .damage ≡ damageOf 0 (damageIn image (fileAreas image ds))
   pub scratch : scratchAreas image ds ≡ m .scratch ∷ []
   pub inodes : RowsOf (byPlace image) (placedVolume image ds .inodes) (inodeIdsIn m tables) (inodeSpotsIn m tables)
   pub blocks : RowsOf (byPlace image) (placedVolume image ds .blocks) (blockIdsIn m tables) (blockSpotsIn m tables)
@@ -93,7 +95,15 @@ HoldsPlaces image ds m places = take (m .records) places ≡ placesIn image (fil
 
 -- a refused mount's other numbers are 0
 abbrev pub refusedMount : ℕ → Mounted
-refusedMount n = record { number = n; files = 0; records = 0; inodes = 0; blocks = 0; scratch = record { offset = 0; length = 0 } }
+refusedMount n = record {
+  number = n;
+  files = 0;
+  records = 0;
+  inodes = 0;
+  blocks = 0;
+  damage = record { stretches = 0; skipped = 0; offset = 0; length = 0 };
+  scratch = record { offset = 0; length = 0 };
+}
 
 -- what a mount answers and leaves; what the lent slices hold after a refused one has no meaning
 pub record Mounts (image : Bytes) (ds : List Descriptor) (m : Mounted) (tables places : List ℕ) : Type 0 where

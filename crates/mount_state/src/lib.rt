@@ -1,5 +1,6 @@
 // What a mounted volume is: its counts by value, and where its parts stand in one lent slice of 32-bit numbers.
 // What the code relies on is `Safe`, and what the tables hold is `Holds` (specs/State.antt).
+use area_damage::Damage;
 use area_pass::AREA_ROWS;
 use calls::Descriptor;
 use calls::MOST_BLOCKS;
@@ -16,12 +17,14 @@ pub const BLOCK_SPOTS: usize = BLOCK_IDS + MOST_BLOCKS;
 
 pub const TABLES: usize = BLOCK_SPOTS + MOST_BLOCKS;
 
-// The answer of a mount: the number of refusal, or 0 with how many file areas, records, inodes and blocks there are, and the scratch area.
+// The answer of a mount: the number of refusal, or 0 with how many file areas, records, inodes and blocks there are, the damage of the file areas
+// with its first stretch, and the scratch area.
 pub struct Mounted {
     pub number: u32,
     pub files: usize,
     pub records: usize,
     pub inodes: usize,
     pub blocks: usize,
+    pub damage: Damage,
     pub scratch: Descriptor,
 }

@@ -4,6 +4,7 @@ ghost use mathlib.Core.Path.{_≡_};
 ghost use lib.ListN.{length};
 ghost use Rattle.calls.specs.Format.{formatNumber, imageFormatted};
 ghost use Rattle.calls.specs.Report.{reportOf};
+ghost use Rattle.calls.specs.AreaReport.{areaReportOf};
 ghost use Rattle.calls.specs.Lookup.{lookupOf, openOf};
 ghost use Rattle.calls.specs.Read.{readGiven, readAnswer, bufferAfter, handleAfter};
 ghost use Rattle.calls.specs.Create.{createOf, imageCreated};
@@ -13,6 +14,7 @@ ghost use Rattle.calls.specs.Collect.{collectOf, imageCollected};
 ghost use Rattle.calls.specs.Areas.{listed};
 use area_structs::areas_of;
 use call_entries::append_of;
+use call_entries::area_report_of;
 use call_entries::collect_of;
 use call_entries::create_of;
 use call_entries::format_of;
@@ -22,6 +24,7 @@ use call_entries::read_at_of;
 use call_entries::read_of;
 use call_entries::report_of;
 use call_entries::unlink_of;
+use calls::AreaReport;
 use calls::Created;
 use calls::Descriptor;
 use calls::Handle;
@@ -45,6 +48,19 @@ pub extern "C" fn nffs_report(image: &[u8], areas: &[Descriptor]) -> Report
     ensures { λ r. ⌜ r ≡ reportOf (now (image .entry)) (listed (now (areas .entry))) ⌝ }
 {
     report_of(image, areas_of(areas))
+}
+
+// The report of the area `index` of the list, with its damage stretch `stretch`, both from 0. The volume need not mount.
+#[no_mangle]
+pub extern "C" fn nffs_area_report(
+    image: &[u8],
+    areas: &[Descriptor],
+    index: u32,
+    stretch: u32,
+) -> AreaReport
+    ensures { λ r. ⌜ r ≡ areaReportOf (now (image .entry)) (listed (now (areas .entry))) index stretch ⌝ }
+{
+    area_report_of(image, areas_of(areas), index, stretch)
 }
 
 // What a path leads to.

@@ -162,16 +162,18 @@ fn show_record(at: usize, size: usize) -> usize {
     65536
 }
 
-// What the reading of an area comes to: stretches of damage, their bytes, and where free space starts.
+// What the reading of an area comes to: stretches of damage, their bytes, the first of them (T-08), and where free space starts.
 fn show_reading(area: &[u8])
     requires { ⌜ length (now area) ≡ 4096 ⌝ }
 {
     let mut places = [0u16; PLACES];
-    let pass = list_area(area, 0, &mut places[..], 0);
-    let reading = pass.reading;
-    show(b"stretches ", reading.stretches);
-    show(b" skipped ", reading.skipped);
-    show(b" free ", reading.free);
+    let pass = list_area(area, 0, &mut places[..], 0, 0);
+    let damage = pass.damage;
+    show(b"stretches ", damage.stretches as usize);
+    show(b" skipped ", damage.skipped as usize);
+    show(b" first ", damage.offset as usize);
+    show(b"+", damage.length as usize);
+    show(b" free ", pass.free);
     io::write_all(1, b"\n");
 }
 

@@ -71,6 +71,8 @@ fn print(image: &[u8]) {
         show(b" live ", r.live);
         show(b" stretches ", r.stretches);
         show(b" skipped ", r.skipped);
+        show(b" first ", r.first_offset);
+        show(b"+", r.first_length);
         io::write_all(1, b"\n");
     }
 }

@@ -17,9 +17,7 @@ use Rattle.calls.specs.Storing.{Space, spaces, firstFit}
 use Rattle.calls.specs.declared.Descriptor.{Descriptor}
 use Rattle.area_list.specs.Described.{described}
 use Rattle.table_rows.specs.Parts.{part, part-long}
-use Rattle.area_pass.specs.Reading.{readingOf}
-use Rattle.area_pass.specs.Rows.{spansAt, stretchesAt, freeAt, areaRows, areaAt, readingAt}
-use Rattle.area_pass.specs.declared.Reading.{Reading}
+use Rattle.area_pass.specs.Rows.{spansAt, stretchesAt, freeAt, areaRows, areaAt, Tells}
 use Rattle.mount_state.specs.State.{Safe, Holds}
 use Rattle.mount_state.specs.declared.Mounted.{Mounted}
 use Rattle.write_room.specs.declared.Place.{Place}
@@ -125,17 +123,16 @@ ends-within m t i (suc n) h = go (eqb (getD t (stretchesAt + i) 0) 0) (ends-with
 part-next : (t : List ℕ) (a n : ℕ) → a < length t → part a (suc n) t ≡ getD t a 0 ∷ part (suc a) n t
 part-next t a n h = rw (drop-cons t a 0 h)
 
-module _ (image : Bytes) (t : List ℕ) (i : ℕ) (reading : readingAt t i ≡ readingOf (areaAt image t i)) where
+module _ (image : Bytes) (t : List ℕ) (i : ℕ) (reading : Tells (areaAt image t i) t i) where
   clean-is : eqb (getD t (stretchesAt + i) 0) 0 ≡ areaClean recordSize (areaAt image t i)
-  unfolding readingOf areaClean
-  clean-is = ap (λ (x : Reading). eqb (x .stretches) 0) reading
+  unfolding areaClean
+  clean-is = ap (λ (n : ℕ). eqb n 0) (reading .stretches)
 
   from-is : fromAt t i ≡ getD t i 0 + areaFree recordSize (areaAt image t i)
-  unfolding readingOf
-  from-is = ap (λ (x : Reading). getD t i 0 + x .free) reading
+  from-is = ap (λ (n : ℕ). getD t i 0 + n) (reading .free)
 
 rows-described : (image : Bytes) (t : List ℕ) (i n : ℕ) → areaRows ≤ length t → i + n ≤ mostAreas
-    → ((j : ℕ) → j < i + n → readingAt t j ≡ readingOf (areaAt image t j))
+    → ((j : ℕ) → j < i + n → Tells (areaAt image t j) t j)
     → rowSpaces t i n ≡ spaces image (described (part i n t) (part (spansAt + i) n t))
 unfolding rowSpaces spaces described
 rows-described image t i zero l f e = refl
@@ -161,7 +158,7 @@ module _ {image : Bytes} {m : Mounted} {t : List ℕ} (s : Safe image m t) where
       omega (arith, s .fit .inside i (omega (arith, starts-long)), a, b)
 
   pub safe-rows : AreaRows (m .files) t
-  safe-rows = record { long = omega (arith, s .long); few = s .files-few; ends = λ i h. omega (arith, row-inside i h, s .fit .small); frees = λ i h. s .readings i h .free }
+  safe-rows = record { long = omega (arith, s .long); few = s .files-few; ends = λ i h. omega (arith, row-inside i h, s .fit .small); frees = s .readings }
 
   -- all spaces lie in the image
   pub rows-within : Within (length image) (rowSpaces t 0 (m .files))

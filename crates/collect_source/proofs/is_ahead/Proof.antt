@@ -15,7 +15,7 @@ returns-2 c =
     let t = k .before in
     let s = t .before .before in
     c .precedes .ensures
-    ∙ rw (k .count-at .ensures .is (s .args .span) (s .pre .1))
+    ∙ rw (k .area-count .ensures .is (s .args .span) (s .pre .1))
     (same-length (s .args .image .now) (s .args .wanted) _ (s .args .count) (t .if1 .left))
 
 pub is-ahead-spec : {M : Type 1} → statement M

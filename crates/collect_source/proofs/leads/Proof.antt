@@ -14,7 +14,7 @@ returns-2 c =
     let t = k .before in
     let s = t .before .before .before .before in
     c .none-ahead .ensures
-    ∙ rw (k .count-at .ensures .is (s .args .span) (s .pre .1 .1))
+    ∙ rw (k .area-count .ensures .is (s .args .span) (s .pre .1 .1))
     (leads-if (s .args .image .now) (s .args .wanted) _ _ (t .if1 .left))
 
 pub leads-spec : {M : Type 1} → statement M

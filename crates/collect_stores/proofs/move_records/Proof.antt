@@ -18,7 +18,7 @@ returns c =
     (f .fill-scratch .ensures)
     (w .write-area .ensures)
     (i .area-id .ensures .is (s .args .span) (s .pre .header))
-    (n .next-count .ensures ∙ ap nextCount (k .count-at .ensures .is (s .args .span) (s .pre .header)))
+    (n .next-count .ensures ∙ ap nextCount (k .area-count .ensures .is (s .args .span) (s .pre .header)))
 
 pub move-records-spec : {M : Type 1} → statement M
 move-records-spec =

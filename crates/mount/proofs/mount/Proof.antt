@@ -1,7 +1,11 @@
 -- `mount::mount` meets its contract.
+use Prim.Native.Nat.{_+_, _≤_}
 use mathlib.Core.Path.{_≡_, _∙_}
+use native.Mathlib.Omega.{arith}
 use lib.ListN.{length}
-use Rattle.mount_state.specs.State.{tablesSize}
+use Rattle.table_rows.specs.Parts.{putBack, part-long, put-long}
+use Rattle.table_fill.specs.Parts.{allRows}
+use Rattle.mount_state.specs.State.{tablesSize, inodeIdsAt}
 use Rattle.mount.specs.Mounting.{areas-refused, pass-lent, ready, records-refused, mount-passes}
 use borrow.Author.Needs.{needs}
 use Rattle.mount.proofs.mount.Statement.{statement}
@@ -26,6 +30,17 @@ at-fill k = k .before .before .before
 long : (a : tie.After-check-areas) → length (a .check-areas .last .1 .1 .0) ≡ tablesSize
 long a = a .check-areas .kept .1 .1 .0 ∙ start a .pre .tables-long
 
+-- the tables filled are as long as those lent
+same-tables : (f : tie.After-fill-tables) → let l = at-list f in
+    length (putBack inodeIdsAt allRows (l .list-areas .last .1 .0) (f .fill-tables .last .1 .1 .1 .0)) ≡ length (start (at-areas (at-pass l)) .args .tables .now)
+same-tables f =
+    let l = at-list f in
+    let a = at-areas (at-pass l) in
+    let u = l .list-areas .last .1 .0 in
+    let h : inodeIdsAt + allRows ≤ length u = omega (arith, l .list-areas .kept .1 .0, long a) in
+    put-long inodeIdsAt allRows u (f .fill-tables .last .1 .1 .1 .0) h (f .fill-tables .kept .1 .1 .1 .0 ∙ part-long inodeIdsAt allRows u h)
+    ∙ l .list-areas .kept .1 .0 ∙ a .check-areas .kept .1 .1 .0
+
 returns : tie.Need-returns
 returns c =
     let t = c .before in
@@ -44,7 +59,7 @@ fill-tables-requires c κs =
     let e = at-pass l in
     let a = at-areas e in
     ready _ _ _ _ (long a) (a .check-areas .ensures) (e .if1 .left) _ _ (l .list-areas .last .1 .0) (l .list-areas .ensures .0) (l .list-areas .ensures .1 .0)
-    (l .list-areas .kept .1 .0) (l .list-areas .ensures .1 .1)
+    (l .list-areas .kept .1 .0) (l .list-areas .ensures .1 .1 .0) _ (l .list-areas .ensures .1 .1 .1)
 
 returns-2 : tie.Need-returns-2
 returns-2 c =
@@ -53,18 +68,19 @@ returns-2 c =
     let e = at-pass l in
     let a = at-areas e in
     records-refused _ _ _ _ (long a) (a .check-areas .ensures) (e .if1 .left) _ _ (l .list-areas .last .1 .0) (l .list-areas .ensures .0) (l .list-areas .ensures .1 .0)
-    (l .list-areas .kept .1 .0) (l .list-areas .ensures .1 .1)
+    (l .list-areas .kept .1 .0) (l .list-areas .ensures .1 .1 .0) _ (l .list-areas .ensures .1 .1 .1)
     (f .fill-tables .result) _ (f .fill-tables .ensures) _ (c .refused2 .result) (c .refused2 .ensures) (c .before .if2 .taken)
 
 returns-3 : tie.Need-returns-3
 returns-3 c =
-    let f = at-fill (c .before .before) in
+    let e2 = c .before .before in
+    let f = at-fill (e2 .before) in
     let l = at-list f in
     let e = at-pass l in
     let a = at-areas e in
     mount-passes _ _ _ _ (long a) (a .check-areas .ensures) (e .if1 .left) _ _ (l .list-areas .last .1 .0) (l .list-areas .ensures .0) (l .list-areas .ensures .1 .0)
-    (l .list-areas .kept .1 .0) (l .list-areas .ensures .1 .1)
-    (f .fill-tables .result) _ (f .fill-tables .ensures) (f .fill-tables .kept .1 .1 .1 .0) (c .before .if2 .left) (l .list-areas .kept .1 .1 .1 .0 ∙ start a .pre .places-long)
+    (l .list-areas .kept .1 .0) (l .list-areas .ensures .1 .1 .0) _ (l .list-areas .ensures .1 .1 .1)
+    (f .fill-tables .result) _ (f .fill-tables .ensures) (f .fill-tables .kept .1 .1 .1 .0) (e2 .if2 .left) (l .list-areas .kept .1 .1 .1 .0 ∙ start a .pre .places-long)
 
 pub mount-spec : {M : Type 1} → statement M
 mount-spec =
@@ -80,9 +96,9 @@ mount-spec =
     (λ c. search needs)
     fill-tables-requires
     (λ c κs. search needs)
-    (λ c. search needs)
-    (λ c. search needs)
+    (λ c. same-tables (at-fill (c .before .before)))
+    (λ c. at-list (at-fill (c .before .before)) .list-areas .kept .1 .1 .1 .0)
     returns-2
-    (λ c. search needs)
-    (λ c. search needs)
+    (λ c. same-tables (at-fill (c .before .before .before)))
+    (λ c. at-list (at-fill (c .before .before .before)) .list-areas .kept .1 .1 .1 .0)
     returns-3)

@@ -1,0 +1,2 @@
+-- Damage as the code holds it.
+pub mod Damage
