@@ -99,7 +99,7 @@ enum { NFFS_MOST_AREAS = 16, NFFS_APPEND_MOST = 8192 };
 /* Distinct inode ids, live inodes, damage stretches and their bytes; where the first of these stretches begins in the image, and its
    length, both 0 if there is none. The first is the first of the first damaged file area in the order of the list, which need not be the one
    with the lowest offset. Not seen is what lies in scratch or in an area that is passed over; nor is a page that came back with its previous
-   contents: its checks are right, so it is no damage and has no stretch. */
+   contents, where its checks are right: it is no damage and has no stretch. */
 typedef struct nffs_report_answer {
     uint32_t number;
     uint32_t inodes;

@@ -48,8 +48,7 @@ const SCRATCH: Look = Look {
     rest: '~',
     rest_name: "other",
 };
-const PASSED_OVER: Look =
-    Look { kind: "passed over", json: "none", header: '?', ..SCRATCH };
+const PASSED_OVER: Look = Look { kind: "passed over", json: "none", header: '?', ..SCRATCH };
 
 pub fn map(arguments: &Arguments) -> Result<(), Failure> {
     let at = arguments.number("--at")?;

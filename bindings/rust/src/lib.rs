@@ -104,8 +104,8 @@ pub enum Kind {
 ///
 /// The first damage stretch is the first of the first damaged file area in the order of the list,
 /// which need not be the one with the lowest offset. Not seen is what lies in scratch or in an area
-/// that is passed over; nor is a page that came back with its previous contents: its checks are
-/// right, so it is no damage and has no stretch.
+/// that is passed over; nor is a page that came back with its previous contents, where its checks
+/// are right: it is no damage and has no stretch.
 #[derive(Clone, Copy, Debug, PartialEq, Eq)]
 #[non_exhaustive]
 pub struct Report {
