@@ -12,13 +12,24 @@ use crate::json;
 use crate::page::refusal_json;
 use nffs::{Area, AreaKind, AreaReport, Refusal, Stretch};
 
-/// The characters of a bar. No area has fewer bytes, so that each byte has one character.
+/// The characters of a bar. No area has fewer bytes than this, and each byte falls into one.
 const CELLS: u32 = 64;
 /// The bytes of an area's header.
 const HEADER: u32 = 24;
 const FREE: char = '.';
 const LEGEND: &str = "H header, = records, X damage, . free; in areas that are not read: \
                       ? no valid header, - records, ~ other bytes";
+
+struct Map {
+    image: String,
+    size: usize,
+    at: u64,
+    /// Whether the areas were found by their headers.
+    found: bool,
+    /// Why the volume does not mount.
+    refusal: Option<Refusal>,
+    areas: Vec<Mapped>,
+}
 
 /// An area of the list, its state and its stretches.
 struct Mapped {
@@ -53,62 +64,67 @@ const PASSED_OVER: Look = Look { kind: "passed over", json: "none", header: '?',
 pub fn map(arguments: &Arguments) -> Result<(), Failure> {
     let at = arguments.number("--at")?;
     let image = image_file::load(&arguments.image, at)?;
-    let chosen = take(arguments, &image)?;
-    let mapped = mapped(&image, &chosen.areas).map_err(|refusal| arguments.refused(refusal))?;
-    let refusal = nffs::report(&image, &chosen.areas).err();
-    if let Some(refusal) = refusal {
+    let Chosen { areas, found, .. } = take(arguments, &image)?;
+    let map = Map {
+        image: arguments.image.display().to_string(),
+        size: image.len(),
+        at: at.unwrap_or(0),
+        found,
+        refusal: nffs::report(&image, &areas).err(),
+        areas: mapped(&image, &areas).map_err(|refusal| arguments.refused(refusal))?,
+    };
+    if let Some(refusal) = map.refusal {
         let what = arguments.what();
         say(&format!("{what}: the volume is refused with {refusal}; its areas are shown"));
     }
     let text = match (arguments.given("--json"), arguments.given("--stretches")) {
-        (true, _) => page(arguments, image.len(), &chosen, refusal, &mapped)?,
-        (false, true) => mapped.iter().flat_map(Mapped::damage).map(stretch_line).collect(),
-        (false, false) => lines(&mapped),
+        (true, _) => map.json(),
+        (false, true) => map.stretches(),
+        (false, false) => map.text(),
     };
     print(text.as_bytes())?;
-    refusal.map_or(Ok(()), |_| Err(Failure::Unmounted))
+    map.refusal.map_or(Ok(()), |_| Err(Failure::Unmounted))
 }
 
-/// The areas up to the list's end, which the calls know; refused where the list is not good.
+/// The areas of a list; refused where it is not good, or empty.
 fn mapped(image: &[u8], areas: &[Area]) -> Result<Vec<Mapped>, Refusal> {
     nffs::area_report(image, areas, 0, 0)?;
     let one = |(area, index): (&Area, u32)| {
-        let report = nffs::area_report(image, areas, index, 0).ok()?;
-        let stretches = nffs::stretches(image, areas, index).ok()?.collect();
-        Some(Mapped { area: *area, report, stretches })
+        Ok(Mapped {
+            area: *area,
+            report: nffs::area_report(image, areas, index, 0)?,
+            stretches: nffs::stretches(image, areas, index)?.collect(),
+        })
     };
-    Ok(areas.iter().zip(0..).map_while(one).collect())
+    areas.iter().zip(0..).map(one).collect()
 }
 
-fn stretch_line((offset, length): (u32, u32)) -> String {
-    format!("{offset}+{length}\n")
-}
+impl Map {
+    fn text(&self) -> String {
+        let head = format!(
+            "{:<11}  {:<11}  {:>3}  {:>5}  {:>7}  {:>5}  {:>5}",
+            "area", "kind", "id", "count", "records", "free", "rest"
+        );
+        let lines: String = self.areas.iter().map(|area| area.line() + "\n").collect();
+        format!("{head}\n{lines}{LEGEND}\n")
+    }
 
-fn lines(mapped: &[Mapped]) -> String {
-    let head = format!(
-        "{:<11}  {:<11}  {:>3}  {:>5}  {:>7}  {:>5}  {:>5}",
-        "area", "kind", "id", "count", "records", "free", "rest"
-    );
-    let lines: String = mapped.iter().map(|area| area.line() + "\n").collect();
-    format!("{head}\n{lines}{LEGEND}\n")
-}
+    fn stretches(&self) -> String {
+        let places = self.areas.iter().flat_map(Mapped::damage);
+        places.map(|(offset, length)| format!("{offset}+{length}\n")).collect()
+    }
 
-fn page(
-    arguments: &Arguments,
-    size: usize,
-    chosen: &Chosen,
-    refusal: Option<Refusal>,
-    mapped: &[Mapped],
-) -> Result<String, Failure> {
-    Ok(json::page(&[
-        ("image", json::text(&arguments.image.display().to_string())),
-        ("at", arguments.number("--at")?.unwrap_or(0).to_string()),
-        ("size", size.to_string()),
-        ("status", u8::from(refusal.is_some()).to_string()),
-        ("refusal", refusal_json(refusal.as_ref())),
-        ("found", chosen.found.to_string()),
-        ("areas", json::list(mapped.iter().map(Mapped::json))),
-    ]))
+    fn json(&self) -> String {
+        json::page(&[
+            ("image", json::text(&self.image)),
+            ("at", self.at.to_string()),
+            ("size", self.size.to_string()),
+            ("status", u8::from(self.refusal.is_some()).to_string()),
+            ("refusal", refusal_json(self.refusal.as_ref())),
+            ("found", self.found.to_string()),
+            ("areas", json::list(self.areas.iter().map(Mapped::json))),
+        ])
+    }
 }
 
 impl Mapped {

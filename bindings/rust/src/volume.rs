@@ -20,6 +20,10 @@ use crate::{Area, AreaReport, Found, Given, Handle, Kind, Refusal, Report, Stret
 /// let mut buffer = [0; 64];
 /// let given = volume.read(&mut file, &mut buffer)?;
 /// assert_eq!(&buffer[..given.bytes], b"20 mSv");
+///
+/// // root, file and block, and no damage
+/// assert_eq!(volume.area_report(1, 0)?.records, 3);
+/// assert_eq!(volume.stretches(1)?.len(), 0);
 /// # Ok::<(), nffs::Refusal>(())
 /// ```
 #[derive(Clone, Copy, Debug)]

@@ -235,27 +235,25 @@ fn an_area_that_is_passed_over_is_shown_and_is_no_damage() {
 #[test]
 fn volumes_that_do_not_mount() {
     let folder = Folder::new("map_refused");
-    for (number, image, _) in cases(&folder).into_iter().filter(|case| (2..=7).contains(&case.0)) {
+    for (number, mut image, _) in cases(&folder) {
+        if !(2..=7).contains(&number) {
+            continue;
+        }
         folder.write("image", &image);
         let (_, said) = run(&folder, &["map", "image", "-q"], 1);
         let start = format!("nffs: map image: the volume is refused with {number}, ");
         assert!(said.starts_with(&start) && said.lines().count() == 1, "{said}");
-        let lines = lines(&folder, &[], 1);
-        assert!(
-            lines.len() >= number.min(2) as usize / 2
-                && lines.iter().all(|l| !bar(l).contains('X'))
-        );
+        let lines_of = lines(&folder, &[], 1);
+        assert!(!lines_of.is_empty() && lines_of.iter().all(|line| !bar(line).contains('X')));
         assert!(stretches(&folder, &[], 1).is_empty());
-        // damage is shown all the same
-        let mut damaged = image.clone();
-        let end = damaged.len() - 1;
-        damaged[end] ^= 1;
-        folder.write("image", &damaged);
-        let listed = stretches(&folder, &[], 1);
-        let is_file_area = number != 4;
-        assert_eq!(listed.len(), usize::from(is_file_area), "{number}: {listed:?}");
-        let shown = run(&folder, &["map", "image"], 1).0;
-        assert_eq!(shown.contains(if is_file_area { "X\n" } else { "~\n" }), true, "{shown}");
+
+        // damage is shown all the same; in one of the images the last area is scratch
+        *image.last_mut().unwrap() ^= 1;
+        folder.write("image", &image);
+        let is_scratch = number == 4;
+        let last = lines(&folder, &[], 1).pop().unwrap();
+        assert!(last.ends_with(if is_scratch { '~' } else { 'X' }), "{number}: {last}");
+        assert_eq!(stretches(&folder, &[], 1).len(), usize::from(!is_scratch), "{number}");
     }
 }
 

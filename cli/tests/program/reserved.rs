@@ -2,7 +2,7 @@
 
 use crate::check::page;
 use crate::folder::{finish, Folder};
-use crate::records::{header, image, inode, inode_with, NONE};
+use crate::records::{block, header, image, inode, inode_with, NONE};
 use std::process::Command;
 
 const FILE: u32 = 0x1000_0000;
@@ -351,6 +351,11 @@ fn no_hint_where_there_is_nothing() {
     clean(scratch.clone(), 0);
     scratch[ROOT] = 0;
     clean(scratch, 1);
+    // without a root, but in an area that a call finds clean: in the data of a block
+    let mut held = image(&[]);
+    let block = block(0x8000_0000, FILE, &inode_with(1, FILE, 0, 0, b"dose"));
+    held[ROOT..ROOT + block.len()].copy_from_slice(&block);
+    clean(held, 1);
 }
 
 #[test]
