@@ -111,6 +111,7 @@ check("the refusals, C and Rust", [(n, i, said.get(n)) for n, i in numbers.items
 
 kinds = re.findall(r"NFFS_AREA_(\w+) = (\d+)\b", bare)
 rust_kinds = re.search(r"pub enum AreaKind \{(.*?)\n\}", crate, re.S).group(1)
+check("the kinds of areas, C", re.findall(r"pub const AREA_(\w+): u32 = (\d+);", answers), kinds)
 check("the kinds of areas, C and Rust", [(n.replace("_", ""), i) for n, i in kinds], [(n.upper(), i) for n, i in re.findall(r"(\w+) = (\d+),", rust_kinds)])
 sizes = {c: 4 * len(fields(answers, RUST_STRUCT, name)) for name, (c, _) in STRUCTS.items()}
 check("the sizes of structs, docs/LINKING.md", sizes, {c: int(n) for n, c in re.findall(r"^\| [^|]+ \| (\d+) \| `(nffs_\w+)` \|", linking, re.M)})
