@@ -72,8 +72,8 @@ static bool reads_as(const nffs_volume *flash, const uint8_t table[TABLE_BYTES])
 
 static bool show(const nffs_volume *flash) {
     const nffs_report_answer report = nffs_volume_report(flash);
-    printf("report: inodes %" PRIu32 " live %" PRIu32 " stretches %" PRIu32 " skipped %" PRIu32 "\n", report.inodes, report.live,
-           report.stretches, report.skipped);
+    printf("report: inodes %" PRIu32 " live %" PRIu32 " stretches %" PRIu32 " skipped %" PRIu32 " first %" PRIu32 "+%" PRIu32 "\n",
+           report.inodes, report.live, report.stretches, report.skipped, report.first_offset, report.first_length);
     return report.number == NFFS_OK;
 }
 

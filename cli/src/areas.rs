@@ -137,7 +137,7 @@ pub fn choose(arguments: &Arguments, image: &[u8]) -> Result<Chosen, Failure> {
 
 /// The same; which areas were found is said, a header that was left out is warned of, and reserved
 /// bytes that are not 0 are hinted at.
-fn take(arguments: &Arguments, image: &[u8]) -> Result<Chosen, Failure> {
+pub fn take(arguments: &Arguments, image: &[u8]) -> Result<Chosen, Failure> {
     let chosen = choose(arguments, image)?;
     warn(&chosen.left_out);
     Hints::of_a_run(image, &chosen).say();

@@ -11,8 +11,11 @@ pub const USAGE: &str = "\
 usage: nffs COMMAND IMAGE [WORDS] [OPTIONS]
 
   check IMAGE [--json]        a page on the volume: whether it mounts, areas, files, damage
+  map IMAGE [--json]          what each area holds, one line with a bar for each; or
+      [--stretches]           every damage stretch, as OFFSET+LENGTH, one a line
   areas IMAGE                 the areas whose valid headers are seen, as --areas takes them
-  report IMAGE                mount, and count inodes, live ones, damage and its bytes
+  report IMAGE                mount, count inodes, live ones, damage and its bytes, and where the
+                              first of it is, as OFFSET+LENGTH
   lookup IMAGE PATH           kind and id (hexadecimal) of what PATH leads to
   cat IMAGE PATH              write a file to standard output; from --from on, --length bytes
   export IMAGE FOLDER [PATH]  copy what lies below PATH, or all, into FOLDER
@@ -50,7 +53,7 @@ pub struct Command {
 }
 
 /// The options, whether a value follows, and whether every command takes them.
-const OPTIONS: [(&str, bool, bool); 10] = [
+const OPTIONS: [(&str, bool, bool); 11] = [
     ("--areas", true, true),
     ("--at", true, true),
     ("--quiet", false, true),
@@ -60,6 +63,7 @@ const OPTIONS: [(&str, bool, bool); 10] = [
     ("--replace", false, false),
     ("--force", false, false),
     ("--json", false, false),
+    ("--stretches", false, false),
     ("--help", false, true),
 ];
 

@@ -4,12 +4,12 @@
 //! all of it is answered by the calls. Only the headers of areas, the names that are asked for, the
 //! names of orphans and what hints are about are read here (`areas`, `records`, `reserved`).
 
-use crate::areas::{choose, header, Header};
+use crate::areas::{choose, header};
 use crate::arguments::Arguments;
 use crate::console::print;
 use crate::failure::Failure;
 use crate::image_file;
-use crate::page::{Gone, Mounted, Page, Row};
+use crate::page::{rows, Gone, Mounted, Page};
 use crate::records::{candidates, is_each_once, Candidate};
 use crate::reserved::Hints;
 use crate::tree::tree;
@@ -21,8 +21,8 @@ pub fn check(arguments: &Arguments) -> Result<(), Failure> {
     let image = image_file::load(&arguments.image, at)?;
     let chosen = choose(arguments, &image)?;
     let mounted = mounted(&image, &chosen.areas);
-    let rows = rows(&image, &chosen.areas, mounted.is_ok());
-    let hints = Hints::of_a_page(&image, &chosen, &rows);
+    let rows = rows(&image, &chosen.areas);
+    let hints = Hints::of(&image, &chosen, &rows);
     let page = Page {
         image: arguments.image.display().to_string(),
         size: image.len(),
@@ -84,31 +84,4 @@ fn orphans(image: &[u8], areas: &[Area], number: u32) -> Vec<Candidate> {
     } else {
         Vec::new()
     }
-}
-
-/// The areas with their damage. A report counts it over all file areas, so that of one area is what
-/// a report of it beside scratch and the root's area counts more than one of these two alone.
-fn rows(image: &[u8], areas: &[Area], mounts: bool) -> Vec<Row> {
-    let headers: Vec<_> = areas.iter().map(|a| (*a, header(image, *a))).collect();
-    let of = |scratch: bool| {
-        headers.iter().filter_map(move |(a, h)| h.filter(|h| h.is_scratch() == scratch).map(|_| *a))
-    };
-    let pairs = of(true).flat_map(|s| of(false).map(move |f| [s, f]));
-    let least = pairs.filter(|_| mounts).find_map(|p| nffs::report(image, &p).ok().map(|r| (p, r)));
-    let damage = |area: Area, header: &Header| {
-        let (pair, alone) = least.as_ref()?;
-        let with = match (header.is_scratch(), area == pair[1]) {
-            (true, _) => return None,
-            (false, true) => return Some((alone.stretches, alone.skipped)),
-            (false, false) => nffs::report(image, &[pair[0], pair[1], area]).ok()?,
-        };
-        let more = with.stretches.checked_sub(alone.stretches);
-        more.zip(with.skipped.checked_sub(alone.skipped))
-    };
-    let row = |(area, header): &(Area, Option<Header>)| Row {
-        area: *area,
-        header: *header,
-        damage: header.as_ref().and_then(|h| damage(*area, h)),
-    };
-    headers.iter().map(row).collect()
 }

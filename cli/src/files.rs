@@ -49,14 +49,14 @@ pub fn areas_seen(arguments: &Arguments) -> Result<(), Failure> {
     print(format!("{}\n", areas::list(&chosen.areas)).as_bytes())
 }
 
-/// Prints as document 01's program does, and on a refusal only the first line.
+/// Prints as document 01's program does, as amended, and on a refusal only the first line.
 pub fn report(arguments: &Arguments) -> Result<(), Failure> {
     let (image, areas) = open(arguments)?;
     match nffs::report(&image, &areas) {
         Ok(r) => print(
             format!(
-                "mount 0\ninodes {} live {} stretches {} skipped {}\n",
-                r.inodes, r.live, r.stretches, r.skipped
+                "mount 0\ninodes {} live {} stretches {} skipped {} first {}+{}\n",
+                r.inodes, r.live, r.stretches, r.skipped, r.first_offset, r.first_length
             )
             .as_bytes(),
         ),

@@ -1,4 +1,4 @@
-//! JSON, as far as a check needs it.
+//! JSON, as far as a check or a map needs it.
 
 /// A text in quotes; all but printable ASCII by number.
 pub fn text(text: &str) -> String {
@@ -29,6 +29,13 @@ pub fn object(fields: &[(&str, String)]) -> String {
     let fields: Vec<_> =
         fields.iter().map(|(name, value)| format!("\"{name}\": {value}")).collect();
     format!("{{{}}}", fields.join(", "))
+}
+
+/// The outermost object, one field a line.
+pub fn page(fields: &[(&str, String)]) -> String {
+    let lines: Vec<_> =
+        fields.iter().map(|(name, value)| format!("\n  \"{name}\": {value}")).collect();
+    format!("{{{}\n}}\n", lines.join(","))
 }
 
 /// A list, one element a line.

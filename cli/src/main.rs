@@ -10,6 +10,7 @@ mod files;
 mod folders;
 mod image_file;
 mod json;
+mod map;
 mod page;
 mod records;
 mod reserved;
@@ -24,8 +25,9 @@ use std::process::ExitCode;
 
 /// The commands: how many words follow the image, their own options, what they do.
 #[rustfmt::skip]
-static COMMANDS: [Command; 13] = [
+static COMMANDS: [Command; 14] = [
     Command { name: "check", words: (0, 0), options: &["--json"], run: check::check },
+    Command { name: "map", words: (0, 0), options: &["--json", "--stretches"], run: map::map },
     Command { name: "areas", words: (0, 0), options: &[], run: files::areas_seen },
     Command { name: "report", words: (0, 0), options: &[], run: files::report },
     Command { name: "lookup", words: (1, 1), options: &[], run: files::lookup },

@@ -1,19 +1,20 @@
 //! The page of `check`, for a person or as JSON; docs/DESK.md has its fields.
 
 use crate::advice;
-use crate::areas::{list, Chosen, Header};
+use crate::areas::{header, list, Chosen, Header};
 use crate::console::{count, shown};
 use crate::json;
 use crate::records::Candidate;
 use crate::reserved::Hints;
 use crate::tree::{Entry, Tree, What};
-use nffs::{Area, Refusal, Report};
+use nffs::{Area, AreaKind, Refusal, Report};
 use std::fmt::Write;
 
 const DAMAGE: &str = "\
 Damage: bytes that no record holds, torn or worn. Of what stood there an older version may count,
   or something deleted be back: compare with what you expect. Nothing is written to a damaged area;
-  `nffs collect` clears the area that it collects, which is never one shorter than scratch.";
+  `nffs collect` clears the area that it collects, which is never one shorter than scratch.
+  `nffs map` shows where it lies.";
 const BROKEN: &str = "\
 Broken: blocks of the file are lost. `nffs put IMAGE PATH FILE --replace` stores it anew, `nffs rm`
   unlinks it.";
@@ -29,6 +30,21 @@ pub struct Row {
     pub area: Area,
     pub header: Option<Header>,
     pub damage: Option<(u32, u32)>,
+}
+
+/// The areas of a list, each with its header and, if it is a file area, its damage; no damage is
+/// known where the list is not good.
+pub fn rows(image: &[u8], areas: &[Area]) -> Vec<Row> {
+    let damage = |index: u32| {
+        let report = nffs::area_report(image, areas, index, 0).ok()?;
+        (report.kind == AreaKind::File).then_some((report.stretches, report.skipped))
+    };
+    let row = |(area, index): (&Area, u32)| Row {
+        area: *area,
+        header: header(image, *area),
+        damage: damage(index),
+    };
+    areas.iter().zip(0..).map(row).collect()
 }
 
 /// What became of the inodes that are not live.
@@ -108,20 +124,12 @@ impl Page {
     }
 
     pub fn json(&self) -> String {
-        let refusal = match &self.mounted {
-            Ok(_) => "null".to_string(),
-            Err(refusal) => json::object(&[
-                ("number", refusal.number().to_string()),
-                ("meaning", json::text(refusal.meaning())),
-                ("advice", json::text(advice::of(*refusal).map_or("", |(words, _)| words))),
-            ]),
-        };
         let mut fields = vec![
             ("image", json::text(&self.image)),
             ("at", self.at.to_string()),
             ("size", self.size.to_string()),
             ("status", self.status().to_string()),
-            ("refusal", refusal),
+            ("refusal", refusal_json(self.mounted.as_ref().err())),
             ("found", self.chosen.found.to_string()),
             ("areas", json::list(self.rows.iter().map(Row::json))),
             ("left_out", json::list(self.chosen.left_out.iter().map(|a| json::object(&place(*a))))),
@@ -130,10 +138,18 @@ impl Page {
         if let Ok(volume) = &self.mounted {
             fields.extend(volume.json());
         }
-        let lines: Vec<_> =
-            fields.iter().map(|(name, value)| format!("\n  \"{name}\": {value}")).collect();
-        format!("{{{}\n}}\n", lines.join(","))
+        json::page(&fields)
     }
+}
+
+/// Why a volume does not mount; null where it does.
+pub fn refusal_json(refusal: Option<&Refusal>) -> String {
+    let Some(refusal) = refusal else { return "null".into() };
+    json::object(&[
+        ("number", refusal.number().to_string()),
+        ("meaning", json::text(refusal.meaning())),
+        ("advice", json::text(advice::of(*refusal).map_or("", |(words, _)| words))),
+    ])
 }
 
 fn place(area: Area) -> [(&'static str, String); 2] {
@@ -203,7 +219,11 @@ impl Mounted {
                 let _ = write!(text, ", {} deleted or orphans", r.inodes - r.live);
             }
         }
-        let _ = write!(text, "\ndamage: {}\n", damage(r.stretches, r.skipped));
+        let _ = write!(text, "\ndamage: {}", damage(r.stretches, r.skipped));
+        if r.stretches > 0 {
+            let _ = write!(text, ", first {}+{}", r.first_offset, r.first_length);
+        }
+        text.push('\n');
         for entry in &self.tree.entries {
             let _ = writeln!(text, "  {}", entry.text());
         }
@@ -238,6 +258,8 @@ impl Mounted {
             ("orphans", json::number(self.gone.orphans)),
             ("stretches", r.stretches.to_string()),
             ("skipped", r.skipped.to_string()),
+            ("first_offset", r.first_offset.to_string()),
+            ("first_length", r.first_length.to_string()),
             ("entries", json::list(self.tree.entries.iter().map(Entry::json))),
             ("ambiguous", json::list(paths)),
             ("unreached", self.unreached.to_string()),

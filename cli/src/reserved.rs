@@ -4,12 +4,12 @@
 //! A hint is from the bytes alone and states nothing of the volume: what it is about may lie in a
 //! file, or belong to another volume. That is for whoever reads it to say.
 
-use crate::areas::{header, Chosen, Header, Placed};
+use crate::areas::{Chosen, Header, Placed};
 use crate::console::{say, shown};
 use crate::json;
-use crate::page::{path_fields, Row};
+use crate::page::{path_fields, rows, Row};
 use crate::records::{reserved_records, ReservedRecord};
-use nffs::{Area, Refusal};
+use nffs::Refusal;
 
 const NONE: u32 = 0xffff_ffff;
 /// So many headers, and so many records, are shown one by one; JSON has all.
@@ -30,20 +30,19 @@ pub struct Hints {
 impl Hints {
     /// Of a run: headers, and records where it is the root's that is not read.
     pub fn of_a_run(image: &[u8], chosen: &Chosen) -> Hints {
-        let rootless = nffs::report(image, &chosen.areas) == Err(Refusal::NO_ROOT);
-        let areas = chosen.areas.iter().filter(|a| rootless && is_file_area(header(image, **a)));
-        Hints::new(image, chosen, areas.copied().collect())
+        match nffs::report(image, &chosen.areas) {
+            Err(Refusal::NO_ROOT) => Hints::of(image, chosen, &rows(image, &chosen.areas)),
+            _ => Hints::of(image, chosen, &[]),
+        }
     }
 
-    /// Of a page: headers, and records of all file areas that no call has found clean. In a clean
-    /// one every byte is a record's or free, so what looks like such a record is a part of others.
-    pub fn of_a_page(image: &[u8], chosen: &Chosen, rows: &[Row]) -> Hints {
+    /// Headers, and records of those of these areas that are file areas and that no call has found
+    /// clean. In a clean one every byte is a record's or free, so what looks like such a record is a
+    /// part of others.
+    pub fn of(image: &[u8], chosen: &Chosen, rows: &[Row]) -> Hints {
         let is_unclean = |row: &&Row| !matches!(row.damage, Some((0, _)));
-        let areas = rows.iter().filter(|row| is_file_area(row.header)).filter(is_unclean);
-        Hints::new(image, chosen, areas.map(|row| row.area).collect())
-    }
-
-    fn new(image: &[u8], chosen: &Chosen, areas: Vec<Area>) -> Hints {
+        let unclean = rows.iter().filter(|row| is_file_area(row.header)).filter(is_unclean);
+        let areas: Vec<_> = unclean.map(|row| row.area).collect();
         let mut records = reserved_records(image, &areas);
         // the root's first: without it nothing is read
         records.sort_by_key(|record| (record.id != 0, record.offset));

@@ -1,10 +1,10 @@
 /* What docs/LINKING.md, 10 and 11, says besides its table: what appends use up, how long an area must be for two blocks, areas of several lengths,
-   which area is collected, and headers whose reserved byte is not 0. */
+   which area is collected, and headers whose reserved byte is not 0. What an area is and how often it was collected is asked of its report. */
 #include "nffs.h"
 
 #include <stdio.h>
 
-enum { MOST = 65536, COUNT_AT = 21, RESERVED_AT = 22, ID_AT = 23, SCRATCH = 255 };
+enum { MOST = 65536, COUNT_AT = 21, RESERVED_AT = 22 };
 static uint8_t image[MOST];
 static uint8_t data[NFFS_APPEND_MOST];
 static nffs_area areas[NFFS_MOST_AREAS];
@@ -53,8 +53,8 @@ static int in_turn(const nffs_volume *flash, unsigned collections, size_t first,
     int good = 1;
     while (collections-- > 0) {
         good &= nffs_volume_collect(flash) == NFFS_OK;
-        for (size_t i = 0; i < flash->areas_count; i++) {
-            turns[i] += image[areas[i].offset + ID_AT] == SCRATCH;
+        for (uint32_t i = 0; i < flash->areas_count; i++) {
+            turns[i] += nffs_volume_area_report(flash, i, 0).kind == NFFS_AREA_SCRATCH;
         }
         for (size_t i = 0; i < first * first; i++) {
             good &= turns[i / first] <= turns[i % first] + 1;
@@ -86,9 +86,12 @@ static void turns(void) {
 static void reserved(void) {
     const nffs_volume flash = formatted((const uint32_t[]){1024, 1024, 1024}, 3);
     image[areas[2].offset + RESERVED_AT] = 1;
+    const nffs_area_answer other = nffs_volume_area_report(&flash, 2, 0);
+    check("its report says so, and nothing of its header", other.kind == NFFS_AREA_PASSED_OVER && other.id == 0 && other.free == 1000);
     needs("a file is created", nffs_volume_create(&flash, NULL, "/a", NFFS_FILE).number == NFFS_OK);
     check("an area that is passed over has no room", nffs_volume_append(&flash, NULL, "/a", data, 1000) == NFFS_NO_ROOM);
     image[areas[2].offset + RESERVED_AT] = 0;
+    check("without the byte it is a file area", nffs_volume_area_report(&flash, 2, 0).kind == NFFS_AREA_FILE);
     check("and one that is not has", nffs_volume_append(&flash, NULL, "/a", data, 1000) == NFFS_OK);
     for (size_t i = 0; i < 2; i++) {
         const nffs_volume pair = formatted((const uint32_t[]){1024, 1024}, 2);
@@ -113,8 +116,8 @@ int main(void) {
     for (int i = 0; i < 12; i++) {
         good &= nffs_volume_collect(&one_short) == NFFS_OK;
     }
-    for (size_t i = 0; i < 4; i++) {
-        good &= image[areas[i].offset + COUNT_AT] == (i == 2 ? 0 : 4);
+    for (uint32_t i = 0; i < 4; i++) {
+        good &= nffs_volume_area_report(&one_short, i, 0).count == (i == 2 ? 0 : 4);
     }
     check("a shorter one is never collected", good);
     turns();

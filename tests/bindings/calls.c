@@ -42,6 +42,12 @@ static int all(const uint8_t *bytes, size_t length, uint8_t value) {
     return 1;
 }
 
+/* An area's answer, field by field as the header has them. */
+static int is_area(const nffs_area_answer *a, const uint32_t *expected) {
+    const uint32_t fields[] = {a->number, a->kind, a->id, a->count, a->records, a->stretches, a->skipped, a->free, a->offset, a->length};
+    return memcmp(fields, expected, sizeof fields) == 0;
+}
+
 /* Each answer between guards: an answer longer or shorter than the header says would show. */
 static void layouts(void) {
     struct {
@@ -53,8 +59,20 @@ static void layouts(void) {
     report.answer = nffs_report(image, sizeof image, areas, 2);
     CHECK(report.answer.number == NFFS_OK && report.answer.inodes == 1 && report.answer.live == 1);
     CHECK(report.answer.stretches == 0 && report.answer.skipped == 0);
+    CHECK(report.answer.first_offset == 0 && report.answer.first_length == 0);
     CHECK(all((const uint8_t *)report.before, sizeof report.before, 0xa5));
     CHECK(all((const uint8_t *)report.after, sizeof report.after, 0xa5));
+
+    struct {
+        uint32_t before[4];
+        nffs_area_answer answer;
+        uint32_t after[4];
+    } area;
+    memset(&area, 0xa5, sizeof area);
+    area.answer = nffs_area_report(image, sizeof image, areas, 2, 1, 0);
+    CHECK(is_area(&area.answer, (const uint32_t[]){NFFS_OK, NFFS_AREA_FILE, 0, 0, 1, 0, 0, SIZE - 44, 0, 0}));
+    CHECK(all((const uint8_t *)area.before, sizeof area.before, 0xa5));
+    CHECK(all((const uint8_t *)area.after, sizeof area.after, 0xa5));
 
     const nffs_lookup_answer root =
         nffs_lookup(image, sizeof image, areas, 2, (const uint8_t *)"", 0, (const uint8_t *)"/", 1);
@@ -76,6 +94,8 @@ static uint32_t number_of(int call, const nffs_area *list, size_t count) {
     case 6: return nffs_append(image, sizeof image, list, count, path, 0, path, 1, &byte, 0);
     case 7: return nffs_unlink(image, sizeof image, list, count, path, 0, path, 1);
     case 8: return nffs_collect(image, sizeof image, list, count);
+    case 9: return nffs_area_report(image, sizeof image, list, count, 0, 0).number;
+    case 10: return nffs_area_report(image, sizeof image, list, count, 1, 0).number;
     default: return nffs_format(image, sizeof image, list, count);
     }
 }
@@ -101,7 +121,12 @@ static void area_lists(void) {
         }
         if (expected != NFFS_OK) {
             CHECK(number_of(8, list, MOST) == expected && number_of(8, list, end) == expected);
-            CHECK(number_of(9, list, MOST) == expected && number_of(9, list, end) == expected);
+            CHECK(number_of(11, list, MOST) == expected && number_of(11, list, end) == expected);
+        }
+        /* of the check for 3 an area's report knows nothing; a list of one entry has no second */
+        for (int call = 9; call < 11; call++) {
+            const uint32_t number = expected == NFFS_NO_FILE_OR_SCRATCH ? (call == 9 ? NFFS_OK : NFFS_BAD_AREAS) : expected;
+            CHECK(number_of(call, list, MOST) == number && number_of(call, list, end) == number);
         }
         CHECK(same());
     }
@@ -118,6 +143,9 @@ static void area_lists(void) {
         CHECK(nffs_report(wide, sizeof wide, list, count).number == expected);
     }
     CHECK(nffs_report(wide, sizeof wide, list, NFFS_MOST_AREAS).number == NFFS_OK);
+    CHECK(nffs_area_report(wide, sizeof wide, list, NFFS_MOST_AREAS, NFFS_MOST_AREAS - 1, 0).number == NFFS_OK);
+    CHECK(nffs_area_report(wide, sizeof wide, list, NFFS_MOST_AREAS, NFFS_MOST_AREAS, 0).number == NFFS_BAD_AREAS);
+    CHECK(nffs_area_report(wide, sizeof wide, list, NFFS_MOST_AREAS + 1, 0, 0).number == NFFS_BAD_AREAS);
     CHECK(nffs_collect(wide, sizeof wide, list, NFFS_MOST_AREAS + 1) == NFFS_BAD_AREAS);
     list[NFFS_MOST_AREAS].length = 0;
     CHECK(nffs_report(wide, sizeof wide, list, MOST).number == NFFS_OK && nffs_collect(wide, sizeof wide, list, MOST) == NFFS_OK);
@@ -128,6 +156,7 @@ static void empty_slices(void) {
     nffs_handle handle = {3, 4};
     CHECK(nffs_volume_format(&nothing) == NFFS_BAD_AREAS);
     CHECK(nffs_volume_report(&nothing).number == NFFS_BAD_AREAS);
+    CHECK(nffs_volume_area_report(&nothing, 0, 0).number == NFFS_BAD_AREAS);
     CHECK(nffs_volume_lookup(&nothing, NULL, NULL).number == NFFS_BAD_AREAS);
     CHECK(nffs_volume_open(&nothing, NULL, NULL, &handle) == NFFS_BAD_AREAS);
     CHECK(nffs_volume_read(&nothing, &handle, NULL, 0).number == NFFS_BAD_AREAS);
@@ -186,13 +215,63 @@ static void bench(void) {
     image[SIZE + 70] ^= 1;
     const nffs_report_answer broken = nffs_volume_report(&flash);
     CHECK(broken.number == NFFS_OK && broken.stretches == 1 && broken.skipped == 34);
+    CHECK(broken.first_offset == SIZE + 65 && broken.first_length == 34);
     CHECK(nffs_volume_read_at(&flash, 0x10000000, 0, data, 1).number == NFFS_BROKEN);
     image[SIZE + 70] ^= 1;
     image[SIZE + 103] ^= 1;
     const nffs_report_answer shorter = nffs_volume_report(&flash);
     CHECK(shorter.number == NFFS_OK && shorter.stretches == 1 && shorter.skipped == 29);
+    CHECK(shorter.first_offset == SIZE + 99 && shorter.first_length == 29);
     CHECK(nffs_volume_read_at(&flash, 0x10000000, 0, data, sizeof data).given == 10);
     image[SIZE + 103] ^= 1;
+}
+
+/* The same area by itself: its damage, its two stretches, and what else it may be. */
+static void area_reports(void) {
+    image[SIZE + 50] ^= 1;
+    image[SIZE + 103] ^= 1;
+    static const uint32_t second[] = {NFFS_OK, NFFS_AREA_FILE, 0, 0, 2, 2, 50, SIZE - 128, 99, 29};
+    uint32_t answer[10];
+    memcpy(answer, second, sizeof answer);
+    const nffs_area_answer last = nffs_volume_area_report(&flash, 1, 1);
+    CHECK(is_area(&last, answer));
+    answer[8] = 44;
+    answer[9] = 21;
+    const nffs_area_answer first = nffs_volume_area_report(&flash, 1, 0);
+    CHECK(is_area(&first, answer));
+    answer[8] = answer[9] = 0;
+    for (int i = 0; i < 2; i++) {
+        const nffs_area_answer none = nffs_volume_area_report(&flash, 1, i == 0 ? 2 : UINT32_MAX);
+        CHECK(is_area(&none, answer));
+    }
+    /* the last area's damage is the report's first if its descriptor is, too */
+    const nffs_area turned[] = {areas[1], areas[0]};
+    CHECK(nffs_report(image, sizeof image, turned, 2).first_offset == SIZE + 44);
+    CHECK(nffs_area_report(image, sizeof image, turned, 2, 0, 0).offset == 44);
+
+    /* without a valid header nothing mounts; the bytes are told all the same, but nothing of the header */
+    image[SIZE] ^= 1;
+    CHECK(nffs_volume_report(&flash).number == NFFS_NO_FILE_OR_SCRATCH && nffs_volume_report(&flash).first_length == 0);
+    answer[1] = NFFS_AREA_PASSED_OVER;
+    const nffs_area_answer passed_over = nffs_volume_area_report(&flash, 1, UINT32_MAX);
+    CHECK(is_area(&passed_over, answer));
+    image[SIZE] ^= 1;
+
+    /* what lies in scratch is no damage */
+    image[50] = 0;
+    const nffs_area_answer scratch = nffs_volume_area_report(&flash, 0, 0);
+    CHECK(is_area(&scratch, (const uint32_t[]){NFFS_OK, NFFS_AREA_SCRATCH, 255, 0, 0, 1, 27, SIZE - 51, 24, 27}));
+    CHECK(nffs_volume_report(&flash).stretches == 2 && nffs_volume_report(&flash).first_offset == SIZE + 44);
+    image[50] = 0xff;
+
+    static const uint32_t beyond[] = {2, 16, 17, UINT32_MAX};
+    for (size_t i = 0; i < sizeof beyond / sizeof beyond[0]; i++) {
+        const nffs_area_answer refused = nffs_volume_area_report(&flash, beyond[i], 0);
+        CHECK(is_area(&refused, (const uint32_t[10]){NFFS_BAD_AREAS}));
+    }
+    image[SIZE + 50] ^= 1;
+    image[SIZE + 103] ^= 1;
+    CHECK(same());
 }
 
 static void reads(void) {
@@ -245,6 +324,7 @@ int main(void) {
     empty_slices();
     paths();
     bench();
+    area_reports();
     reads();
     collection();
     meanings();

@@ -1,10 +1,12 @@
-"""`nffs check --json` on volumes made by chance, beside document 01's rules on records, fates and damage, as amended (T-14), read a second time.
+"""`nffs check --json` and `nffs map` on volumes made by chance, beside document 01's rules on records, fates and damage, as amended (T-08, T-14),
+read a second time.
 
     check.py PROGRAM [COUNT]
 
-What is live, deleted or an orphan, where it stands, how much is damaged in which area, and which reserved bytes are hinted at. Volumes hold several
-versions, missing and looping parents, equal records in two areas, damaged bits, areas shorter than scratch, and headers and inodes whose reserved
-byte is not 0. A volume is one check. Ends with the count.
+What is live, deleted or an orphan, where it stands, how much is damaged in which area and where, and which reserved bytes are hinted at; of the map
+every number and every character. Volumes hold several versions, missing and looping parents, equal records in two areas, damaged bits, areas shorter
+than scratch, scratch with something in it, and headers and inodes whose reserved byte is not 0. The map is given the areas in an order by chance. A
+volume is one check. Ends with the count.
 """
 
 import binascii
@@ -88,6 +90,9 @@ def volume(chance):
         area = bytearray(area.ljust(length, b"\xff"))
         if i != scratch and chance.random() < 0.25:
             area[chance.randrange(24, min(300, length))] ^= 1 << chance.randrange(8)
+        if chance.random() < 0.1:
+            # far from all others, in scratch too
+            area[chance.choice([24, length // 2, length - 1, chance.randrange(24, length)])] ^= 1 << chance.randrange(8)
         areas.append(bytes(area))
     return areas
 
@@ -120,7 +125,7 @@ def acceptable(data):
 
 
 def read(area):
-    """The records of an area; the number of its stretches and of their bytes."""
+    """The records of an area, and its stretches: where each begins and ends."""
     records, skipped, at = [], [], 24
     while at < len(area):
         found = acceptable(area[at:]) if area[at:at + 4] in MAGICS else None
@@ -133,7 +138,7 @@ def read(area):
             skipped[-1][1] = at = at + 1
     if skipped and skipped[-1][1] == len(area):
         skipped[-1][1] = max(skipped[-1][0], len(area.rstrip(b"\xff")))
-    return records, [end - start for start, end in skipped if end > start]
+    return records, [(start, end) for start, end in skipped if end > start]
 
 
 def fates(records):
@@ -169,12 +174,12 @@ def starts(areas):
         at += len(area)
 
 
-def hinted(areas, mounts):
-    """The headers, and in file areas that are not known to be clean the inodes with a right check, whose reserved byte is not 0."""
+def hinted(areas):
+    """The headers, and in file areas that are not clean the inodes with a right check, whose reserved byte is not 0."""
     headers = [(at, len(area), "scratch" if area[23] == 255 else "file", area[23], area[22]) for at, area in starts(areas) if not is_valid(area)]
     inodes = []
     for at, area in starts(areas):
-        if is_file_area(area) and not (mounts and not read(area)[1]):
+        if is_file_area(area) and read(area)[1]:
             for k in range(len(area) - 19):
                 end = k + 20 + area[k + 17]
                 if area[k:k + 4] == MAGICS[0] and area[k + 16] and end <= len(area):
@@ -188,8 +193,25 @@ def told_hints(page):
     return headers, sorted(tuple(r[k] for k in ("offset", "id", "name_hex", "reserved")) for r in page["reserved_records"])
 
 
+def first_damage(placed):
+    """The first damage stretch of areas that are listed so: where it begins in the image, and its length."""
+    found = [(at + start, end - start) for at, area in placed if is_file_area(area) for start, end in read(area)[1]]
+    return found[0] if found else (0, 0)
+
+
+def damage_of(area):
+    """Stretches and bytes of a file area."""
+    stretches = read(area)[1]
+    return [len(stretches), sum(end - start for start, end in stretches)] if is_file_area(area) else [None, None]
+
+
+def rows_right(page, areas):
+    return [[row["stretches"], row["skipped"]] for row in page["areas"]] == [damage_of(area) for area in areas if is_valid(area)]
+
+
 def wrong(page, areas):
     """What the page says otherwise than the rules, or nothing."""
+    first = first_damage([(at, area) for at, area in starts(areas)])
     areas = [area for area in areas if is_valid(area)]
     readings = [read(area) if is_file_area(area) else ([], None) for area in areas]
     said = fates([one for records, _ in readings for one in records])
@@ -204,22 +226,92 @@ def wrong(page, areas):
         "entries": len(set(entries)) == len(entries) and set(entries) <= set(of["live"]),
         "all entries": page["ambiguous"] or entries == of["live"],
         "unreached": page["unreached"] == len(of["live"]) - len(entries),
-        "damage": all(row["stretches"] == (None if damage is None else len(damage)) and row["skipped"] == (None if damage is None else sum(damage))
-                      for row, (_, damage) in zip(page["areas"], readings)),
+        "damage": [page["stretches"], page["skipped"]] == [sum(filter(None, numbers)) for numbers in zip(*map(damage_of, areas))],
+        "first": (page["first_offset"], page["first_length"]) == first,
     }
     return [name for name, holds in checks.items() if not holds]
 
 
+def kind(area):
+    return "none" if not is_valid(area) else "scratch" if area[23] == 255 else "file"
+
+
+def mapped(at, area):
+    """An area as the map's JSON has it."""
+    records, stretches = read(area)
+    skipped = sum(end - start for start, end in stretches)
+    is_file = is_file_area(area)
+    return {
+        "offset": at,
+        "length": len(area),
+        "kind": kind(area),
+        "id": area[23] if is_valid(area) else None,
+        "count": area[21] if is_valid(area) else None,
+        "records": len(records),
+        "free": len(area) - 24 - sum(record[0] for record in records) - skipped,
+        "stretches": len(stretches) if is_file else None,
+        "skipped": skipped if is_file else None,
+        "other": None if is_file else skipped,
+        "damage": [{"offset": at + start, "length": end - start} for start, end in stretches] if is_file else [],
+    }
+
+
+def bar(area):
+    """An area drawn byte by byte: of the bytes of a cell the most telling is seen."""
+    free = mapped(0, area)["free"]
+    drawn = bytearray(b"r" * len(area))
+    drawn[len(area) - free:] = b"f" * free
+    drawn[:24] = b"h" * 24
+    for start, end in read(area)[1]:
+        drawn[start:end] = b"d" * (end - start)
+    letters = dict(zip("dhrf", {"file": "XH=.", "scratch": "~H-.", "none": "~?-."}[kind(area)]))
+    cells = [set() for _ in range(64)]
+    for k, what in enumerate(drawn):
+        cells[64 * k // len(area)].add(chr(what))
+    return "".join(next(letters[what] for what in "dhrf" if what in cell) for cell in cells)
+
+
+def map_line(at, area):
+    """An area as a line of the map, in words."""
+    row = mapped(at, area)
+    name = {"file": ["file"], "scratch": ["scratch"], "none": ["passed", "over"]}[row["kind"]]
+    rest = [str(row["skipped"]), "damaged"] if row["kind"] == "file" else [str(row["other"]), "other"]
+    header = [str("-" if row[field] is None else row[field]) for field in ("id", "count")]
+    return [f"{at}+{len(area)}", *name, *header, str(row["records"]), str(row["free"]), *rest, bar(area)]
+
+
+def map_faults(run, placed):
+    """What the map says otherwise, of areas that are listed so."""
+    listed = ["--areas", ",".join(f"{at}:{len(area)}" for at, area in placed)]
+    page, text, stretches = (run("map", *words, *listed) for words in (["--json"], [], ["--stretches"]))
+    rows = [mapped(at, area) for at, area in placed]
+    places = [(place["offset"], place["length"]) for row in rows for place in row["damage"]]
+    report = run("report", *listed).splitlines()
+    lines = text.splitlines()
+    checks = {
+        "map": json.loads(page)["areas"] == rows,
+        "lines": [line.split() for line in lines[1:-1]] == [map_line(at, area) for at, area in placed],
+        "columns": len({len(line) for line in lines[1:-1]}) == 1,
+        "stretches": stretches == "".join(f"{at}+{length}\n" for at, length in places),
+        "first": len(report) == 1 or report[1].split()[-1] == "{}+{}".format(*first_damage(placed)),
+    }
+    return [f"{name} of the map" for name, holds in checks.items() if not holds]
+
+
 def main(program, count):
     chance = random.Random(27)
-    passed = failed = told = orphans = ambiguous = unmounted = headers = records = 0
+    passed = failed = told = orphans = ambiguous = unmounted = headers = records = turned = unread = 0
     with tempfile.TemporaryDirectory() as folder:
         image = Path(folder) / "image"
         for k in range(count):
             areas = volume(chance)
             image.write_bytes(b"".join(areas))
-            done = subprocess.run([program, "check", image, "--json"], capture_output=True, timeout=60)
-            page = json.loads(done.stdout)
+
+            def run(command, *words):
+                return subprocess.run([program, command, image, *words], capture_output=True, timeout=60).stdout.decode()
+
+            printed = run("check", "--json")
+            page = json.loads(printed)
             expected = refusal(areas)
             if expected or page["refusal"]:
                 # the root's record may be the one that was damaged
@@ -230,16 +322,23 @@ def main(program, count):
                 told += page["orphans"] is not None
                 orphans += bool(page["orphans"])
                 ambiguous += bool(page["ambiguous"])
-            faults += [] if told_hints(page) == hinted(areas, not expected) else ["hints"]
+            faults += [] if told_hints(page) == hinted(areas) else ["hints"]
+            faults += [] if rows_right(page, areas) else ["damage by area"]
+            placed = list(starts(areas))
+            chance.shuffle(placed)
+            faults += map_faults(run, placed)
+            turned += first_damage(placed) != first_damage(list(starts(areas)))
+            unread += any(read(area)[1] and not is_file_area(area) for area in areas)
             headers += bool(page["reserved_headers"])
             records += bool(page["reserved_records"])
             if faults:
-                print(f"FAILED: volume {k}: {', '.join(faults)}\n{done.stdout.decode()}")
+                print(f"FAILED: volume {k}: {', '.join(faults)}\n{printed}")
             passed, failed = passed + (not faults), failed + bool(faults)
     print(f"of {count} volumes {told} told apart, {orphans} with orphans, {ambiguous} with ambiguous paths, {unmounted} that do not mount,")
-    print(f"{headers} with hints at headers, {records} at records")
+    print(f"{headers} with hints at headers, {records} at records, {turned} whose first damage is not that of the lowest offset, {unread} with some in an")
+    print("area that is not read")
     # none of these would be a check of nothing
-    failed += min(told, orphans, ambiguous, unmounted, headers, records) < count // 20
+    failed += min(told, orphans, ambiguous, unmounted, headers, records, turned, unread) < count // 20
     print(f"{passed} passed, {failed} failed")
     sys.exit(failed > 0)
 

@@ -47,6 +47,11 @@ static int all_calls(uint8_t *image, const nffs_area *areas, const uint8_t *path
     good &= nffs_create(image, IMAGE, areas, AREAS, none, 0, path, 2, NFFS_FILE).number == NFFS_OK;
     good &= nffs_append(image, IMAGE, areas, AREAS, none, 0, path, 2, data, DATA) == NFFS_OK;
     good &= nffs_lookup(image, IMAGE, areas, AREAS, none, 0, path, 2).number == NFFS_OK;
+    /* root, file and two blocks */
+    for (uint32_t index = 0; index < AREAS; index++) {
+        good &= nffs_area_report(image, IMAGE, areas, AREAS, index, 0).records == (index == 1 ? 4 : 0);
+    }
+    good &= nffs_area_report(image, IMAGE, areas, AREAS, AREAS, UINT32_MAX).number == NFFS_BAD_AREAS;
     const nffs_open_answer opened = nffs_open(image, IMAGE, areas, AREAS, none, 0, path, 2);
     handle->id = opened.id;
     handle->position = opened.position;
@@ -79,7 +84,9 @@ static void lists(void) {
         const nffs_area *const lent = copied(list, count * sizeof list[0], 1);
         const uint32_t number = count <= NFFS_MOST_AREAS ? NFFS_OK : NFFS_BAD_AREAS;
         check("a list before a page that cannot be touched", nffs_format(image, sizeof image, lent, count) == number &&
-              nffs_collect(image, sizeof image, lent, count) == number && nffs_report(image, sizeof image, lent, count).number == number);
+              nffs_collect(image, sizeof image, lent, count) == number && nffs_report(image, sizeof image, lent, count).number == number &&
+              nffs_area_report(image, sizeof image, lent, count, (uint32_t)count - 1, 0).number == number &&
+              nffs_area_report(image, sizeof image, lent, count, (uint32_t)count, 0).number == NFFS_BAD_AREAS);
     }
 }
 
@@ -107,6 +114,7 @@ static void long_lengths(void) {
     }
     check("an image of 2^32 bytes more", nffs_format(far, huge, areas, AREAS) == NFFS_BAD_AREAS);
     check("an image of 2^32 bytes", nffs_report(far, (size_t)1 << 32, areas, AREAS).number == NFFS_BAD_AREAS);
+    check("an area of it", nffs_area_report(far, (size_t)1 << 32, areas, AREAS, 0, 0).number == NFFS_BAD_AREAS);
     uint8_t *const image = malloc(IMAGE);
     static const uint8_t none[1], path[] = "/a";
     check("a volume", nffs_format(image, IMAGE, areas, AREAS) == NFFS_OK);
@@ -119,6 +127,7 @@ static void long_lengths(void) {
     check("nothing behind what was given", far[DATA] == 0);
     const nffs_area *const list = (const nffs_area *)(far + 2 * AREA);
     check("a list of 2^28 areas, of which the first ends it", nffs_report(image, IMAGE, list, (size_t)1 << 28).number == NFFS_BAD_AREAS);
+    check("an entry behind its end", nffs_area_report(image, IMAGE, list, (size_t)1 << 28, 0, 0).number == NFFS_BAD_AREAS);
     free(image);
     munmap(far, huge);
 }

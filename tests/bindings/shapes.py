@@ -24,6 +24,7 @@ STRUCTS = {
     "Descriptor": ("nffs_area", "Area"),
     "Handle": ("nffs_handle", "Handle"),
     "Report": ("nffs_report_answer", "ReportAnswer"),
+    "AreaReport": ("nffs_area_answer", "AreaAnswer"),
     "Lookup": ("nffs_lookup_answer", "LookupAnswer"),
     "Opened": ("nffs_open_answer", "OpenAnswer"),
     "ReadAnswer": ("nffs_read_answer", "ReadAnswer"),
@@ -108,6 +109,13 @@ check("the numbers go from 0 on", list(numbers.values()), list(range(len(numbers
 listed = [(n, int(i), w) for n, i, w in re.findall(r'^\s+([A-Z_]+) (\d+) "([^"]*)";', refusal, re.M)]
 check("the refusals, C and Rust", [(n, i, said.get(n)) for n, i in numbers.items() if i > 0], listed)
 
+kinds = re.findall(r"NFFS_AREA_(\w+) = (\d+)\b", bare)
+rust_kinds = re.search(r"pub enum AreaKind \{(.*?)\n\}", crate, re.S).group(1)
+check("the kinds of areas, C", re.findall(r"pub const AREA_(\w+): u32 = (\d+);", answers), kinds)
+check("the kinds of areas, C and Rust", [(n.replace("_", ""), i) for n, i in kinds], [(n.upper(), i) for n, i in re.findall(r"(\w+) = (\d+),", rust_kinds)])
+sizes = {c: 4 * len(fields(answers, RUST_STRUCT, name)) for name, (c, _) in STRUCTS.items()}
+check("the sizes of structs, docs/LINKING.md", sizes, {c: int(n) for n, c in re.findall(r"^\| [^|]+ \| (\d+) \| `(nffs_\w+)` \|", linking, re.M)})
+
 
 def limit(name, text):
     """The number that a constant is given."""
@@ -128,6 +136,9 @@ check("the most ids, docs/LINKING.md", most_ids, [f"more than {i} inode ids or {
 version = re.findall(r'#define NFFS_VERSION ("[^"]+")', whole)
 check("the version, C and Rust", version, re.findall(r"^version = (.+)$", manifest, re.M))
 check("the version, command-line program", version, re.findall(r"^version = (.+)$", program, re.M))
+for folder in ("bindings/rust", "cli", "fuzz", "tests/compare"):
+    locked = (top / folder / "Cargo.lock").read_text()
+    check(f"the version, lock of {folder}", version, sorted(set(re.findall(r'name = "nffs(?:-cli)?"\nversion = (.+)$', locked, re.M))))
 marked = re.findall(r"^NFFS_ANSWERS (?:static inline )?\w+ (nffs_\w+)\(", whole, re.M)
 check("calls whose answer must be looked at", sorted(marked), sorted(re.findall(r"^(?:static inline )?(?:uint32_t|nffs_\w+_answer) (nffs_\w+)\(", header, re.M)))
 

@@ -5,6 +5,7 @@
 /* Each call by way of a stub that keeps the stack pointer as the call finds it. */
 #define nffs_format entered_nffs_format
 #define nffs_report entered_nffs_report
+#define nffs_area_report entered_nffs_area_report
 #define nffs_lookup entered_nffs_lookup
 #define nffs_open entered_nffs_open
 #define nffs_read entered_nffs_read
@@ -18,6 +19,7 @@
 #define STUB(call) __asm__(".text\nentered_" call ":\n mov %rsp, entry(%rip)\n jmp " call "\n")
 STUB("nffs_format");
 STUB("nffs_report");
+STUB("nffs_area_report");
 STUB("nffs_lookup");
 STUB("nffs_open");
 STUB("nffs_read");
@@ -49,6 +51,7 @@ static uint32_t number;
 
 static void format(void) { number = nffs_volume_format(&flash); }
 static void report(void) { number = nffs_volume_report(&flash).number; }
+static void area_report(void) { number = nffs_volume_area_report(&flash, 1, 0).number; }
 static void lookup(void) { number = nffs_volume_lookup(&flash, HOME, "f").number; }
 static void open(void) { number = nffs_volume_open(&flash, HOME, "f", &handle); }
 static void read(void) { number = nffs_volume_read(&flash, &handle, data, sizeof data).number; }
@@ -86,8 +89,10 @@ int main(void) {
         const char *name;
         void (*call)(void);
     } calls[] = {
-        {"nffs_format", format}, {"nffs_create", create}, {"nffs_append", append}, {"nffs_lookup", lookup},   {"nffs_open", open},
-        {"nffs_read", read},     {"nffs_read_at", read_at}, {"nffs_unlink", unlink_}, {"nffs_collect", collect}, {"nffs_report", report},
+        {"nffs_format", format},   {"nffs_create", create}, {"nffs_append", append},
+        {"nffs_lookup", lookup},   {"nffs_open", open},     {"nffs_read", read},
+        {"nffs_read_at", read_at}, {"nffs_area_report", area_report},
+        {"nffs_unlink", unlink_},  {"nffs_collect", collect}, {"nffs_report", report},
     };
     for (uint32_t i = 0; i < AREAS; i++) {
         areas[i].offset = i * SIZE;

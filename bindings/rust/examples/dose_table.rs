@@ -48,8 +48,8 @@ fn load(flash: &[u8]) -> Result<Vec<u8>, Refusal> {
 fn show(flash: &[u8]) -> Result<(), Refusal> {
     let r = nffs::report(flash, &AREAS)?;
     println!(
-        "report: inodes {} live {} stretches {} skipped {}",
-        r.inodes, r.live, r.stretches, r.skipped
+        "report: inodes {} live {} stretches {} skipped {} first {}+{}",
+        r.inodes, r.live, r.stretches, r.skipped, r.first_offset, r.first_length
     );
     Ok(())
 }

@@ -16,7 +16,11 @@ pub fn page(folder: &Folder, words: &[&str], status: i32) -> String {
 
 /// A part of what check prints as JSON, taken out by another program.
 fn json(folder: &Folder, expression: &str, status: i32) -> String {
-    let page = page(folder, &["--json"], status);
+    python(&page(folder, &["--json"], status), expression)
+}
+
+/// A part `v` of a JSON page, taken out by another program.
+pub fn python(page: &str, expression: &str) -> String {
     let script = format!("import json, sys\nv = json.load(sys.stdin)\nprint({expression})");
     let output = finish(Command::new("python3").args(["-c", &script]), page.as_bytes());
     assert!(output.status.success(), "{page}{}", String::from_utf8_lossy(&output.stderr));
@@ -53,8 +57,9 @@ damage: 0 stretches, 0 bytes
         "[('/', '2f', 'directory', None, 0), ('/tables', '2f7461626c6573', 'directory', None, 1), \
          ('/tables/dose', '2f7461626c65732f646f7365', 'file', 6, 268435456)]"
     );
-    let counts = "[v[k] for k in 'status refusal inodes live deleted orphans stretches'.split()]";
-    assert_eq!(json(&folder, counts, 0), "[0, None, 4, 3, 1, 0, 0]");
+    let counts = "[v[k] for k in 'status refusal inodes live deleted orphans stretches \
+                  first_offset first_length'.split()]";
+    assert_eq!(json(&folder, counts, 0), "[0, None, 4, 3, 1, 0, 0, 0, 0]");
 }
 
 #[test]
@@ -64,7 +69,8 @@ fn a_volume_that_does_not_mount() {
     let page_of = page(&folder, &[], 1);
     let first = "image: 4096 bytes, does not mount: 3, no file area, or not exactly one scratch area\n  Give the areas";
     assert!(page_of.starts_with(first), "{page_of}");
-    assert!(page_of.ends_with("\nareas: 4096x1, found\n      0+4096  file area 0, count 0\n"));
+    let area = "\nareas: 4096x1, found\n      0+4096  file area 0, count 0, clean\n";
+    assert!(page_of.ends_with(area), "{page_of}");
     let told = "v['refusal']['number'], v['status'], 'inodes' in v, v['refusal']['advice'][:4]";
     assert_eq!(json(&folder, told, 1), "3 1 False Give");
     folder.write("image", [0xff; 8192]);
@@ -97,8 +103,12 @@ fn damage_is_told_by_area_and_files_as_broken() {
     assert!(page_of.contains(rows), "{page_of}");
     assert!(page_of.contains("\n       3000  /first\n     broken  /second\nDamage: "), "{page_of}");
     assert!(page_of.contains("\nBroken: blocks of the file are lost."), "{page_of}");
-    let damage = "[(a['kind'], a['stretches'], a['skipped']) for a in v['areas']][2], v['skipped']";
-    assert_eq!(json(&folder, damage, 3), "('file', 1, 2036) 2036");
+    assert!(
+        page_of.contains(&format!("\ndamage: 1 stretch, 2036 bytes, first {}+2036\n", place - 24)),
+        "{page_of}"
+    );
+    let damage = "[(a['kind'], a['stretches'], a['skipped']) for a in v['areas']][2], v['skipped'], v['first_length']";
+    assert_eq!(json(&folder, damage, 3), "('file', 1, 2036) 2036 2036");
     assert_eq!(json(&folder, "v['entries'][2]['kind'], v['entries'][2]['size']", 3), "broken None");
 
     // stored anew and collected, it is sound

@@ -8,7 +8,7 @@ use std::fs;
 fn a_fresh_image_reports_as_document_01_prints() {
     let folder = Folder::formatted("fresh");
     let printed = folder.text(&["report", "image"]);
-    assert_eq!(printed, "mount 0\ninodes 1 live 1 stretches 0 skipped 0\n");
+    assert_eq!(printed, "mount 0\ninodes 1 live 1 stretches 0 skipped 0 first 0+0\n");
     assert_eq!(fs::metadata(folder.path("image")).unwrap().len(), 8192);
 }
 
@@ -241,6 +241,10 @@ fn words_that_make_no_command() {
         (&["rm", "image", "/a", "--replace"], "rm takes no --replace"),
         (&["collect", "image", "--collect"], "collect takes no --collect"),
         (&["report", "image", "--json"], "report takes no --json"),
+        (&["report", "image", "--stretches"], "report takes no --stretches"),
+        (&["map", "image", "--collect"], "map takes no --collect"),
+        (&["map", "image", "--stretches=1"], "--stretches takes no value"),
+        (&["map"], "map: no image"),
         (&["report", "image", "--all"], "no option --all"),
         (&["report", "image", "-x"], "no option -x"),
         (&["check", "image", "--json=1"], "--json takes no value"),

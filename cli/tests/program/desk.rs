@@ -1,17 +1,18 @@
-//! docs/DESK.md, run: what it shows is what the program prints.
+//! docs/DESK.md and README.md, run: what they show is what the program prints.
 
 use crate::folder::{finish, Folder, PROGRAM};
+use std::fs;
 use std::os::unix::fs::symlink;
 use std::process::Command;
 
 /// Begins the output of each command; no command prints it.
 const MARK: &str = "\u{1}";
 
-/// The commands that the page shows, with what it shows that they print.
-fn shown() -> Vec<(String, String)> {
+/// The commands that a page shows, with what it shows that they print.
+fn shown(page: &str) -> Vec<(String, String)> {
     let mut commands: Vec<(String, String)> = Vec::new();
     let mut inside = false;
-    for line in include_str!("../../../docs/DESK.md").lines() {
+    for line in page.lines() {
         match (inside, line.strip_prefix("$ ")) {
             (false, _) => inside = line == "```console",
             (true, _) if line == "```" => inside = false,
@@ -31,14 +32,29 @@ fn the_page_shows_what_is_printed() {
     let folder = Folder::new("desk");
     let place = Folder::new("desk_program");
     symlink(PROGRAM, place.path("nffs")).unwrap();
-    let commands = shown();
+    let path = format!("{}:{}", place.0.display(), std::env::var("PATH").unwrap());
+    let commands = shown(include_str!("../../../docs/DESK.md"));
     assert!(commands.len() > 20);
+    compare(&folder, &path, &commands);
+}
+
+#[test]
+fn the_readme_shows_what_is_printed() {
+    let folder = Folder::new("readme");
+    fs::create_dir(folder.path("tools")).unwrap();
+    symlink(PROGRAM, folder.path("tools/nffs")).unwrap();
+    let commands = shown(include_str!("../../../README.md"));
+    assert!(commands.iter().any(|(command, map)| command.contains(" map ") && map.contains('X')));
+    compare(&folder, &std::env::var("PATH").unwrap(), &commands);
+}
+
+/// Runs the commands in a folder, and compares what they print.
+fn compare(folder: &Folder, path: &str, commands: &[(String, String)]) {
     // one shell for all, so that $? is that of the command before
     let mut script = String::from("exec 2>&1\n");
-    for (command, _) in &commands {
+    for (command, _) in commands {
         script += &format!("{command}\n{{ s=$?; printf '{MARK}'; (exit $s); }}\n");
     }
-    let path = format!("{}:{}", place.0.display(), std::env::var("PATH").unwrap());
     let mut bash = Command::new("timeout");
     bash.args(["60", "bash"]).current_dir(&folder.0).env("PATH", path).env("LC_ALL", "C");
     let output = String::from_utf8(finish(&mut bash, script.as_bytes()).stdout).unwrap();

@@ -28,6 +28,15 @@ pub fn inode_with(reserved: u8, id: u32, sequence: u32, parent: u32, name: &[u8]
     [&front, &check.to_le_bytes()[..], name].concat()
 }
 
+/// A block that is the only one of its file.
+pub fn block(id: u32, owner: u32, data: &[u8]) -> Vec<u8> {
+    let fields = [0x53ba_23b9, id, 0, owner, NONE];
+    let mut front: Vec<u8> = fields.iter().flat_map(|field: &u32| field.to_le_bytes()).collect();
+    front.extend((data.len() as u16).to_le_bytes());
+    let check = check(&[&front, data].concat());
+    [&front, &check.to_le_bytes()[..], data].concat()
+}
+
 /// An image of two areas of 4,096 bytes, scratch first, whose file area holds the root and then
 /// these records.
 pub fn image(records: &[Vec<u8>]) -> Vec<u8> {

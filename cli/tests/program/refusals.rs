@@ -6,7 +6,7 @@ use crate::records::{header, image, image_of, inode, NONE};
 const FILE: u32 = 0x1000_0000;
 
 /// A number, the image `image` that leads to it, and the words of a command.
-fn cases(folder: &Folder) -> Vec<(u32, Vec<u8>, Vec<&'static str>)> {
+pub fn cases(folder: &Folder) -> Vec<(u32, Vec<u8>, Vec<&'static str>)> {
     let fresh = image(&[]);
     let mut headers = [header(0, 4096), vec![0xff; 4072]].concat();
     headers.extend([header(255, 128), vec![0xff; 104]].concat());
@@ -77,7 +77,7 @@ fn a_refused_report_prints_its_number_alone() {
     bytes[place] ^= 1;
     folder.write("image", &bytes);
     let printed = folder.text(&["report", "image"]);
-    assert_eq!(printed, "mount 0\ninodes 1 live 1 stretches 1 skipped 24\n");
+    assert_eq!(printed, "mount 0\ninodes 1 live 1 stretches 1 skipped 24 first 4140+24\n");
 
     folder.write("image", [0; 8192]);
     let output = folder.run(&["report", "image", "--areas", "4096x2"], b"");

@@ -2,7 +2,7 @@
 
 use crate::check::page;
 use crate::folder::{finish, Folder};
-use crate::records::{header, image, inode, inode_with, NONE};
+use crate::records::{block, header, image, inode, inode_with, NONE};
 use std::process::Command;
 
 const FILE: u32 = 0x1000_0000;
@@ -162,7 +162,7 @@ fn an_area_that_is_passed_over_is_none() {
     let inside = [header(7, 128), vec![0xff; 104]].concat();
     folder.write("image", with_area(1, &[inode(FILE + 1, 0, 0, b"other"), inside]));
     assert_eq!(folder.text(&["areas", "image"]), "4096x2\n");
-    let report = "mount 0\ninodes 2 live 2 stretches 0 skipped 0\n";
+    let report = "mount 0\ninodes 2 live 2 stretches 0 skipped 0 first 0+0\n";
     assert_eq!(folder.text(&["report", "image"]), report);
     assert_eq!(folder.text(&["report", "image", "--areas", "4096x3"]), report);
     let expected = "\
@@ -274,7 +274,7 @@ fn an_inode_that_is_not_read() {
     folder.write("image", image(&[record, inode(FILE + 1, 0, 0, b"other")]));
     let hint = record_hint("a record of inode 10000000, dose,", ROOT + 20, 1);
     let page_of = page(&folder, &[], 3);
-    assert!(page_of.contains("\ndamage: 1 stretch, 24 bytes\n"), "{page_of}");
+    assert!(page_of.contains("\ndamage: 1 stretch, 24 bytes, first 4140+24\n"), "{page_of}");
     assert!(page_of.contains(&format!("\nH{}{ADVICE}", hint.trim_end())), "{page_of}");
     let told = format!("[] [({}, 268435456, 0, 'dose', '646f7365', 1)]", ROOT + 20);
     assert_eq!(fields(&folder, &[], 3), told);
@@ -351,6 +351,11 @@ fn no_hint_where_there_is_nothing() {
     clean(scratch.clone(), 0);
     scratch[ROOT] = 0;
     clean(scratch, 1);
+    // without a root, but in an area that a call finds clean: in the data of a block
+    let mut held = image(&[]);
+    let block = block(0x8000_0000, FILE, &inode_with(1, FILE, 0, 0, b"dose"));
+    held[ROOT..ROOT + block.len()].copy_from_slice(&block);
+    clean(held, 1);
 }
 
 #[test]
