@@ -106,7 +106,8 @@ pub fn write_headers(r: &mut Random, flash: &mut Flash) -> usize {
 }
 
 /// A header with a reserved byte that isn't 0: the scratch area's, or that of a
-/// file area, which sometimes would be a second scratch area or share its id.
+/// file area, which sometimes would be a second scratch area or share its id, and
+/// sometimes has damage before its records.
 fn reserved_header(r: &mut Random, flash: &mut Flash, scratch: usize) {
     let count = flash.areas.len() / 2;
     let files: Vec<usize> = (0..count).filter(|area| *area != scratch).collect();
@@ -116,6 +117,9 @@ fn reserved_header(r: &mut Random, flash: &mut Flash, scratch: usize) {
     if area != scratch && r.chance(40) {
         let other = r.pick(&files) as u8;
         flash.image[at + AreaHeader::ID_AT] = r.pick(&[255, other]);
+    }
+    if r.chance(40) {
+        junk_between(r, flash, area);
     }
 }
 

@@ -8,6 +8,7 @@ mod lists;
 pub mod made;
 mod paths;
 mod random;
+mod stretches;
 mod tables;
 
 pub use random::Random;
