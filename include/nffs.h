@@ -15,8 +15,9 @@
  *
  * How arguments pass (x86-64, System V). The archive takes a slice as two arguments of their own, first the pointer, then the number of
  * elements, never as a struct of the two: in nffs_read the buffer's pointer is in a register and its length on the stack. Numbers are
- * uint32_t. An answer of 4 or 8 bytes comes back in rax, of 12 in rax and edx, of 20 in memory that the caller lends. All this is what a C
- * compiler does with the prototypes below.
+ * uint32_t. An answer of 4 or 8 bytes comes back in rax, of 12 in rax and edx, of 28 or 40 in memory that the caller lends. All this is what
+ * a C compiler does with the prototypes below. Header and archive must be of one version: since 0.5.0 a report has 28 bytes, and an archive
+ * writes them all, also over what stands behind the 20 that a program lends which was compiled with an older header.
  *
  * What the caller owes, because the proofs take it for granted:
  *   - a pointer is never null, for an empty slice neither, and those to nffs_area and nffs_handle are aligned for it;
@@ -36,7 +37,7 @@
 #include <string.h>
 
 /* Of the calls and their declarations here. */
-#define NFFS_VERSION "0.4.0"
+#define NFFS_VERSION "0.5.0"
 
 /* An answer that nobody looks at may be a refusal. */
 #if defined(__cplusplus) && __cplusplus >= 201703L
@@ -65,7 +66,7 @@ typedef struct nffs_handle {
    makes, and in which order, which is not always that of the numbers. */
 enum {
     NFFS_OK = 0,
-    NFFS_BAD_AREAS = 1,           /* image over 65,536 bytes, or areas not good */
+    NFFS_BAD_AREAS = 1,           /* image over 65,536 bytes, or areas not good; nffs_area_report: the list has no such entry */
     NFFS_SAME_AREA_ID = 2,        /* two file areas have one id */
     NFFS_NO_FILE_OR_SCRATCH = 3,  /* no file area, or not exactly one scratch area */
     NFFS_SHORT_SCRATCH = 4,       /* scratch shorter than a file area */
@@ -87,19 +88,45 @@ enum {
 /* What nffs_lookup finds and nffs_create is told. To nffs_create every number but 0 is a file. */
 enum { NFFS_DIRECTORY = 0, NFFS_FILE = 1 };
 
+/* What nffs_area_report finds an area to be: without a valid header, and so passed over with all that lies in it; a file area; scratch. */
+enum { NFFS_AREA_PASSED_OVER = 0, NFFS_AREA_FILE = 1, NFFS_AREA_SCRATCH = 2 };
+
 /* The most areas of a list, and the most bytes that one nffs_append takes. */
 enum { NFFS_MOST_AREAS = 16, NFFS_APPEND_MOST = 8192 };
 
 /* The answers. Where the number is not 0, the others are 0. */
 
-/* Distinct inode ids, live inodes, damage stretches and their bytes. */
+/* Distinct inode ids, live inodes, damage stretches and their bytes; where the first of these stretches begins in the image, and its
+   length, both 0 if there is none. The first is the first of the first damaged file area in the order of the list, which need not be the one
+   with the lowest offset. Not seen is what lies in scratch or in an area that is passed over; nor is a page that came back with its previous
+   contents: its checks are right, so it is no damage and has no stretch. */
 typedef struct nffs_report_answer {
     uint32_t number;
     uint32_t inodes;
     uint32_t live;
     uint32_t stretches;
     uint32_t skipped;
+    uint32_t first_offset;
+    uint32_t first_length;
 } nffs_report_answer;
+
+/* One area: its kind (NFFS_AREA_..); id and collection count of its header, both 0 where it is passed over; and, whatever its kind, what
+   stands behind its first 24 bytes: records, damage stretches, their bytes, and the bytes of free space at its end. Then one of the
+   stretches: where it begins, counted from the area's start, and its length, both 0 if there are not so many. What is no record and not
+   free in scratch, or in an area that is passed over, is told here too, but it is no damage of the volume. Header, records, stretches and
+   free space are the whole area: 24 + bytes of records + skipped + free = its length. */
+typedef struct nffs_area_answer {
+    uint32_t number;
+    uint32_t kind;
+    uint32_t id;
+    uint32_t count;
+    uint32_t records;
+    uint32_t stretches;
+    uint32_t skipped;
+    uint32_t free;
+    uint32_t offset;
+    uint32_t length;
+} nffs_area_answer;
 
 /* What a path leads to. */
 typedef struct nffs_lookup_answer {
@@ -134,8 +161,14 @@ typedef struct nffs_create_answer {
    two areas. Checks in order: 1, 3. */
 NFFS_ANSWERS uint32_t nffs_format(uint8_t *image, size_t image_length, const nffs_area *areas, size_t areas_count);
 
-/* The state of a volume: whether it mounts, and what is in it. Checks in order: 1 to 7. */
+/* The state of a volume: whether it mounts, what is in it, and where its damage begins. Checks in order: 1 to 7. */
 NFFS_ANSWERS nffs_report_answer nffs_report(const uint8_t *image, size_t image_length, const nffs_area *areas, size_t areas_count);
+
+/* The state of one area, entry index of the list, and its damage stretch of number stretch; both count from 0. It tells of the areas of a
+   volume that does not mount, too. With each number below the answer's stretches it gives all of them; each call reads the area anew.
+   Checks in order: 1, and 1 where the list has no entry `index`. */
+NFFS_ANSWERS nffs_area_answer nffs_area_report(const uint8_t *image, size_t image_length, const nffs_area *areas, size_t areas_count,
+                                  uint32_t index, uint32_t stretch);
 
 /* What a path leads to: id and kind. Checks in order: 1 to 7, 8, then 9, 10 or 11 at the first step of the path that fails. */
 NFFS_ANSWERS nffs_lookup_answer nffs_lookup(const uint8_t *image, size_t image_length, const nffs_area *areas, size_t areas_count,
@@ -186,7 +219,8 @@ NFFS_ANSWERS uint32_t nffs_collect(uint8_t *image, size_t image_length, const nf
 
 NFFS_HOLDS(sizeof(nffs_area) == 8, "layout of nffs_area");
 NFFS_HOLDS(sizeof(nffs_handle) == 8, "layout of nffs_handle");
-NFFS_HOLDS(sizeof(nffs_report_answer) == 20, "layout of nffs_report_answer");
+NFFS_HOLDS(sizeof(nffs_report_answer) == 28, "layout of nffs_report_answer");
+NFFS_HOLDS(sizeof(nffs_area_answer) == 40, "layout of nffs_area_answer");
 NFFS_HOLDS(sizeof(nffs_lookup_answer) == 12, "layout of nffs_lookup_answer");
 NFFS_HOLDS(sizeof(nffs_open_answer) == 12, "layout of nffs_open_answer");
 NFFS_HOLDS(sizeof(nffs_read_answer) == 12, "layout of nffs_read_answer");
@@ -257,6 +291,10 @@ NFFS_ANSWERS static inline uint32_t nffs_volume_format(const nffs_volume *v) {
 
 NFFS_ANSWERS static inline nffs_report_answer nffs_volume_report(const nffs_volume *v) {
     return nffs_report(NFFS_IMAGE_(v));
+}
+
+NFFS_ANSWERS static inline nffs_area_answer nffs_volume_area_report(const nffs_volume *v, uint32_t index, uint32_t stretch) {
+    return nffs_area_report(NFFS_IMAGE_(v), index, stretch);
 }
 
 NFFS_ANSWERS static inline nffs_lookup_answer nffs_volume_lookup(const nffs_volume *v, const char *base, const char *path) {

@@ -30,9 +30,11 @@
 
 pub mod raw;
 mod refusal;
+mod stretch;
 mod volume;
 
 pub use refusal::Refusal;
+pub use stretch::{stretches, Stretch, Stretches};
 pub use volume::Volume;
 
 /// An area of the flash.
@@ -99,6 +101,11 @@ pub enum Kind {
 }
 
 /// The state of a volume.
+///
+/// The first damage stretch is the first of the first damaged file area in the order of the list,
+/// which need not be the one with the lowest offset. Not seen is what lies in scratch or in an area
+/// that is passed over; nor is a page that came back with its previous contents: its checks are
+/// right, so it is no damage and has no stretch.
 #[derive(Clone, Copy, Debug, PartialEq, Eq)]
 #[non_exhaustive]
 pub struct Report {
@@ -110,6 +117,51 @@ pub struct Report {
     pub stretches: u32,
     /// The bytes of these stretches.
     pub skipped: u32,
+    /// Where the first of them begins in the image; 0 if there is none.
+    pub first_offset: u32,
+    /// Its length; 0 if there is none.
+    pub first_length: u32,
+}
+
+/// What an area is.
+#[derive(Clone, Copy, Debug, PartialEq, Eq)]
+pub enum AreaKind {
+    /// Without a valid header, and so passed over with all that lies in it.
+    PassedOver = 0,
+    /// It holds records of the volume.
+    File = 1,
+    /// Into which the next area is collected.
+    Scratch = 2,
+}
+
+/// The state of one area, and one of its damage stretches.
+///
+/// `records`, `stretches`, `skipped`, `free`, `offset` and `length` tell what stands behind its
+/// first 24 bytes, whatever its kind. What is no record and not free in scratch, or in an area that
+/// is passed over, is no damage of the volume. Header, records, stretches and free space are the
+/// whole area: 24 + bytes of records + `skipped` + `free` is its length.
+#[derive(Clone, Copy, Debug, PartialEq, Eq)]
+#[non_exhaustive]
+pub struct AreaReport {
+    /// File area, scratch, or passed over.
+    pub kind: AreaKind,
+    /// The id in its header, 255 of scratch; 0 where it is passed over.
+    pub id: u32,
+    /// The collection count in its header; 0 where it is passed over.
+    pub count: u32,
+    /// Records that are taken.
+    pub records: u32,
+    /// Damage stretches.
+    pub stretches: u32,
+    /// The bytes of these stretches.
+    pub skipped: u32,
+    /// The bytes of free space at its end.
+    pub free: u32,
+    /// Where the stretch that was asked for begins, counted from the area's start; 0 if there are
+    /// not so many.
+    pub offset: u32,
+    /// Its length; 0 if there are not so many.
+    pub length: u32,
 }
 
 /// What a path leads to.
@@ -174,23 +226,90 @@ pub fn format(image: &mut [u8], areas: &[Area]) -> Result<(), Refusal> {
     Refusal::check(raw::format(image, areas))
 }
 
-/// Whether a volume mounts, and what is in it.
+/// Whether a volume mounts, what is in it, and where its damage begins.
 ///
 /// Checks in order: 1 to 7.
 ///
 /// ```
-/// # use nffs::Area;
+/// # use nffs::{Area, Kind};
 /// # let mut flash = [0; 2 * 4096];
 /// # let areas = Area::row::<2>(4096);
 /// nffs::format(&mut flash, &areas)?;
+/// nffs::create(&mut flash, &areas, b"", b"/dose", Kind::File)?;
 /// let report = nffs::report(&flash, &areas)?;
-/// assert_eq!((report.inodes, report.live, report.stretches, report.skipped), (1, 1, 0, 0));
+/// assert_eq!((report.inodes, report.live, report.stretches, report.skipped), (2, 2, 0, 0));
+/// assert_eq!((report.first_offset, report.first_length), (0, 0));
+///
+/// // the file area is the second, and the file's record stands behind its header and the root
+/// flash[4096 + 24 + 20] ^= 1;
+/// let report = nffs::report(&flash, &areas)?;
+/// assert_eq!((report.inodes, report.live, report.stretches, report.skipped), (1, 1, 1, 24));
+/// assert_eq!((report.first_offset, report.first_length), (4140, 24));
 /// # Ok::<(), nffs::Refusal>(())
 /// ```
 pub fn report(image: &[u8], areas: &[Area]) -> Result<Report, Refusal> {
     let r = raw::report(image, areas);
     Refusal::check(r.number)?;
-    Ok(Report { inodes: r.inodes, live: r.live, stretches: r.stretches, skipped: r.skipped })
+    Ok(Report {
+        inodes: r.inodes,
+        live: r.live,
+        stretches: r.stretches,
+        skipped: r.skipped,
+        first_offset: r.first_offset,
+        first_length: r.first_length,
+    })
+}
+
+/// The state of one area, entry `index` of the list, and its damage stretch of number `stretch`;
+/// both count from 0. It tells of the areas of a volume that does not mount, too. [`stretches`]
+/// gives all stretches of an area.
+///
+/// Checks in order: 1, and 1 where the list has no entry `index`.
+///
+/// ```
+/// # use nffs::{Area, AreaKind, Refusal};
+/// # let mut flash = [0; 2 * 4096];
+/// # let areas = Area::row::<2>(4096);
+/// nffs::format(&mut flash, &areas)?;
+/// let scratch = nffs::area_report(&flash, &areas, 0, 0)?;
+/// assert_eq!((scratch.kind, scratch.id, scratch.records), (AreaKind::Scratch, 255, 0));
+/// let area = nffs::area_report(&flash, &areas, 1, 0)?;
+/// assert_eq!((area.kind, area.id, area.records), (AreaKind::File, 0, 1));
+/// assert_eq!(24 + 20 + area.skipped + area.free, 4096);
+///
+/// // the root is lost, and nothing mounts: where the damage lies is still told
+/// flash[4096 + 30] ^= 1;
+/// assert_eq!(nffs::report(&flash, &areas), Err(Refusal::NO_ROOT));
+/// let area = nffs::area_report(&flash, &areas, 1, 0)?;
+/// assert_eq!((area.records, area.stretches, area.skipped), (0, 1, 20));
+/// assert_eq!((area.offset, area.length), (24, 20));
+///
+/// assert_eq!(nffs::area_report(&flash, &areas, 2, 0), Err(Refusal::BAD_AREAS));
+/// # Ok::<(), Refusal>(())
+/// ```
+pub fn area_report(
+    image: &[u8],
+    areas: &[Area],
+    index: u32,
+    stretch: u32,
+) -> Result<AreaReport, Refusal> {
+    let r = raw::area_report(image, areas, index, stretch);
+    Refusal::check(r.number)?;
+    Ok(AreaReport {
+        kind: match r.kind {
+            1 => AreaKind::File,
+            2 => AreaKind::Scratch,
+            _ => AreaKind::PassedOver,
+        },
+        id: r.id,
+        count: r.count,
+        records: r.records,
+        stretches: r.stretches,
+        skipped: r.skipped,
+        free: r.free,
+        offset: r.offset,
+        length: r.length,
+    })
 }
 
 /// What a path leads to.

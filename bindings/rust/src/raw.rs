@@ -24,6 +24,23 @@ pub struct ReportAnswer {
     pub live: u32,
     pub stretches: u32,
     pub skipped: u32,
+    pub first_offset: u32,
+    pub first_length: u32,
+}
+
+#[repr(C)]
+#[derive(Clone, Copy, Debug, PartialEq, Eq)]
+pub struct AreaAnswer {
+    pub number: u32,
+    pub kind: u32,
+    pub id: u32,
+    pub count: u32,
+    pub records: u32,
+    pub stretches: u32,
+    pub skipped: u32,
+    pub free: u32,
+    pub offset: u32,
+    pub length: u32,
 }
 
 #[repr(C)]
@@ -73,6 +90,14 @@ mod exports {
             areas: *const Area,
             areas_count: usize,
         ) -> ReportAnswer;
+        pub fn nffs_area_report(
+            image: *const u8,
+            size: usize,
+            areas: *const Area,
+            areas_count: usize,
+            index: u32,
+            stretch: u32,
+        ) -> AreaAnswer;
         pub fn nffs_lookup(
             image: *const u8,
             size: usize,
@@ -156,7 +181,8 @@ mod exports {
 
 const _: () = assert!(size_of::<Area>() == 8);
 const _: () = assert!(size_of::<Handle>() == 8);
-const _: () = assert!(size_of::<ReportAnswer>() == 20);
+const _: () = assert!(size_of::<ReportAnswer>() == 28);
+const _: () = assert!(size_of::<AreaAnswer>() == 40);
 const _: () = assert!(size_of::<LookupAnswer>() == 12);
 const _: () = assert!(size_of::<OpenAnswer>() == 12);
 const _: () = assert!(size_of::<ReadAnswer>() == 12);
@@ -170,6 +196,20 @@ pub fn format(image: &mut [u8], areas: &[Area]) -> u32 {
 pub fn report(image: &[u8], areas: &[Area]) -> ReportAnswer {
     // SAFETY: slices as the call needs them, see above.
     unsafe { exports::nffs_report(image.as_ptr(), image.len(), areas.as_ptr(), areas.len()) }
+}
+
+pub fn area_report(image: &[u8], areas: &[Area], index: u32, stretch: u32) -> AreaAnswer {
+    // SAFETY: slices as the call needs them, see above.
+    unsafe {
+        exports::nffs_area_report(
+            image.as_ptr(),
+            image.len(),
+            areas.as_ptr(),
+            areas.len(),
+            index,
+            stretch,
+        )
+    }
 }
 
 pub fn lookup(image: &[u8], areas: &[Area], base: &[u8], path: &[u8]) -> LookupAnswer {

@@ -1,6 +1,6 @@
 //! An image and its areas together.
 
-use crate::{Area, Found, Given, Handle, Kind, Refusal, Report};
+use crate::{Area, AreaReport, Found, Given, Handle, Kind, Refusal, Report, Stretches};
 
 /// An image and its areas, so that a call names only what it is about. The image may be lent to
 /// read, `&[u8]`, or to write, `&mut [u8]`; calls that write are there for the second alone.
@@ -47,6 +47,16 @@ impl<'a, Image: AsRef<[u8]>> Volume<'a, Image> {
     /// See [`crate::report`].
     pub fn report(&self) -> Result<Report, Refusal> {
         crate::report(self.image.as_ref(), self.areas)
+    }
+
+    /// See [`crate::area_report`].
+    pub fn area_report(&self, index: u32, stretch: u32) -> Result<AreaReport, Refusal> {
+        crate::area_report(self.image.as_ref(), self.areas, index, stretch)
+    }
+
+    /// See [`crate::stretches`].
+    pub fn stretches(&self, index: u32) -> Result<Stretches<'_>, Refusal> {
+        crate::stretches(self.image.as_ref(), self.areas, index)
     }
 
     /// See [`crate::lookup`].
