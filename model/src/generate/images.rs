@@ -25,11 +25,16 @@ pub fn shape(r: &mut Random) -> Flash {
         4..=9 => r.pick(&SHORT),
         _ => r.between(128, 600),
     };
+    // Where none is longer than most of them, several are as long as scratch.
     let mixed = r.chance(40);
+    let longest = if r.chance(50) { common.min(600) } else { 600 };
     let mut lengths: Vec<usize> = Vec::new();
     for _ in 0..count {
-        let length = if mixed && r.chance(60) { r.between(128, 600) } else { common };
+        let length = if mixed && r.chance(60) { r.between(128, longest) } else { common };
         lengths.push(length);
+    }
+    if count > 4 && r.chance(30) {
+        lengths[0] = r.between(128, longest);
     }
     place(r, &lengths)
 }
@@ -99,6 +104,9 @@ pub fn write_headers(r: &mut Random, flash: &mut Flash) -> usize {
     if r.chance(5) {
         reserved_header(r, flash, scratch);
     }
+    if r.chance(4) {
+        other_length(r, flash, scratch);
+    }
     if r.chance(25) {
         dirty_scratch(r, flash, scratch);
     }
@@ -118,7 +126,23 @@ fn reserved_header(r: &mut Random, flash: &mut Flash, scratch: usize) {
         let other = r.pick(&files) as u8;
         flash.image[at + AreaHeader::ID_AT] = r.pick(&[255, other]);
     }
-    if r.chance(40) {
+    if r.chance(60) {
+        junk_between(r, flash, area);
+    }
+}
+
+/// A header that tells another length than its descriptor, mostly a shorter one,
+/// and sometimes damage before its records.
+fn other_length(r: &mut Random, flash: &mut Flash, scratch: usize) {
+    let area = r.below(flash.areas.len() / 2);
+    if area == scratch && r.chance(80) {
+        return;
+    }
+    let length = flash.length(area);
+    let other = r.pick(&[24, 64, length / 2, length - 1, length + 1, 65_536]) as u32;
+    let at = flash.offset(area) + 16;
+    flash.image[at..at + 4].copy_from_slice(&other.to_le_bytes());
+    if r.chance(60) {
         junk_between(r, flash, area);
     }
 }
