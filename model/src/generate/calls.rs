@@ -55,6 +55,9 @@ impl Maker {
 
     pub fn make(&mut self) {
         self.start_list();
+        if self.is_torn() || self.r.chance(5) {
+            self.area_reports();
+        }
         self.populate();
         let count = self.r.between(4, 24);
         let harm = if self.r.chance(40) { 12 } else { 0 };
@@ -156,6 +159,11 @@ impl Maker {
         (INODES - fs.inodes().count(), BLOCKS - fs.blocks().count())
     }
 
+    /// Whether an area has many stretches, which a collection would leave behind.
+    fn is_torn(&self) -> bool {
+        (0..self.side.areas.len() as u32 / 2).any(|index| self.stretches(index) > 16)
+    }
+
     /// Of every entry, of those behind the end of the list, of one that isn't
     /// there and of one far beyond.
     fn area_reports(&mut self) {
@@ -186,7 +194,7 @@ impl Maker {
             0 => self.r.pick(&[0x100, u32::MAX, u32::MAX]) as usize,
             1 | 2 => stretches,
             3..=5 => stretches.saturating_sub(1),
-            6..=8 => self.r.below(stretches.max(1)),
+            6..=9 => self.r.below(stretches.max(1)),
             _ => 0,
         };
         Call::AreaReport { index, stretch: stretch as u32 }

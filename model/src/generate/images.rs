@@ -329,18 +329,19 @@ fn unacceptable(r: &mut Random) -> Vec<u8> {
     }
 }
 
-/// Spreads the records over the file areas, with junk between them in some.
+/// Spreads the records over the file areas, with junk between them in some, behind
+/// most of them in a few.
 fn lay(r: &mut Random, flash: &mut Flash, scratch: usize, records: Vec<Vec<u8>>) {
     let count = flash.areas.len() / 2;
     let files: Vec<usize> = (0..count).filter(|area| *area != scratch).collect();
-    let dirty = r.chance(25);
+    let dirty = if r.chance(25) { r.pick(&[15, 15, 60]) } else { 0 };
     for record in records {
         let first = r.below(files.len());
         let area = (0..files.len()).map(|i| files[(first + i) % files.len()]);
         let fits = area.into_iter().find(|area| flash.room(*area) >= record.len());
         let Some(area) = fits else { continue };
         flash.put(area, &record);
-        if dirty && r.chance(15) {
+        if dirty > 0 && r.chance(dirty) {
             junk_between(r, flash, area);
         }
     }

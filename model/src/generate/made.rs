@@ -134,6 +134,10 @@ pub enum Made {
     /// The report of one area, here and in those that follow.
     LastStretchOfSeveral,
     StretchBetween,
+    /// A stretch of the area, of a number over 255.
+    StretchBehind255,
+    /// In the area.
+    MoreRecordsThanPlaces,
     /// One more than the area has, which has some.
     OneStretchBeyond,
     StretchFarBeyond,
@@ -154,7 +158,7 @@ pub enum Made {
     AreaReportWhere7,
 }
 
-pub const ALL: [Made; 76] = [
+pub const ALL: [Made; 78] = [
     Made::WholeVolume,
     Made::ThousandsOfNamedIds,
     Made::TenDirectoriesDeep,
@@ -218,6 +222,8 @@ pub const ALL: [Made; 76] = [
     Made::DamagePassedOverBefore,
     Made::LastStretchOfSeveral,
     Made::StretchBetween,
+    Made::StretchBehind255,
+    Made::MoreRecordsThanPlaces,
     Made::OneStretchBeyond,
     Made::StretchFarBeyond,
     Made::OneEntryBeyond,

@@ -5,7 +5,7 @@ use super::made::{holding, Made};
 use crate::area::{self, Reading};
 use crate::compare::Side;
 use crate::layout::AreaHeader;
-use crate::mount::{descriptors, entries, mount, FileArea, FileSystem};
+use crate::mount::{descriptors, entries, mount, FileArea, FileSystem, BLOCKS, INODES};
 use crate::refusal::Refusal;
 
 /// What a report tells that answers 0.
@@ -76,7 +76,9 @@ pub fn in_area_report(index: u32, stretch: u32, side: &Side) -> Vec<Made> {
     let stretches = reading.damage.len() as u32;
     made.extend(holding(&[
         (Made::LastStretchOfSeveral, stretches > 1 && stretch == stretches - 1),
-        (Made::StretchBetween, stretch > 0 && stretch + 1 < stretches),
+        (Made::StretchBetween, stretch > 0 && stretch < stretches.saturating_sub(1)),
+        (Made::StretchBehind255, stretch > 255 && stretch < stretches),
+        (Made::MoreRecordsThanPlaces, reading.records.len() > INODES + BLOCKS),
         (Made::OneStretchBeyond, stretches > 0 && stretch == stretches),
         (Made::StretchFarBeyond, stretches > 0 && stretch == u32::MAX),
     ]));
