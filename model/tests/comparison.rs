@@ -89,6 +89,8 @@ fn a_pasted_case() {
             Call::Read { length: 20 },
             Call::Damage { offset: 4096 + 103, bytes: bytes("00") },
             Call::ReadAt { id: 0x1000_0000, position: 0, length: 20 },
+            Call::AreaReport { index: 1, stretch: 0 },
+            Call::AreaReport { index: 4294967295, stretch: 1 },
             Call::Damage { offset: 4096 + 103, bytes: bytes("01") },
             Call::Damage { offset: 4096 + 70, bytes: bytes("01") },
             Call::Read { length: 20 },
@@ -96,6 +98,7 @@ fn a_pasted_case() {
     };
     let mut tally = Tally::default();
     assert!(run(&case, &Model, &Model, &mut tally).is_none());
-    assert_eq!(tally.calls, 4);
+    assert_eq!(tally.calls, 6);
     assert_eq!(tally.answers.get(&("Read", 13)), Some(&1));
+    assert_eq!(tally.answers.get(&("AreaReport", 1)), Some(&1));
 }

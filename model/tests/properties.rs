@@ -5,7 +5,8 @@ use std::collections::BTreeMap;
 use nffs_model::account::{Added, Books};
 use nffs_model::compare::{Answer, Call, Model, Side};
 use nffs_model::damage::{
-    answers_stay, mount_number, overwrite, reads_as_untouched, some_of, spared, Touched,
+    answers_stay, mount_number, overwrite, reads_as_untouched, some_of, spared, tells_where,
+    Touched,
 };
 use nffs_model::file::contents;
 use nffs_model::generate::{self, Random};
@@ -160,6 +161,7 @@ fn damage_leaves_the_untouched_alone() {
         reads_as_untouched(&before, &side.image, &touched);
         let number = nffs_model::report(&side.image, &side.areas).number;
         assert_eq!(number, mount_number(&before, &touched));
+        tells_where(&Model, &before, &side, &touched);
         files += files_stay(&whole, &before, &side, &touched);
     }
     println!("{damaged} damaged images, {files} files looked at");
