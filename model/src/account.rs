@@ -10,7 +10,7 @@ use crate::mount::{descriptors, Descriptor};
 use crate::refusal::Refusal;
 use crate::{AreaReport, Report};
 
-/// Whom is asked about what.
+/// Who is asked, and about what.
 #[derive(Clone, Copy)]
 pub struct Books<'a> {
     pub engine: &'a dyn Engine,
@@ -75,15 +75,16 @@ impl Books<'_> {
         first
     }
 
-    /// "stretch = 0.." up to as many as there are; of more, both numbers are 0.
-    /// The other numbers are the same in each answer.
+    /// The stretches from number 0 on, as many as there are; of more, both numbers
+    /// are 0. The other numbers are the same in each answer.
     fn stretches(&self, index: u32, first: &AreaReport) -> Vec<Stretch> {
         for beyond in [first.stretches, first.stretches.saturating_add(1), u32::MAX] {
             assert_eq!(self.ask(index, beyond), AreaReport { offset: 0, length: 0, ..*first });
         }
         let stretch = |number: u32| {
-            let AreaReport { offset, length, .. } = self.ask(index, number);
-            assert_eq!(self.ask(index, number), AreaReport { offset, length, ..*first });
+            let told = self.ask(index, number);
+            let AreaReport { offset, length, .. } = told;
+            assert_eq!(told, AreaReport { offset, length, ..*first });
             Stretch { offset: offset as usize, length: length as usize }
         };
         (0..first.stretches).map(stretch).collect()
