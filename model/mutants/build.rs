@@ -8,10 +8,11 @@ use std::path::Path;
 use std::{env, fs};
 
 /// Each module that has edits, and which are copied for them.
-const COPIED: [(&str, &[&str]); 8] = [
-    ("layout", &["layout", "area", "mount", "lookup", "file", "write", "collect"]),
-    ("area", &["area", "mount", "lookup", "file", "write", "collect"]),
-    ("mount", &["mount", "lookup", "file", "write", "collect"]),
+const COPIED: [(&str, &[&str]); 9] = [
+    ("layout", &["layout", "area", "mount", "area_report", "lookup", "file", "write", "collect"]),
+    ("area", &["area", "mount", "area_report", "lookup", "file", "write", "collect"]),
+    ("mount", &["mount", "area_report", "lookup", "file", "write", "collect"]),
+    ("area_report", &["area_report"]),
     ("path", &["path", "lookup", "file", "write"]),
     ("lookup", &["lookup", "file", "write"]),
     ("file", &["file", "write"]),
@@ -20,7 +21,7 @@ const COPIED: [(&str, &[&str]); 8] = [
 ];
 
 /// The modules whose functions an engine calls.
-const CALLED: [&str; 5] = ["mount", "lookup", "file", "write", "collect"];
+const CALLED: [&str; 6] = ["mount", "area_report", "lookup", "file", "write", "collect"];
 
 fn main() {
     println!("cargo::rerun-if-changed=edits");

@@ -10,7 +10,7 @@ pub struct Taken {
 }
 
 /// "A maximal run of skipped bytes is a stretch."
-#[derive(Clone, Copy, Debug, PartialEq, Eq)]
+#[derive(Clone, Copy, Debug, Default, PartialEq, Eq)]
 pub struct Stretch {
     pub offset: usize,
     pub length: usize,
@@ -26,7 +26,7 @@ impl Stretch {
 pub struct Reading {
     /// The records taken, in order.
     pub records: Vec<Taken>,
-    /// The stretches that are damage, in order.
+    /// The stretches that are damage, in order; offsets are in the area.
     pub damage: Vec<Stretch>,
     /// Where free space starts; the area's length if there is none.
     pub free: usize,
@@ -40,6 +40,17 @@ impl Reading {
 
     pub fn damage_bytes(&self) -> usize {
         self.damage.iter().map(|stretch| stretch.length).sum()
+    }
+
+    /// "the offset of the first damage stretch and its length (both 0 if there
+    /// is none)" (document 02, T-08).
+    pub fn first_damage(&self) -> Stretch {
+        self.stretch(0)
+    }
+
+    /// Damage stretch number `n`, from 0; "both 0 if there are not so many".
+    pub fn stretch(&self, n: usize) -> Stretch {
+        self.damage.get(n).copied().unwrap_or_default()
     }
 }
 

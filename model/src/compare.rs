@@ -7,12 +7,13 @@ use std::ops::Range;
 
 use crate::generate::made::{self, Made};
 pub use crate::shrink::shrink;
-use crate::{generate, Create, Handle, Lookup, Open, Read, Report};
+use crate::{generate, AreaReport, Create, Handle, Lookup, Open, Read, Report};
 
 /// The calls of documents 01 and 02.
 pub trait Engine {
     fn format(&self, image: &mut [u8], areas: &[u32]) -> u32;
     fn report(&self, image: &[u8], areas: &[u32]) -> Report;
+    fn area_report(&self, image: &[u8], areas: &[u32], index: u32, stretch: u32) -> AreaReport;
     fn lookup(&self, image: &[u8], areas: &[u32], base: &[u8], path: &[u8]) -> Lookup;
     fn open(&self, image: &[u8], areas: &[u32], base: &[u8], path: &[u8]) -> Open;
     fn read_at(
@@ -48,6 +49,9 @@ impl Engine for Model {
     }
     fn report(&self, image: &[u8], areas: &[u32]) -> Report {
         crate::report(image, areas)
+    }
+    fn area_report(&self, image: &[u8], areas: &[u32], index: u32, stretch: u32) -> AreaReport {
+        crate::area_report(image, areas, index, stretch)
     }
     fn lookup(&self, image: &[u8], areas: &[u32], base: &[u8], path: &[u8]) -> Lookup {
         crate::lookup(image, areas, base, path)
@@ -114,6 +118,11 @@ pub enum Call {
     },
     Format,
     Report,
+    /// Of entry `index` of the list, with its damage stretch number `stretch`.
+    AreaReport {
+        index: u32,
+        stretch: u32,
+    },
     Lookup {
         base: Vec<u8>,
         path: Vec<u8>,
@@ -157,6 +166,7 @@ impl Call {
             Call::Handle { .. } => "Handle",
             Call::Format => "Format",
             Call::Report => "Report",
+            Call::AreaReport { .. } => "AreaReport",
             Call::Lookup { .. } => "Lookup",
             Call::Open { .. } => "Open",
             Call::ReadAt { .. } => "ReadAt",
@@ -212,9 +222,9 @@ impl Side {
             }
             Call::Handle { id, position } => self.handle = Handle { id: *id, position: *position },
             Call::Format => return vec![engine.format(image, areas)],
-            Call::Report => {
-                let r = engine.report(image, areas);
-                return vec![r.number, r.inodes, r.live, r.stretches, r.skipped];
+            Call::Report => return reported(&engine.report(image, areas)),
+            Call::AreaReport { index, stretch } => {
+                return area_reported(&engine.area_report(image, areas, *index, *stretch))
             }
             Call::Lookup { base, path } => {
                 let found = engine.lookup(image, areas, base, path);
@@ -255,6 +265,16 @@ impl Side {
         let read = engine.read(&self.image, &self.areas, &mut self.handle, &mut self.buffer);
         vec![read.number, read.given, read.headers]
     }
+}
+
+fn reported(r: &Report) -> Answer {
+    let damage = [r.stretches, r.skipped, r.first_offset, r.first_length];
+    [&[r.number, r.inodes, r.live][..], &damage].concat()
+}
+
+fn area_reported(r: &AreaReport) -> Answer {
+    let counts = [r.records, r.stretches, r.skipped, r.free];
+    [&[r.number, r.kind, r.id, r.count][..], &counts, &[r.offset, r.length]].concat()
 }
 
 /// How many calls were made, which numbers each kind of call answered, and how

@@ -2,14 +2,15 @@
 //! answer of these before and after: the words of demand 3.
 
 use crate::area::{self, Taken};
+use crate::area_report;
 use crate::compare::{Engine, Side};
 use crate::forge::with_reserved;
 use crate::generate::Random;
 use crate::layout::{is_file, Inode, Record, ROOT};
-use crate::mount::{Fate, FileSystem};
+use crate::mount::{descriptors, Fate, FileArea, FileSystem};
 use crate::path;
 use crate::refusal::Refusal;
-use crate::{Handle, Read};
+use crate::{AreaReport, Handle, Read};
 
 /// Each record touched, and the number of its file area.
 pub type Touched = Vec<(usize, Taken)>;
@@ -90,6 +91,39 @@ pub fn mount_number(before: &FileSystem, touched: &Touched) -> u32 {
     } else {
         Refusal::NoRoot.number()
     }
+}
+
+/// Asserts where an engine says that the damage is (T-08): in each file area as
+/// `area_tells` has it, and in the report the first of these.
+pub fn tells_where(engine: &dyn Engine, before: &FileSystem, after: &Side, touched: &Touched) {
+    let Side { image, areas, .. } = after;
+    let list = descriptors(image, areas).unwrap_or_default();
+    let mut first = None;
+    for (i, area) in before.file_areas.iter().enumerate() {
+        let index = list.iter().position(|at| *at == area.at).expect("its descriptor");
+        let told = engine.area_report(image, areas, index as u32, 0);
+        let gone = touched.iter().filter(|(at, _)| *at == i).map(|(_, taken)| taken);
+        area_tells(&told, area, &gone.collect::<Vec<&Taken>>());
+        if told.stretches > 0 {
+            first = first.or(Some((area.at.start as u32 + told.offset, told.length)));
+        }
+    }
+    let report = engine.report(image, areas);
+    if report.number == 0 {
+        assert_eq!((report.first_offset, report.first_length), first.unwrap_or_default());
+    }
+}
+
+/// Of an area that was clean: the untouched records are taken, all bytes of the
+/// others are damage or free, and the first stretch starts where the first of
+/// these did. There may be none, for FF up to the area's end is free.
+fn area_tells(told: &AreaReport, before: &FileArea, gone: &[&Taken]) {
+    let bytes: usize = gone.iter().map(|taken| taken.record.size()).sum();
+    let old_free = before.at.len() - before.reading.free;
+    assert_eq!((told.number, told.kind), (0, area_report::FILE));
+    assert_eq!(told.records as usize, before.reading.records.len() - gone.len());
+    assert_eq!((told.skipped + told.free) as usize, old_free + bytes);
+    assert!(told.stretches == 0 || told.offset as usize == gone[0].offset);
 }
 
 /// A live inode and its ancestors, itself first.

@@ -1,5 +1,5 @@
 //! An ordinary Rust model of document 01 (NFFS version 0 over a lent image) as
-//! T-03, T-06 and T-14 of document 02 amend it, written from the documents
+//! T-03, T-06, T-08 and T-14 of document 02 amend it, written from the documents
 //! alone, to be compared with the implementation.
 //!
 //! Every call answers from the bytes alone, as if the image were mounted anew.
@@ -8,7 +8,9 @@
 
 #![forbid(unsafe_code)]
 
+pub mod account;
 pub mod area;
+pub mod area_report;
 pub mod collect;
 pub mod compare;
 pub mod crc;
@@ -24,6 +26,8 @@ pub mod refusal;
 mod shrink;
 pub mod write;
 
+/// The first damage over the file areas stands last, as an offset in the image
+/// (T-08).
 #[derive(Clone, Copy, Debug, Default, PartialEq, Eq)]
 pub struct Report {
     pub number: u32,
@@ -31,6 +35,25 @@ pub struct Report {
     pub live: u32,
     pub stretches: u32,
     pub skipped: u32,
+    pub first_offset: u32,
+    pub first_length: u32,
+}
+
+/// The report of one area (T-08). `kind` is 0 for an area that is passed over, 1
+/// for a file area and 2 for scratch; offset and length are of the damage stretch
+/// that was asked for, the offset from the area's start.
+#[derive(Clone, Copy, Debug, Default, PartialEq, Eq)]
+pub struct AreaReport {
+    pub number: u32,
+    pub kind: u32,
+    pub id: u32,
+    pub count: u32,
+    pub records: u32,
+    pub stretches: u32,
+    pub skipped: u32,
+    pub free: u32,
+    pub offset: u32,
+    pub length: u32,
 }
 
 /// `kind` is 0 for a directory and 1 for a file.
@@ -74,6 +97,11 @@ pub fn format(image: &mut [u8], areas: &[u32]) -> u32 {
 
 pub fn report(image: &[u8], areas: &[u32]) -> Report {
     mount::report(image, areas)
+}
+
+/// Of the list's entry `index`, with damage stretch number `stretch` of it.
+pub fn area_report(image: &[u8], areas: &[u32], index: u32, stretch: u32) -> AreaReport {
+    area_report::area_report(image, areas, index, stretch)
 }
 
 pub fn lookup(image: &[u8], areas: &[u32], base: &[u8], path: &[u8]) -> Lookup {

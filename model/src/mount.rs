@@ -3,7 +3,7 @@
 use std::collections::{BTreeMap, BTreeSet};
 use std::ops::Range;
 
-use crate::area::{self, Reading};
+use crate::area::{self, Reading, Stretch};
 use crate::layout::{is_block, AreaHeader, Block, Inode, Record, BLOCK_DATA, ROOT};
 use crate::refusal::Refusal;
 use crate::Report;
@@ -24,7 +24,7 @@ pub type Descriptor = Range<usize>;
 
 /// "The list ends at the first length 0 or at its end; later entries aren't
 /// looked at." An odd last number isn't looked at either.
-fn entries(areas: &[u32]) -> Vec<(u64, u64)> {
+pub fn entries(areas: &[u32]) -> Vec<(u64, u64)> {
     areas
         .chunks_exact(2)
         .map(|pair| (u64::from(pair[0]), u64::from(pair[1])))
@@ -232,6 +232,15 @@ impl FileSystem {
         tables_hold(&ids, new_inodes, new_blocks)
     }
 
+    /// "the first of these over the file areas in descriptor order, as an offset
+    /// in the image" (document 02, T-08).
+    pub fn first_damage(&self) -> Stretch {
+        let damaged = self.file_areas.iter().find(|area| !area.reading.is_clean());
+        let Some(area) = damaged else { return Stretch::default() };
+        let first = area.reading.first_damage();
+        Stretch { offset: area.at.start + first.offset, ..first }
+    }
+
     /// The greatest block size by "the shortest file area's length".
     pub fn greatest_block(&self) -> usize {
         let shortest = self.file_areas.iter().map(|area| area.at.len()).min().unwrap_or(0);
@@ -248,18 +257,24 @@ pub fn greatest_block(shortest: usize) -> usize {
 }
 
 /// "report: distinct inode ids, live ones, damage stretches, damage bytes over
-/// file areas."
+/// file areas", and where the first damage is (document 02, T-08).
 pub fn report(image: &[u8], areas: &[u32]) -> Report {
     match mount(image, areas) {
-        Ok(fs) => Report {
-            number: 0,
-            inodes: fs.inodes().count() as u32,
-            live: fs.inodes().filter(|inode| fs.fate(inode.id) == Fate::Live).count() as u32,
-            stretches: fs.file_areas.iter().map(|area| area.reading.damage.len()).sum::<usize>()
-                as u32,
-            skipped: fs.file_areas.iter().map(|area| area.reading.damage_bytes()).sum::<usize>()
-                as u32,
-        },
+        Ok(fs) => mounted(&fs),
         Err(refusal) => Report { number: refusal.number(), ..Report::default() },
+    }
+}
+
+fn mounted(fs: &FileSystem) -> Report {
+    let first = fs.first_damage();
+    let readings = || fs.file_areas.iter().map(|area| &area.reading);
+    Report {
+        number: 0,
+        inodes: fs.inodes().count() as u32,
+        live: fs.inodes().filter(|inode| fs.fate(inode.id) == Fate::Live).count() as u32,
+        stretches: readings().map(|reading| reading.damage.len()).sum::<usize>() as u32,
+        skipped: readings().map(Reading::damage_bytes).sum::<usize>() as u32,
+        first_offset: first.offset as u32,
+        first_length: first.length as u32,
     }
 }

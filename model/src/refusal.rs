@@ -3,7 +3,8 @@
 #[derive(Clone, Copy, Debug, PartialEq, Eq)]
 pub enum Refusal {
     /// image over 65,536 bytes or descriptors not good, which have 16 entries
-    /// at most (document 02, T-06)
+    /// at most (document 02, T-06); area report: the list has no such entry
+    /// (T-08)
     Descriptors = 1,
     /// two file areas have one id
     SharedAreaId = 2,

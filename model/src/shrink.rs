@@ -61,35 +61,27 @@ impl Shrinker<'_> {
         for i in (0..self.case.areas.len() / 2).rev() {
             let mut smaller = self.case.clone();
             smaller.areas.drain(2 * i..2 * i + 2);
-            self.keep(smaller);
+            let renumbered = Case { calls: renumbered(&smaller.calls, i), ..smaller.clone() };
+            if !self.keep(smaller.clone()) && renumbered != smaller {
+                self.keep(renumbered);
+            }
         }
     }
 
     fn shorten_calls(&mut self) {
         for i in 0..self.case.calls.len() {
-            while let Some(smaller) = self.with_call(i, halve) {
-                if !self.keep(smaller) {
-                    break;
-                }
-            }
-            while let Some(smaller) = self.with_call(i, one_less) {
-                if !self.keep(smaller) {
-                    break;
+            for part in PARTS {
+                for less in [halve, one_less] {
+                    while self.keep(self.with_call(i, part, less)) {}
                 }
             }
         }
     }
 
-    fn with_call(&self, i: usize, shorten: fn(usize) -> usize) -> Option<Case> {
+    fn with_call(&self, i: usize, part: Part, less: Less) -> Case {
         let mut smaller = self.case.clone();
-        match smaller.calls.get_mut(i)? {
-            Call::Append { data: bytes, .. } | Call::Damage { bytes, .. } => {
-                bytes.truncate(shorten(bytes.len()));
-            }
-            Call::Read { length } | Call::ReadAt { length, .. } => *length = shorten(*length),
-            _ => return None,
-        }
-        Some(smaller)
+        part(&mut smaller.calls[i], less);
+        smaller
     }
 
     /// Pieces of the image become FF, and its end is cut off.
@@ -109,6 +101,45 @@ impl Shrinker<'_> {
             }
             piece /= 2;
         }
+    }
+}
+
+/// The calls where an entry of the list is left out: those behind it have other
+/// numbers then.
+fn renumbered(calls: &[Call], dropped: usize) -> Vec<Call> {
+    let mut calls = calls.to_vec();
+    for call in &mut calls {
+        if let Call::AreaReport { index, .. } = call {
+            *index -= u32::from(*index as usize > dropped);
+        }
+    }
+    calls
+}
+
+type Less = fn(usize) -> usize;
+/// Makes a part of a call less, if it has it.
+type Part = fn(&mut Call, Less);
+const PARTS: [Part; 3] = [length, index, stretch];
+
+fn length(call: &mut Call, less: Less) {
+    match call {
+        Call::Append { data: bytes, .. } | Call::Damage { bytes, .. } => {
+            bytes.truncate(less(bytes.len()));
+        }
+        Call::Read { length } | Call::ReadAt { length, .. } => *length = less(*length),
+        _ => {}
+    }
+}
+
+fn index(call: &mut Call, less: Less) {
+    if let Call::AreaReport { index, .. } = call {
+        *index = less(*index as usize) as u32;
+    }
+}
+
+fn stretch(call: &mut Call, less: Less) {
+    if let Call::AreaReport { stretch, .. } = call {
+        *stretch = less(*stretch as usize) as u32;
     }
 }
 

@@ -18,9 +18,10 @@ fn tally(seeds: std::ops::Range<u64>) -> Tally {
 }
 
 /// The numbers that the documents allow each call.
-const ANSWERS: [(&str, &[u32]); 10] = [
+const ANSWERS: [(&str, &[u32]); 11] = [
     ("Format", &[0, 1, 3]),
     ("Report", &[0, 1, 2, 3, 4, 5, 6, 7]),
+    ("AreaReport", &[0, 1]),
     ("Lookup", &[0, 1, 2, 3, 4, 5, 6, 7, 8, 9, 10, 11]),
     ("Open", &[0, 1, 2, 3, 4, 5, 6, 7, 8, 9, 10, 11]),
     ("ReadAt", &[0, 1, 2, 3, 4, 5, 6, 7, 9, 11, 13, 14]),
@@ -38,7 +39,7 @@ fn every_answer_of_every_call_is_reached() {
     let rate = tally.calls as f64 / start.elapsed().as_secs_f64();
     println!("{} calls compared, {rate:.0} a second", tally.calls);
     for ((call, number), times) in &tally.answers {
-        println!("{call:8} {number:2} {times}");
+        println!("{call:10} {number:2} {times}");
     }
     println!("made: {:?}", tally.made);
     let reached: BTreeSet<(&str, u32)> = tally.answers.keys().copied().collect();
@@ -88,6 +89,8 @@ fn a_pasted_case() {
             Call::Read { length: 20 },
             Call::Damage { offset: 4096 + 103, bytes: bytes("00") },
             Call::ReadAt { id: 0x1000_0000, position: 0, length: 20 },
+            Call::AreaReport { index: 1, stretch: 0 },
+            Call::AreaReport { index: 4294967295, stretch: 1 },
             Call::Damage { offset: 4096 + 103, bytes: bytes("01") },
             Call::Damage { offset: 4096 + 70, bytes: bytes("01") },
             Call::Read { length: 20 },
@@ -95,6 +98,7 @@ fn a_pasted_case() {
     };
     let mut tally = Tally::default();
     assert!(run(&case, &Model, &Model, &mut tally).is_none());
-    assert_eq!(tally.calls, 4);
+    assert_eq!(tally.calls, 6);
     assert_eq!(tally.answers.get(&("Read", 13)), Some(&1));
+    assert_eq!(tally.answers.get(&("AreaReport", 1)), Some(&1));
 }

@@ -2,8 +2,10 @@
 //! fault at the call itself, and a bounded number of generated cases finds it.
 //! Faults inside the rules: the package `mutants`.
 
-use nffs_model::compare::{compare, first_difference, run, shrink, Engine, Model, Tally};
-use nffs_model::{generate, Create, Handle, Lookup, Open, Read, Report};
+use nffs_model::compare::{
+    compare, first_difference, run, show, shrink, Call, Engine, Model, Tally,
+};
+use nffs_model::{generate, AreaReport, Create, Handle, Lookup, Open, Read, Report};
 
 /// Cases allowed for finding a fault.
 const CASES: u64 = 4000;
@@ -21,6 +23,10 @@ enum Impostor {
     CollectorDoesNothing,
     AppendStoresNothing,
     NoDamageReported,
+    NoFirstDamage,
+    RefusesEveryArea,
+    AreaReportByTheReport,
+    OffsetLeftWithoutAStretch,
     InventedHeaderCount,
     RefusedReadMoves,
     RefusedReadTouchesBuffer,
@@ -55,10 +61,29 @@ impl Engine for Wrapped {
         let ignored = self.is(Impostor::SeventeenthEntryIgnored);
         let areas = if ignored { &areas[..areas.len().min(2 * 16)] } else { areas };
         let report = MODEL.report(image, areas);
-        if self.is(Impostor::NoDamageReported) {
-            return Report { stretches: 0, skipped: 0, ..report };
+        match self.0 {
+            Impostor::NoDamageReported => {
+                Report { stretches: 0, skipped: 0, first_offset: 0, first_length: 0, ..report }
+            }
+            Impostor::NoFirstDamage => Report { first_offset: 0, first_length: 0, ..report },
+            _ => report,
         }
-        report
+    }
+
+    fn area_report(&self, image: &[u8], areas: &[u32], index: u32, stretch: u32) -> AreaReport {
+        let report = MODEL.area_report(image, areas, index, stretch);
+        match self.0 {
+            Impostor::RefusesEveryArea => AreaReport { number: 1, ..AreaReport::default() },
+            Impostor::AreaReportByTheReport => {
+                let Report { stretches, skipped, .. } = MODEL.report(image, areas);
+                AreaReport { stretches, skipped, ..report }
+            }
+            Impostor::OffsetLeftWithoutAStretch if report.number == 0 => {
+                let first = MODEL.area_report(image, areas, index, 0).offset;
+                AreaReport { offset: report.offset.max(first), ..report }
+            }
+            _ => report,
+        }
     }
 
     fn lookup(&self, image: &[u8], areas: &[u32], base: &[u8], path: &[u8]) -> Lookup {
@@ -145,6 +170,10 @@ fn impostors_at_the_call() {
         Impostor::CollectorDoesNothing,
         Impostor::AppendStoresNothing,
         Impostor::NoDamageReported,
+        Impostor::NoFirstDamage,
+        Impostor::RefusesEveryArea,
+        Impostor::AreaReportByTheReport,
+        Impostor::OffsetLeftWithoutAStretch,
         Impostor::InventedHeaderCount,
         Impostor::RefusedReadMoves,
         Impostor::RefusedReadTouchesBuffer,
@@ -172,4 +201,19 @@ fn a_difference_is_shrunk_and_shown() {
     let text = compare(seed..seed + 1, &MODEL, &mutant).expect_err("a difference");
     println!("{text}");
     assert!(text.contains("answers [10") && text.contains("image: bytes(\""));
+}
+
+/// The same of the report of an area (T-08): the entries that are not needed go,
+/// and the index and the stretch become as small as they can.
+#[test]
+fn a_difference_of_an_area_is_shrunk() {
+    let mutant = Wrapped(Impostor::OffsetLeftWithoutAStretch);
+    let seed = first_difference(0..CASES, &MODEL, &mutant).expect("a difference");
+    let small = shrink(generate::case(seed), &MODEL, &mutant);
+    assert!(run(&small, &MODEL, &mutant, &mut Tally::default()).is_some());
+    let text = show(&small, &MODEL, &mutant);
+    println!("{text}");
+    let last = Call::AreaReport { index: 0, stretch: 1 };
+    assert_eq!((small.areas.len(), small.calls.last()), (2, Some(&last)));
+    assert!(text.contains("        Call::AreaReport { index: 0, stretch: 1 },\n"));
 }

@@ -2,9 +2,11 @@
 
 use std::collections::BTreeMap;
 
+use nffs_model::account::{Added, Books};
 use nffs_model::compare::{Answer, Call, Model, Side};
 use nffs_model::damage::{
-    answers_stay, mount_number, overwrite, reads_as_untouched, some_of, spared, Touched,
+    answers_stay, mount_number, overwrite, reads_as_untouched, some_of, spared, tells_where,
+    Touched,
 };
 use nffs_model::file::contents;
 use nffs_model::generate::{self, Random};
@@ -159,6 +161,7 @@ fn damage_leaves_the_untouched_alone() {
         reads_as_untouched(&before, &side.image, &touched);
         let number = nffs_model::report(&side.image, &side.areas).number;
         assert_eq!(number, mount_number(&before, &touched));
+        tells_where(&Model, &before, &side, &touched);
         files += files_stay(&whole, &before, &side, &touched);
     }
     println!("{damaged} damaged images, {files} files looked at");
@@ -182,4 +185,53 @@ fn files_stay(before: &Side, old: &FileSystem, after: &Side, touched: &Touched) 
         answers_stay(&Model, (before, old), (after, &new), *id);
     }
     asked.len() as u64
+}
+
+/// T-08: every area adds up to its length, its stretches are apart and in order,
+/// and the report is the sum of its file areas: of each image that a case begins
+/// with, and of what its calls leave.
+#[test]
+fn areas_add_up() {
+    let mut sum = Added::default();
+    for seed in 0..CASES {
+        let case = generate::case(seed);
+        let mut side = Side::new(&case);
+        add_up(&side, &mut sum);
+        case.calls.iter().for_each(|call| {
+            side.perform(&Model, call);
+        });
+        add_up(&side, &mut sum);
+    }
+    println!("{sum:?}");
+    let enough = CASES as usize;
+    assert!(sum.areas > 4 * enough && sum.stretches > enough && sum.mounted > enough);
+}
+
+fn add_up(side: &Side, sum: &mut Added) {
+    let books = Books { engine: &Model, image: &side.image, areas: &side.areas };
+    let added = books.add_up();
+    sum.areas += added.areas;
+    sum.stretches += added.stretches;
+    sum.mounted += added.mounted;
+}
+
+/// Every case asks for every entry of its last list, for those behind the end of
+/// it, and for two that are nowhere.
+#[test]
+fn cases_ask_for_every_area() {
+    for seed in 0..CASES {
+        let case = generate::case(seed);
+        let list = case.calls.iter().rev().find_map(|call| match call {
+            Call::Areas(list) => Some(list),
+            _ => None,
+        });
+        let listed = list.unwrap_or(&case.areas).len() as u32 / 2;
+        let every: Vec<u32> = (0..=listed).chain([u32::MAX]).collect();
+        let last = &case.calls[case.calls.len() - every.len()..];
+        let asked = last.iter().map(|call| match call {
+            Call::AreaReport { index, .. } => *index,
+            other => panic!("{other:?}"),
+        });
+        assert_eq!(asked.collect::<Vec<u32>>(), every);
+    }
 }

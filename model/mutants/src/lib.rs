@@ -6,7 +6,7 @@
 macro_rules! engine {
     () => {
         use nffs_model::compare::Engine;
-        use nffs_model::{Create, Handle, Lookup, Open, Read, Report};
+        use nffs_model::{AreaReport, Create, Handle, Lookup, Open, Read, Report};
 
         pub struct Mutant;
 
@@ -16,6 +16,9 @@ macro_rules! engine {
             }
             fn report(&self, i: &[u8], a: &[u32]) -> Report {
                 mount::report(i, a)
+            }
+            fn area_report(&self, i: &[u8], a: &[u32], index: u32, stretch: u32) -> AreaReport {
+                area_report::area_report(i, a, index, stretch)
             }
             fn lookup(&self, i: &[u8], a: &[u32], base: &[u8], path: &[u8]) -> Lookup {
                 lookup::lookup(i, a, base, path)

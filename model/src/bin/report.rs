@@ -1,9 +1,12 @@
 //! Document 01's program: "reads standard input, cut into areas of 4,096", 2 to
-//! 16 of them (document 02, T-06), "no rest; else `mount 1`".
+//! 16 of them (document 02, T-06), "no rest; else `mount 1`". "The program's
+//! second line ends in ` first O+L`" (T-08).
 
 #![forbid(unsafe_code)]
 
 use std::io::{self, Read, Write};
+
+use nffs_model::Report;
 
 const AREA: usize = 4096;
 
@@ -19,9 +22,10 @@ fn answer(image: &[u8]) -> String {
     if report.number != 0 {
         return format!("mount {}\n", report.number);
     }
+    let Report { inodes, live, stretches, skipped, first_offset, first_length, .. } = report;
     format!(
-        "mount 0\ninodes {} live {} stretches {} skipped {}\n",
-        report.inodes, report.live, report.stretches, report.skipped
+        "mount 0\ninodes {inodes} live {live} stretches {stretches} skipped {skipped} \
+         first {first_offset}+{first_length}\n"
     )
 }
 

@@ -6,12 +6,15 @@ use super::lists;
 use super::paths::{name, spell};
 use super::random::Random;
 use super::{FILES, NAMES, SEQUENCES};
+use crate::area;
 use crate::compare::{Call, Case, Model, Side};
 use crate::forge::with_reserved;
 use crate::layout::{
     is_file, AreaHeader, Block, Inode, Record, FIRST_BLOCK, FIRST_FILE, NONE, ROOT,
 };
-use crate::mount::{greatest_block, mount, Fate, FileSystem, BLOCKS, INODES, SHORTEST_AREA};
+use crate::mount::{
+    descriptors, entries, greatest_block, mount, Fate, FileSystem, BLOCKS, INODES, SHORTEST_AREA,
+};
 
 /// A table with so few places left is about full.
 const ABOUT_FULL: usize = 3;
@@ -52,6 +55,9 @@ impl Maker {
 
     pub fn make(&mut self) {
         self.start_list();
+        if self.is_torn() || self.r.chance(5) {
+            self.area_reports();
+        }
         self.populate();
         let count = self.r.between(4, 24);
         let harm = if self.r.chance(40) { 12 } else { 0 };
@@ -68,6 +74,7 @@ impl Maker {
             self.call();
         }
         self.push(Call::Report);
+        self.area_reports();
     }
 
     /// A bare file system gets some files first.
@@ -119,7 +126,8 @@ impl Maker {
             self.push(Call::Areas(self.good.clone()));
         }
         let call = match self.kind_of_call() {
-            0..=5 => Call::Report,
+            0..=2 => Call::Report,
+            3..=5 => self.area_report(),
             6..=13 => self.lookup(),
             14..=21 => self.open(),
             22..=33 => self.read(),
@@ -149,6 +157,55 @@ impl Maker {
     fn places_left(&self) -> (usize, usize) {
         let Some(fs) = &self.mounted else { return (INODES, BLOCKS) };
         (INODES - fs.inodes().count(), BLOCKS - fs.blocks().count())
+    }
+
+    /// Whether an area has many stretches, which a collection would leave behind.
+    fn is_torn(&self) -> bool {
+        (0..self.side.areas.len() as u32 / 2).any(|index| self.stretches(index) > 16)
+    }
+
+    /// Of every entry, of those behind the end of the list, of one that isn't
+    /// there and of one far beyond.
+    fn area_reports(&mut self) {
+        let listed = self.side.areas.len() as u32 / 2;
+        for index in (0..=listed).chain([u32::MAX]) {
+            let call = self.area_report_of(index);
+            self.push(call);
+        }
+    }
+
+    /// Of some entry, sometimes of one that stands behind the list or nowhere.
+    fn area_report(&mut self) -> Call {
+        let entries = entries(&self.side.areas).len();
+        let index = match self.r.below(12) {
+            0 => entries,
+            1 => entries + 1,
+            2 => self.r.pick(&[15, 16, 17, 0x100, u32::MAX as usize]),
+            _ => self.r.below(entries.max(1)),
+        };
+        self.area_report_of(index as u32)
+    }
+
+    /// Its first damage stretch, its last, one between, one beyond them or one
+    /// far beyond.
+    fn area_report_of(&mut self, index: u32) -> Call {
+        let stretches = self.stretches(index);
+        let stretch = match self.r.below(12) {
+            0 => self.r.pick(&[0x100, u32::MAX, u32::MAX]) as usize,
+            1 | 2 => stretches,
+            3..=5 => stretches.saturating_sub(1),
+            6..=9 => self.r.below(stretches.max(1)),
+            _ => 0,
+        };
+        Call::AreaReport { index, stretch: stretch as u32 }
+    }
+
+    /// How many damage stretches an entry has, if it is there.
+    fn stretches(&self, index: u32) -> usize {
+        let Side { image, areas, .. } = &self.side;
+        let descriptors = descriptors(image, areas).unwrap_or_default();
+        let entry = descriptors.into_iter().nth(index as usize);
+        entry.map_or(0, |at| area::read(&image[at]).damage.len())
     }
 
     fn lookup(&mut self) -> Call {

@@ -25,11 +25,16 @@ pub fn shape(r: &mut Random) -> Flash {
         4..=9 => r.pick(&SHORT),
         _ => r.between(128, 600),
     };
+    // Where none is longer than most of them, several are as long as scratch.
     let mixed = r.chance(40);
+    let longest = if r.chance(50) { common.min(600) } else { 600 };
     let mut lengths: Vec<usize> = Vec::new();
     for _ in 0..count {
-        let length = if mixed && r.chance(60) { r.between(128, 600) } else { common };
+        let length = if mixed && r.chance(60) { r.between(128, longest) } else { common };
         lengths.push(length);
+    }
+    if count > 4 && r.chance(30) {
+        lengths[0] = r.between(128, longest);
     }
     place(r, &lengths)
 }
@@ -99,6 +104,9 @@ pub fn write_headers(r: &mut Random, flash: &mut Flash) -> usize {
     if r.chance(5) {
         reserved_header(r, flash, scratch);
     }
+    if r.chance(4) {
+        other_length(r, flash, scratch);
+    }
     if r.chance(25) {
         dirty_scratch(r, flash, scratch);
     }
@@ -106,7 +114,8 @@ pub fn write_headers(r: &mut Random, flash: &mut Flash) -> usize {
 }
 
 /// A header with a reserved byte that isn't 0: the scratch area's, or that of a
-/// file area, which sometimes would be a second scratch area or share its id.
+/// file area, which sometimes would be a second scratch area or share its id, and
+/// sometimes has damage before its records.
 fn reserved_header(r: &mut Random, flash: &mut Flash, scratch: usize) {
     let count = flash.areas.len() / 2;
     let files: Vec<usize> = (0..count).filter(|area| *area != scratch).collect();
@@ -116,6 +125,25 @@ fn reserved_header(r: &mut Random, flash: &mut Flash, scratch: usize) {
     if area != scratch && r.chance(40) {
         let other = r.pick(&files) as u8;
         flash.image[at + AreaHeader::ID_AT] = r.pick(&[255, other]);
+    }
+    if r.chance(60) {
+        junk_between(r, flash, area);
+    }
+}
+
+/// A header that tells another length than its descriptor, mostly a shorter one,
+/// and sometimes damage before its records.
+fn other_length(r: &mut Random, flash: &mut Flash, scratch: usize) {
+    let area = r.below(flash.areas.len() / 2);
+    if area == scratch && r.chance(80) {
+        return;
+    }
+    let length = flash.length(area);
+    let other = r.pick(&[24, 64, length / 2, length - 1, length + 1, 65_536]) as u32;
+    let at = flash.offset(area) + 16;
+    flash.image[at..at + 4].copy_from_slice(&other.to_le_bytes());
+    if r.chance(60) {
+        junk_between(r, flash, area);
     }
 }
 
@@ -301,18 +329,19 @@ fn unacceptable(r: &mut Random) -> Vec<u8> {
     }
 }
 
-/// Spreads the records over the file areas, with junk between them in some.
+/// Spreads the records over the file areas, with junk between them in some, behind
+/// most of them in a few.
 fn lay(r: &mut Random, flash: &mut Flash, scratch: usize, records: Vec<Vec<u8>>) {
     let count = flash.areas.len() / 2;
     let files: Vec<usize> = (0..count).filter(|area| *area != scratch).collect();
-    let dirty = r.chance(25);
+    let dirty = if r.chance(25) { r.pick(&[15, 15, 60]) } else { 0 };
     for record in records {
         let first = r.below(files.len());
         let area = (0..files.len()).map(|i| files[(first + i) % files.len()]);
         let fits = area.into_iter().find(|area| flash.room(*area) >= record.len());
         let Some(area) = fits else { continue };
         flash.put(area, &record);
-        if dirty && r.chance(15) {
+        if dirty > 0 && r.chance(dirty) {
             junk_between(r, flash, area);
         }
     }

@@ -1,5 +1,5 @@
 //! Images near the limits: whole volumes, thousands of named ids, deep
-//! directories, blocks about the greatest length.
+//! directories, blocks about the greatest length, hundreds of damage stretches.
 
 use super::images::{place, write_headers};
 use super::random::Random;
@@ -120,6 +120,27 @@ pub fn long_blocks(r: &mut Random) -> Flash {
     let (first, second) = (r.bytes(lengths.0), r.bytes(lengths.1));
     flash.block(1 - scratch, FIRST_BLOCK, 0, FIRST_FILE, NONE, &first);
     flash.block(1 - scratch, FIRST_BLOCK + 1, 0, FIRST_FILE, FIRST_BLOCK, &second);
+    flash
+}
+
+/// An area with many versions of one inode: with junk behind most of them, so that
+/// it has dozens or hundreds of stretches (T-08), or with little, and more records
+/// than the tables have places. Sometimes it is the scratch area.
+pub fn torn(r: &mut Random) -> Flash {
+    let (records, junk) = r.pick(&[(20, 100), (60, 60), (600, 100), (600, 100), (1400, 5)]);
+    let length = 200 + records * Inode::HEADER + records * junk / 30;
+    let mut flash = place(r, &[length, length, 200]);
+    let scratch = write_headers(r, &mut flash);
+    let file_area = if scratch == 0 { 1 } else { 0 };
+    flash.root(file_area);
+    let area = if r.chance(20) { scratch } else { file_area };
+    for sequence in 0..records as u32 {
+        flash.delete(area, 0x0fff_0000, sequence);
+        if r.chance(junk) {
+            let bytes = r.pick(&[&b"\0"[..], b"\xff", b"xy", b"\xff\0\xff"]);
+            flash.put(area, bytes);
+        }
+    }
     flash
 }
 

@@ -3,6 +3,7 @@
 
 use std::collections::BTreeSet;
 
+use super::stretches::{in_area_report, in_report};
 use crate::area::{self, Reading};
 use crate::collect::{count_precedes, is_eligible, source};
 use crate::compare::{Answer, Call, Case, Side};
@@ -104,9 +105,60 @@ pub enum Made {
     ShorterAreaPrecedes,
     /// The scratch area's count precedes the source's.
     ScratchPrecedes,
+    /// A report that answers 0, here and in those that follow.
+    DamageInTwoFileAreas,
+    /// Of the damaged file areas the first in descriptor order is not the lowest
+    /// in the image.
+    FirstDamageNotTheLowest,
+    /// And a later one is damaged.
+    FirstFileAreaClean,
+    /// In a file area.
+    NoFreeSpace,
+    /// In the first damaged file area, as those that follow.
+    TwoStretchesInAnArea,
+    LaterStretchLonger,
+    /// The only stretch is the last one, free space being a part of it.
+    DamageBeforeFreeSpace,
+    /// The only stretch reaches the area's end.
+    DamageUpToTheEnd,
+    DamageAt24,
+    FfBeginsDamage,
+    FfEndsDamage,
+    /// No file area is damaged.
+    DamageInScratchAlone,
+    /// The scratch area comes before the first damaged file area.
+    DamageInScratchBefore,
+    /// No file area is damaged, nor is scratch.
+    DamagePassedOverAlone,
+    DamagePassedOverBefore,
+    /// The report of one area, here and in those that follow.
+    LastStretchOfSeveral,
+    StretchBetween,
+    /// A stretch of the area, of a number over 255.
+    StretchBehind255,
+    /// In the area.
+    MoreRecordsThanPlaces,
+    /// One more than the area has, which has some.
+    OneStretchBeyond,
+    StretchFarBeyond,
+    /// One more than a good list has.
+    OneEntryBeyond,
+    /// An entry that stands behind the end of a good list.
+    EntryBehindTheEnd,
+    EntryFarBeyond,
+    /// With records and damage.
+    ScratchAreaReported,
+    PassedOverAreaReported,
+    /// A mount would answer 2, ..., 7.
+    AreaReportWhere2,
+    AreaReportWhere3,
+    AreaReportWhere4,
+    AreaReportWhere5,
+    AreaReportWhere6,
+    AreaReportWhere7,
 }
 
-pub const ALL: [Made; 46] = [
+pub const ALL: [Made; 78] = [
     Made::WholeVolume,
     Made::ThousandsOfNamedIds,
     Made::TenDirectoriesDeep,
@@ -153,10 +205,42 @@ pub const ALL: [Made; 46] = [
     Made::CountPassesTo0,
     Made::ShorterAreaPrecedes,
     Made::ScratchPrecedes,
+    Made::DamageInTwoFileAreas,
+    Made::FirstDamageNotTheLowest,
+    Made::FirstFileAreaClean,
+    Made::NoFreeSpace,
+    Made::TwoStretchesInAnArea,
+    Made::LaterStretchLonger,
+    Made::DamageBeforeFreeSpace,
+    Made::DamageUpToTheEnd,
+    Made::DamageAt24,
+    Made::FfBeginsDamage,
+    Made::FfEndsDamage,
+    Made::DamageInScratchAlone,
+    Made::DamageInScratchBefore,
+    Made::DamagePassedOverAlone,
+    Made::DamagePassedOverBefore,
+    Made::LastStretchOfSeveral,
+    Made::StretchBetween,
+    Made::StretchBehind255,
+    Made::MoreRecordsThanPlaces,
+    Made::OneStretchBeyond,
+    Made::StretchFarBeyond,
+    Made::OneEntryBeyond,
+    Made::EntryBehindTheEnd,
+    Made::EntryFarBeyond,
+    Made::ScratchAreaReported,
+    Made::PassedOverAreaReported,
+    Made::AreaReportWhere2,
+    Made::AreaReportWhere3,
+    Made::AreaReportWhere4,
+    Made::AreaReportWhere5,
+    Made::AreaReportWhere6,
+    Made::AreaReportWhere7,
 ];
 
 /// Those that hold, of things with whether they do.
-fn holding(of: &[(Made, bool)]) -> Vec<Made> {
+pub fn holding(of: &[(Made, bool)]) -> Vec<Made> {
     of.iter().filter(|(_, holds)| *holds).map(|(made, _)| *made).collect()
 }
 
@@ -312,12 +396,15 @@ fn has_block(image: &[u8], length: usize) -> bool {
         .any(|record| record.block().is_some_and(|block| block.data.len() == length))
 }
 
-/// What a call has by what it is given: a collection, by the counts.
+/// What a call has by what it is given: a collection, by the counts; reports, by
+/// the damage.
 pub fn before_call(call: &Call, side: &Side) -> Vec<Made> {
-    if *call != Call::Collect {
-        return Vec::new();
+    match call {
+        Call::Collect => mounts(side).map_or_else(Vec::new, |fs| in_collection(&fs)),
+        Call::Report => mounts(side).map_or_else(Vec::new, |fs| in_report(&fs, side)),
+        Call::AreaReport { index, stretch } => in_area_report(*index, *stretch, side),
+        _ => Vec::new(),
     }
-    mounts(side).map_or_else(Vec::new, |fs| in_collection(&fs))
 }
 
 fn in_collection(fs: &FileSystem) -> Vec<Made> {

@@ -8,6 +8,7 @@ mod lists;
 pub mod made;
 mod paths;
 mod random;
+mod stretches;
 mod tables;
 
 pub use random::Random;
@@ -40,7 +41,8 @@ fn drawn(mut r: Random) -> Case {
         337..=344 => blocks::edges(&mut r),
         345..=352 => blocks::earlier(&mut r),
         353..=364 => tables::tables(&mut r),
-        365..=376 => images::junk(&mut r),
+        365..=373 => images::junk(&mut r),
+        374..=376 => large::torn(&mut r),
         377..=387 => images::headers(&mut r),
         388..=390 => large::whole(&mut r),
         391..=392 => large::named(&mut r),

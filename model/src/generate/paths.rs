@@ -2,6 +2,7 @@
 
 use super::random::Random;
 use super::NAMES;
+use crate::path::PATH;
 
 pub fn name(r: &mut Random) -> Vec<u8> {
     match r.below(40) {
@@ -20,7 +21,9 @@ pub fn spell(r: &mut Random, names: &[Vec<u8>]) -> (Vec<u8>, Vec<u8>) {
     if r.chance(8) {
         return misspell(r, names);
     }
-    if names.is_empty() || r.chance(60) {
+    // What is too long for one path may be short enough for a base and a path.
+    let too_long = absolute(names).len() > PATH;
+    if names.is_empty() || !too_long && r.chance(60) {
         return (r.pick(&junk_base).to_vec(), absolute(names));
     }
     let at = r.below(names.len());

@@ -89,7 +89,7 @@ fn root() -> Vec<u8> {
 }
 
 /// The reading of an area; its damage is what a report of a volume counts in which it is the
-/// second of two file areas.
+/// second of two file areas, and what the report of this area tells (T-08).
 fn read(area: &[u8]) -> Reading {
     let reading = nffs_model::area::read(area);
     let mut flash = Flash::of(&[area.len(); 3]);
@@ -103,7 +103,21 @@ fn read(area: &[u8]) -> Reading {
         (r.number, r.stretches as usize, r.skipped as usize),
         (0, reading.damage.len(), sum)
     );
+    let first = damage(&reading).first().map_or((0, 0), |(at, length)| (start + at, *length));
+    assert_eq!((r.first_offset as usize, r.first_length as usize), first);
+    tells(&flash, &reading);
     reading
+}
+
+/// What the report of the third area tells.
+fn tells(flash: &Flash, reading: &Reading) {
+    let r = area_report(flash, 2, 0);
+    let free = flash.length(2) - reading.free;
+    assert_eq!((r.number, r.kind, r.free as usize), (0, 1, free));
+    let counts = (reading.records.len(), reading.damage.len(), reading.damage_bytes());
+    assert_eq!((r.records as usize, r.stretches as usize, r.skipped as usize), counts);
+    let listed = stretches(flash, 2).into_iter().map(|(at, length)| (at as usize, length as usize));
+    assert_eq!(listed.collect::<Vec<_>>(), damage(reading));
 }
 
 #[test]

@@ -133,6 +133,7 @@ fn the_area_undamaged() {
     let flash = bench();
     let r = report(&flash);
     assert_eq!((r.number, r.inodes, r.live, r.stretches, r.skipped), (0, 2, 2, 0, 0));
+    assert_eq!(first(&flash), (0, 0));
     assert_eq!(contents(&flash, "/a"), Ok(vec![0x41; 15]));
 }
 
@@ -143,6 +144,7 @@ fn each_bit_of_byte_70() {
         flash.image[4096 + 70] ^= 1 << bit;
         let r = report(&flash);
         assert_eq!((r.number, r.inodes, r.live, r.stretches, r.skipped), (0, 2, 2, 1, 34));
+        assert_eq!(first(&flash), (4096 + 65, 34));
         assert_eq!(contents(&flash, "/a"), Err(13));
     }
 }
@@ -154,6 +156,7 @@ fn each_bit_of_byte_103() {
         flash.image[4096 + 103] ^= 1 << bit;
         let r = report(&flash);
         assert_eq!((r.number, r.inodes, r.live, r.stretches, r.skipped), (0, 2, 2, 1, 29));
+        assert_eq!(first(&flash), (4096 + 99, 29));
         assert_eq!(contents(&flash, "/a"), Ok(vec![0x41; 10]));
     }
 }

@@ -4,7 +4,7 @@
 use crate::calls;
 use nffs_model::forge::Flash;
 use nffs_model::layout::{Block, Inode, Record, NONE, ROOT};
-use nffs_model::{Handle, Lookup, Read, Report};
+use nffs_model::{AreaReport, Handle, Lookup, Read, Report};
 
 pub const A: u32 = 0x1000_0000;
 pub const B: u32 = 0x1000_0001;
@@ -103,6 +103,27 @@ pub fn report(flash: &Flash) -> Report {
 
 pub fn mount(flash: &Flash) -> u32 {
     report(flash).number
+}
+
+/// The first damage by a report that answers 0: offset and length.
+pub fn first(flash: &Flash) -> (u32, u32) {
+    let r = report(flash);
+    assert_eq!(r.number, 0);
+    (r.first_offset, r.first_length)
+}
+
+pub fn area_report(flash: &Flash, index: u32, stretch: u32) -> AreaReport {
+    let report = calls::area_report(&flash.image, &flash.areas, index, stretch);
+    if report.number != 0 {
+        assert_eq!(report, AreaReport { number: report.number, ..AreaReport::default() });
+    }
+    report
+}
+
+/// The damage stretches of an area, asked for one after the other.
+pub fn stretches(flash: &Flash, index: u32) -> Vec<(u32, u32)> {
+    let asked = |stretch| area_report(flash, index, stretch);
+    (0..asked(0).stretches).map(|stretch| (asked(stretch).offset, asked(stretch).length)).collect()
 }
 
 pub fn lookup(flash: &Flash, path: &str) -> Lookup {

@@ -3,10 +3,12 @@
 
 use nffs_model as calls;
 
+mod area_reports;
 mod areas;
 mod bench;
 mod collecting;
 mod common;
+mod first_damage;
 mod ids;
 mod mounting;
 mod paths;

@@ -323,6 +323,7 @@ fn scratch_is_never_read() {
     }
     let r = report(&flash);
     assert_eq!((r.number, r.inodes, r.live, r.stretches, r.skipped), (0, 2, 2, 0, 0));
+    assert_eq!(first(&flash), (0, 0));
     let mut rootless = Flash::of(&[128, 128]);
     rootless.root(0);
     assert_eq!(mount(&rootless), 7);
@@ -405,4 +406,5 @@ fn damage_over_file_areas() {
     flash.put(0, b"scratch");
     let r = report(&flash);
     assert_eq!((r.stretches, r.skipped), (3, 9));
+    assert_eq!(first(&flash), (256 + 44, 2));
 }

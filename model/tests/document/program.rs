@@ -20,6 +20,12 @@ fn program(input: &[u8]) -> String {
     String::from_utf8(output.stdout).expect("text")
 }
 
+/// What is printed where a mount answers 0: the second line "ends in ` first O+L`"
+/// (document 02, T-08).
+fn counted(second: &str, first: &str) -> String {
+    format!("mount 0\n{second} first {first}\n")
+}
+
 fn formatted(count: usize) -> Vec<u8> {
     let mut image = vec![0; 4096 * count];
     let areas: Vec<u32> = (0..count as u32).flat_map(|i| [4096 * i, 4096]).collect();
@@ -29,7 +35,7 @@ fn formatted(count: usize) -> Vec<u8> {
 
 #[test]
 fn a_freshly_formatted_pair() {
-    let text = "mount 0\ninodes 1 live 1 stretches 0 skipped 0\n";
+    let text = "mount 0\ninodes 1 live 1 stretches 0 skipped 0 first 0+0\n";
     assert_eq!(program(&formatted(2)), text);
 }
 
@@ -41,8 +47,8 @@ fn two_to_sixteen_areas() {
         let mut image = formatted(count.clamp(2, 16));
         image.resize(4096 * count, 0xff);
         let good = (2..=16).contains(&count);
-        let text =
-            if good { "mount 0\ninodes 1 live 1 stretches 0 skipped 0\n" } else { "mount 1\n" };
+        let clean = counted("inodes 1 live 1 stretches 0 skipped 0", "0+0");
+        let text = if good { &clean } else { "mount 1\n" };
         assert_eq!(program(&image), text, "{count} areas");
         for rest in [1, 24, 128, 4095] {
             image.resize(4096 * count + rest, 0xff);
@@ -58,7 +64,8 @@ fn full_tables_in_sixteen_areas() {
     flash.root(1);
     inodes_up_to(&mut flash, 1, 256);
     blocks_up_to(&mut flash, A, 0, 1024);
-    assert_eq!(program(&flash.image), "mount 0\ninodes 256 live 256 stretches 0 skipped 0\n");
+    let text = counted("inodes 256 live 256 stretches 0 skipped 0", "0+0");
+    assert_eq!(program(&flash.image), text);
     let mut over = flash.clone();
     inodes_up_to(&mut over, 256, 257);
     assert_eq!(program(&over.image), "mount 5\n");
@@ -66,12 +73,37 @@ fn full_tables_in_sixteen_areas() {
     assert_eq!(program(&flash.image), "mount 5\n");
 }
 
+/// The bench area behind a scratch area: the flips at 70 and at 103.
 #[test]
 fn the_bench_area_and_its_damage() {
-    let mut flash = bench();
-    assert_eq!(program(&flash.image), "mount 0\ninodes 2 live 2 stretches 0 skipped 0\n");
-    flash.image[4096 + 70] ^= 1;
-    assert_eq!(program(&flash.image), "mount 0\ninodes 2 live 2 stretches 1 skipped 34\n");
+    let image = bench().image;
+    assert_eq!(program(&image), counted("inodes 2 live 2 stretches 0 skipped 0", "0+0"));
+    for (byte, skipped, text) in [(70, 34, "4161+34"), (103, 29, "4195+29")] {
+        let mut flipped = image.clone();
+        flipped[4096 + byte] ^= 1;
+        let second = format!("inodes 2 live 2 stretches 1 skipped {skipped}");
+        assert_eq!(program(&flipped), counted(&second, text));
+    }
+}
+
+/// Two stretches in the second area and one in the last; the bench area first, in
+/// decimal without more digits than needed.
+#[test]
+fn the_first_of_several() {
+    let mut flash = nffs_model::forge::Flash::of(&[4096; 16]);
+    flash.root(1);
+    flash.put(15, b"torn");
+    let second = |stretches: u32, skipped: u32| {
+        format!("inodes 1 live 1 stretches {stretches} skipped {skipped}")
+    };
+    assert_eq!(program(&flash.image), counted(&second(1, 4), "61464+4"));
+    flash.put(1, b"t");
+    assert_eq!(program(&flash.image), counted(&second(2, 5), "4140+1"));
+    let whole = bench().image;
+    let mut image = [&whole[4096..], &whole[..4096]].concat();
+    image[70] ^= 0x80;
+    let second = "inodes 2 live 2 stretches 1 skipped 34";
+    assert_eq!(program(&image), counted(second, "65+34"));
 }
 
 /// A reserved byte that isn't 0 (document 02, T-14): in either header, in the root
@@ -83,8 +115,8 @@ fn reserved_bytes() {
         flash.image[4096 * area + 22] = 1;
         assert_eq!(program(&flash.image), "mount 3\n");
     }
-    for (at, text) in [(24, "mount 7\n"), (44, "mount 0\ninodes 1 live 1 stretches 1 skipped 21\n")]
-    {
+    let damaged = counted("inodes 1 live 1 stretches 1 skipped 21", "4140+21");
+    for (at, text) in [(24, "mount 7\n"), (44, &damaged)] {
         let mut image = bench().image;
         let length = 20 + usize::from(image[4096 + at + 17]);
         let record = &mut image[4096 + at..][..length];

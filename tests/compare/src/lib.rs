@@ -2,7 +2,7 @@
 
 use nffs::{raw, Area, Kind, Refusal};
 use nffs_model::compare::Engine;
-use nffs_model::{Create, Handle, Lookup, Open, Read, Report};
+use nffs_model::{AreaReport, Create, Handle, Lookup, Open, Read, Report};
 
 /// The model's list, offset and length in turn, as the calls take it.
 fn listed(numbers: &[u32]) -> Vec<Area> {
@@ -13,9 +13,19 @@ pub fn format(image: &mut [u8], areas: &[u32]) -> u32 {
     raw::format(image, &listed(areas))
 }
 
+// The answers with the numbers of T-08 are lent memory by the caller: 28 and 40 bytes.
+const _: () = assert!(size_of::<raw::ReportAnswer>() == 28);
+const _: () = assert!(size_of::<raw::AreaAnswer>() == 40);
+
 pub fn report(image: &[u8], areas: &[u32]) -> Report {
-    let r = raw::report(image, &listed(areas));
-    Report { number: r.number, inodes: r.inodes, live: r.live, stretches: r.stretches, skipped: r.skipped }
+    let raw::ReportAnswer { number, inodes, live, stretches, skipped, first_offset, first_length } = raw::report(image, &listed(areas));
+    Report { number, inodes, live, stretches, skipped, first_offset, first_length }
+}
+
+pub fn area_report(image: &[u8], areas: &[u32], index: u32, stretch: u32) -> AreaReport {
+    let raw::AreaAnswer { number, kind, id, count, records, stretches, skipped, free, offset, length } =
+        raw::area_report(image, &listed(areas), index, stretch);
+    AreaReport { number, kind, id, count, records, stretches, skipped, free, offset, length }
 }
 
 pub fn lookup(image: &[u8], areas: &[u32], base: &[u8], path: &[u8]) -> Lookup {
@@ -68,6 +78,9 @@ impl Engine for Proved {
     fn report(&self, image: &[u8], areas: &[u32]) -> Report {
         report(image, areas)
     }
+    fn area_report(&self, image: &[u8], areas: &[u32], index: u32, stretch: u32) -> AreaReport {
+        area_report(image, areas, index, stretch)
+    }
     fn lookup(&self, image: &[u8], areas: &[u32], base: &[u8], path: &[u8]) -> Lookup {
         lookup(image, areas, base, path)
     }
@@ -114,10 +127,33 @@ impl Engine for Safe {
     }
     fn report(&self, image: &[u8], areas: &[u32]) -> Report {
         match nffs::report(image, &listed(areas)) {
-            Ok(r) => {
-                Report { number: 0, inodes: r.inodes, live: r.live, stretches: r.stretches, skipped: r.skipped }
-            }
-            Err(refusal) => Report { number: refusal.number(), inodes: 0, live: 0, stretches: 0, skipped: 0 },
+            Ok(r) => Report {
+                number: 0,
+                inodes: r.inodes,
+                live: r.live,
+                stretches: r.stretches,
+                skipped: r.skipped,
+                first_offset: r.first_offset,
+                first_length: r.first_length,
+            },
+            Err(refusal) => Report { number: refusal.number(), ..Report::default() },
+        }
+    }
+    fn area_report(&self, image: &[u8], areas: &[u32], index: u32, stretch: u32) -> AreaReport {
+        match nffs::area_report(image, &listed(areas), index, stretch) {
+            Ok(r) => AreaReport {
+                number: 0,
+                kind: r.kind as u32,
+                id: r.id,
+                count: r.count,
+                records: r.records,
+                stretches: r.stretches,
+                skipped: r.skipped,
+                free: r.free,
+                offset: r.offset,
+                length: r.length,
+            },
+            Err(refusal) => AreaReport { number: refusal.number(), ..AreaReport::default() },
         }
     }
     fn lookup(&self, image: &[u8], areas: &[u32], base: &[u8], path: &[u8]) -> Lookup {

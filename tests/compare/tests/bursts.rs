@@ -36,15 +36,19 @@ impl Volume {
     /// A report, which must find no other inodes than the root and the file: its stretches and the bytes that were skipped.
     #[track_caller]
     fn damage(&self) -> (u32, usize) {
-        let ReportAnswer { number, inodes, live, stretches, skipped } = raw::report(&self.image, &self.areas);
+        let ReportAnswer { number, inodes, live, stretches, skipped, first_offset, first_length } = raw::report(&self.image, &self.areas);
         assert_eq!((number, inodes, live), (0, 2, 2));
+        assert!(stretches == 0 && (first_offset, first_length) == (0, 0) || self.bytes.contains(&(first_offset as usize)));
+        assert!(stretches > 1 || first_length == skipped);
         (stretches, skipped as usize)
     }
 
-    /// Whether no record is read in the bytes, by a report: root and file are all, and the bytes are one stretch.
+    /// Whether no record is read in the bytes, by a report: root and file are all, and the bytes are one stretch, which is the first (T-08).
     fn skips_them(&self) -> bool {
-        let skipped = self.bytes.len() as u32;
-        raw::report(&self.image, &self.areas) == ReportAnswer { number: 0, inodes: 2, live: 2, stretches: 1, skipped }
+        let (skipped, first_offset) = (self.bytes.len() as u32, self.bytes.start as u32);
+        let first_length = skipped;
+        raw::report(&self.image, &self.areas)
+            == ReportAnswer { number: 0, inodes: 2, live: 2, stretches: 1, skipped, first_offset, first_length }
     }
 
     /// What the file holds.
@@ -288,7 +292,7 @@ fn alone_in_a_volume() {
     each_burst(bits(18..20), SPAN, |first, burst| {
         let mut image = formatted;
         flip(&mut image[at..at + 20], first, burst);
-        let refused = ReportAnswer { number: 7, inodes: 0, live: 0, stretches: 0, skipped: 0 };
+        let refused = ReportAnswer { number: 7, inodes: 0, live: 0, stretches: 0, skipped: 0, first_offset: 0, first_length: 0 };
         assert_eq!(raw::report(&image, &areas), refused, "{image:02x?}");
         tried += 1;
     });
@@ -512,13 +516,16 @@ fn a_record_in_the_data() {
     let holder = Block::new(BLOCK + 1, 0, FILE + 1, NONE, &newer).bytes();
     let records = [Inode::new(FILE + 1, 0, ROOT, b"copy").bytes(), Block::new(BLOCK, 0, FILE, NONE, b"1 ml").bytes(), holder.clone()];
     let mut volume = Volume::with(&records.concat(), FILE);
-    let answer = |stretches, skipped| ReportAnswer { number: 0, inodes: 3, live: 3, stretches, skipped };
-    assert_eq!(raw::report(&volume.image, &volume.areas), answer(0, 0));
+    let answer = |stretches, skipped, first_offset| {
+        let first_length = skipped;
+        ReportAnswer { number: 0, inodes: 3, live: 3, stretches, skipped, first_offset, first_length }
+    };
+    assert_eq!(raw::report(&volume.image, &volume.areas), answer(0, 0, 0));
     assert_eq!(volume.contents(), b"1 ml");
 
     let at = volume.bytes.end - holder.len();
     flip(&mut volume.image[at..], 8 * 22, 1 << 31);
     // the header of the block is skipped, and its data are read as a record
-    assert_eq!(raw::report(&volume.image, &volume.areas), answer(1, 24));
+    assert_eq!(raw::report(&volume.image, &volume.areas), answer(1, 24, at as u32));
     assert_eq!(volume.contents(), b"9 ml");
 }

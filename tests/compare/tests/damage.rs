@@ -2,7 +2,7 @@
 
 use nffs_compare::Proved;
 use nffs_model::compare::{Engine, Model, Side};
-use nffs_model::damage::{answers_stay, mount_number, overwrite, reads_as_untouched, reserve, spared, Touched};
+use nffs_model::damage::{answers_stay, mount_number, overwrite, reads_as_untouched, reserve, spared, tells_where, Touched};
 use nffs_model::generate::{self, Random};
 use nffs_model::mount::{mount, FileSystem};
 
@@ -26,12 +26,13 @@ struct Count {
     ambiguous: u64,
 }
 
-/// Asserts all that demand 3 says of one damaged image.
+/// Asserts all that demand 3 says of one damaged image, and where T-08 says that the damage is.
 fn holds(count: &mut Count, (whole, old): (&Side, &FileSystem), after: &Side, touched: &Touched) {
     reads_as_untouched(old, &after.image, touched);
     let report = Proved.report(&after.image, &after.areas);
     assert_eq!(report, nffs_model::report(&after.image, &after.areas));
     assert_eq!(report.number, mount_number(old, touched));
+    tells_where(&Proved, old, after, touched);
     let spared = spared(old, touched);
     count.images += 1;
     let Ok(new) = mount(&after.image, &after.areas) else {

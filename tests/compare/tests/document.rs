@@ -6,12 +6,16 @@ use nffs_compare as calls;
 #[path = "../../../model/tests/document/common.rs"]
 mod common;
 
+#[path = "../../../model/tests/document/area_reports.rs"]
+mod area_reports;
 #[path = "../../../model/tests/document/areas.rs"]
 mod areas;
 #[path = "../../../model/tests/document/bench.rs"]
 mod bench;
 #[path = "../../../model/tests/document/collecting.rs"]
 mod collecting;
+#[path = "../../../model/tests/document/first_damage.rs"]
+mod first_damage;
 #[path = "../../../model/tests/document/ids.rs"]
 mod ids;
 #[path = "../../../model/tests/document/mounting.rs"]

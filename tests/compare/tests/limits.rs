@@ -4,7 +4,7 @@
 use nffs_compare::Proved;
 use nffs_model::compare::{Engine, Model};
 use nffs_model::forge::Flash;
-use nffs_model::{Create, Handle, Lookup, Report};
+use nffs_model::{AreaReport, Create, Handle, Lookup, Report};
 
 const FILE: u32 = 0x1000_0000;
 const BLOCK: u32 = 0x8000_0000;
@@ -63,7 +63,7 @@ impl Pair {
             let previous = if k < files { NONE } else { BLOCK + k - files };
             assert!(areas.clone().any(|area| flash.block(area, BLOCK + k, 0, FILE + k % files, previous, &data(k))));
         }
-        Pair { ours: flash.image.clone(), model: flash.image, areas: flash.areas }
+        Pair::of(flash)
     }
 
     /// The same answer and the same image of both.
@@ -96,6 +96,15 @@ impl Pair {
 
     fn report(&mut self) -> Report {
         self.both(|e, image, areas| e.report(image, areas))
+    }
+
+    fn area_report(&mut self, index: u32, stretch: u32) -> AreaReport {
+        self.both(|e, image, areas| e.area_report(image, areas, index, stretch))
+    }
+
+    /// What is made by hand, for both.
+    fn of(flash: Flash) -> Pair {
+        Pair { ours: flash.image.clone(), model: flash.image, areas: flash.areas }
     }
 
     /// A refusal with this number, which changes no byte.
@@ -165,14 +174,14 @@ fn the_256th_and_the_257th_inode() {
     // a directory in its place is refused too, and a name that is there is 12 first
     pair.refuses(5, |pair| pair.both(|e, image, areas| e.create(image, areas, b"", b"/dir", 0).number));
     pair.refuses(12, |pair| pair.create(&path(1)).number);
-    assert_eq!(pair.report(), Report { number: 0, inodes: 256, live: 256, stretches: 0, skipped: 0 });
+    assert_eq!(pair.report(), Report { number: 0, inodes: 256, live: 256, ..Report::default() });
     assert_eq!(pair.lookup(&path(255)), Lookup { number: 0, id: FILE + 254, kind: 1 });
     // a deletion takes no place and frees none; collected, it does
     assert_eq!(pair.unlink(&path(1)), 0);
     pair.refuses(5, |pair| pair.create(b"/one more").number);
     assert_eq!(pair.collect(), 0);
     assert_eq!(pair.create(b"/one more"), Create { number: 0, id: FILE });
-    assert_eq!(pair.report(), Report { number: 0, inodes: 256, live: 256, stretches: 0, skipped: 0 });
+    assert_eq!(pair.report(), Report { number: 0, inodes: 256, live: 256, ..Report::default() });
 }
 
 #[test]
@@ -221,7 +230,7 @@ fn a_new_inode_at_the_end_of_each_word() {
             assert_eq!(pair.lookup(&path), Lookup { number: 0, id: FILE + k, kind: 1 });
         }
         let inodes = taken + 1;
-        assert_eq!(pair.report(), Report { number: 0, inodes, live: inodes, stretches: 0, skipped: 0 });
+        assert_eq!(pair.report(), Report { number: 0, inodes, live: inodes, ..Report::default() });
     }
 }
 
@@ -249,7 +258,7 @@ fn a_full_volume_collected() {
     let mut pair = Pair::filled(&[32768; 2], 255, 1024);
     assert_eq!(pair.collect(), 0);
     assert_eq!(pair.area(1)[24..], [0xff; 32744]);
-    assert_eq!(pair.report(), Report { number: 0, inodes: 256, live: 256, stretches: 0, skipped: 0 });
+    assert_eq!(pair.report(), Report { number: 0, inodes: 256, live: 256, ..Report::default() });
     for file in 0..255 {
         let text = text(file, 255, 1024);
         assert_eq!(pair.whole(FILE + file, text.len()), (text.clone(), text.len() as u32 / 2));
@@ -298,7 +307,7 @@ fn an_area_filled_to_its_last_byte_and_pieces_over_areas() {
     pair.refuses(15, |pair| pair.append(&path, b"x"));
     pair.refuses(15, |pair| pair.unlink(&path));
     assert_eq!(pair.contents(&path), [&[1; 84][..], &[4; 2], &[5; 2]].concat());
-    assert_eq!(pair.report(), Report { number: 0, inodes: 2, live: 2, stretches: 0, skipped: 0 });
+    assert_eq!(pair.report(), Report { number: 0, inodes: 2, live: 2, ..Report::default() });
 }
 
 /// The shortest file area's length, and the greatest block.
@@ -358,9 +367,9 @@ fn volumes_of_version_0_2_0() {
             assert!((1..4).any(|area| flash.block(area, BLOCK + k, 0, FILE, previous, &block(k, greatest))));
         }
         assert_eq!(flash.image.iter().fold(0, |sum: u32, byte| sum.wrapping_mul(31).wrapping_add(u32::from(*byte))), sum);
-        let mut pair = Pair { ours: flash.image.clone(), model: flash.image, areas: flash.areas };
+        let mut pair = Pair::of(flash);
         let mut stored = [block(0, greatest), block(1, greatest)].concat();
-        assert_eq!(pair.report(), Report { number: 0, inodes: 2, live: 2, stretches: 0, skipped: 0 });
+        assert_eq!(pair.report(), Report { number: 0, inodes: 2, live: 2, ..Report::default() });
         assert_eq!(pair.contents(b"/a"), stored);
         assert_eq!(pair.blocks(FILE), 2);
         assert_eq!(pair.append(b"/a", &block(2, now + 1)), 0);
@@ -411,7 +420,7 @@ fn source_of_two(order: [usize; 3], counts: [u8; 3]) -> usize {
         flash.head(area, count, 0, id);
         flash.root(area);
     }
-    let mut pair = Pair { ours: flash.image.clone(), model: flash.image, areas: flash.areas };
+    let mut pair = Pair::of(flash);
     assert_eq!(pair.collect(), 0);
     let headers = order.map(|area| (pair.area(area)[21], pair.area(area)[23]));
     let source = usize::from(headers[1].1 == 255);
@@ -448,6 +457,123 @@ fn every_two_counts() {
     }
     println!("of 65536 pairs of counts {second} have the second area collected");
     assert_eq!(second, 256 * 127);
+}
+
+/// The report of one area (T-08) for each of sixteen, all damaged, and for entries that are not there; of each the one stretch, and no other.
+#[test]
+fn every_area_of_sixteen() {
+    let mut flash = Flash::of(&[4096; 16]);
+    assert!(flash.root(1));
+    for area in 0..16 {
+        flash.head(area, 3 * area as u8, 0, (area as u8).wrapping_sub(1));
+        assert!(flash.put(area, &[0; 16][..1 + area]));
+    }
+    let mut pair = Pair::of(flash);
+    for index in 0..16 {
+        let (kind, id) = if index == 0 { (2, 255) } else { (1, index - 1) };
+        let (records, offset, length) = if index == 1 { (1, 44, 2) } else { (0, 24, index + 1) };
+        let free = 4096 - offset - length;
+        let whole = AreaReport { number: 0, kind, id, count: 3 * index, records, stretches: 1, skipped: length, free, offset, length };
+        assert_eq!(pair.area_report(index, 0), whole);
+        for stretch in [1, 2, 256, 0x8000_0000, u32::MAX] {
+            assert_eq!(pair.area_report(index, stretch), AreaReport { offset: 0, length: 0, ..whole });
+        }
+    }
+    for index in [16, 17, 255, 256, 0x1_0000, 0x8000_0000, u32::MAX] {
+        for stretch in [0, 1, u32::MAX] {
+            assert_eq!(pair.area_report(index, stretch), AreaReport { number: 1, ..AreaReport::default() });
+        }
+    }
+    let (stretches, skipped) = (15, (2..=16).sum());
+    assert_eq!(pair.report(), Report { number: 0, inodes: 1, live: 1, stretches, skipped, first_offset: 4096 + 44, first_length: 2 });
+}
+
+/// The same areas with their descriptors backwards: scratch is the last, and the first damage is that of the highest offset.
+#[test]
+fn sixteen_areas_backwards() {
+    let areas: Vec<u32> = (0..16).rev().flat_map(|area| [4096 * area, 4096]).collect();
+    let mut flash = Flash::over(vec![0; 65_536], areas);
+    for area in 0..16 {
+        flash.head(area, 0, 0, if area == 15 { 255 } else { area as u8 });
+        assert!(area != 3 || flash.root(area));
+    }
+    for damaged in [15, 14, 3, 1, 0] {
+        assert!(flash.put(damaged, b"torn"));
+        let mut pair = Pair::of(flash.clone());
+        let told = pair.area_report(damaged as u32, 0);
+        assert_eq!((told.stretches, told.offset, told.length), (1, if damaged == 3 { 44 } else { 24 }, 4));
+        let (first_offset, first_length) = if damaged == 15 { (0, 0) } else { (4096 * (15 - damaged as u32) + told.offset, 4) };
+        let report = pair.report();
+        assert_eq!((report.first_offset, report.first_length), (first_offset, first_length), "area {damaged}");
+    }
+}
+
+/// The most stretches that an area can have, one byte each between records of 20, in the longest area: each by its number, and no more.
+#[test]
+fn the_most_stretches() {
+    let mut flash = Flash::of(&[65_536]);
+    let mut most = 0;
+    while flash.room(0) > 20 {
+        assert!(flash.put(0, b"x") && flash.root(0));
+        most += 1;
+    }
+    assert_eq!(most, 3119);
+    let mut pair = Pair::of(flash);
+    assert_eq!(pair.report().number, 3);
+    let free = 65_536 - 24 - 21 * most;
+    let whole = AreaReport { kind: 2, id: 255, records: most, stretches: most, skipped: most, free, ..AreaReport::default() };
+    for stretch in (0..most).step_by(7).chain([254, 255, 256, 257, most - 2, most - 1]) {
+        assert_eq!(pair.area_report(0, stretch), AreaReport { offset: 24 + 21 * stretch, length: 1, ..whole });
+    }
+    for stretch in [most, most + 1, 0x1_0000, 0x8000_0000, u32::MAX] {
+        assert_eq!(pair.area_report(0, stretch), whole);
+    }
+}
+
+/// The most records, 3,271 of them, in the longest area, and behind them 0 to 60 free bytes: the FF at the end of the last record are not free.
+#[test]
+fn the_most_records_and_the_least_free_space() {
+    for free in 0..=60 {
+        let mut flash = Flash::of(&[65_536]);
+        while flash.room(0) >= 120 {
+            assert!(flash.root(0));
+        }
+        let data = vec![0xff; flash.room(0) - free as usize - 24];
+        assert!(flash.block(0, BLOCK, 0, FILE, NONE, &data));
+        let whole = AreaReport { kind: 2, id: 255, records: 3271, free, ..AreaReport::default() };
+        assert_eq!(Pair::of(flash).area_report(0, 0), whole);
+    }
+}
+
+/// Damage at the last byte of the greatest image, which is the greatest offset; and the longest damage, of a file area and of any.
+#[test]
+fn the_greatest_offset_and_the_greatest_length() {
+    let mut flash = Flash::of(&[32_768, 32_768]);
+    assert!(flash.root(1) && flash.inode(1, FILE, 0, 0, b"a"));
+    let mut id = BLOCK;
+    while flash.room(1) > 1 {
+        let whole = match flash.room(1) - 1 {
+            rest @ 0..=2072 => rest,
+            rest => (rest - 30).min(2072),
+        };
+        assert!(flash.block(1, id, 0, FILE, NONE, &vec![7; whole - 24]));
+        id += 1;
+    }
+    flash.image[65_535] = 0;
+    let mut last = Pair::of(flash);
+    let report = last.report();
+    assert_eq!((report.stretches, report.skipped, report.first_offset, report.first_length), (1, 1, 65_535, 1));
+    let told = last.area_report(1, 0);
+    assert_eq!((told.free, told.offset, told.length), (0, 32_767, 1));
+    let mut flash = Flash::of(&[32_704, 128, 32_704]);
+    assert!(flash.root(1));
+    flash.put(2, &[0; 32_680]);
+    let mut all = Pair::of(flash);
+    let report = all.report();
+    assert_eq!((report.skipped, report.first_offset, report.first_length), (32_680, 32_704 + 128 + 24, 32_680));
+    let mut zeros = Pair { ours: vec![0; 65_536], model: vec![0; 65_536], areas: vec![0, 65_536] };
+    let told = zeros.area_report(0, 0);
+    assert_eq!((told.kind, told.skipped, told.offset, told.length), (0, 65_512, 24, 65_512));
 }
 
 /// The run with overflow checks has them.

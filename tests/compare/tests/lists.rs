@@ -7,10 +7,12 @@ use nffs_model::compare::{run, show, Call, Case, Model, Tally};
 const MOST: u32 = 20;
 const LENGTH: u32 = 256;
 
-/// Every call once, and format last.
+/// Every call, that of one area for every entry and for some that are not there, and format last.
 fn calls() -> Vec<Call> {
     let (base, root, file) = (Vec::new(), b"/".to_vec(), b"/f".to_vec());
-    vec![
+    let indices = (0..=MOST).chain([255, 256, 0x8000_0000, u32::MAX]);
+    let mut calls: Vec<Call> = indices.map(|index| Call::AreaReport { index, stretch: 0 }).collect();
+    calls.extend([
         Call::Report,
         Call::Lookup { base: base.clone(), path: root },
         Call::Create { base: base.clone(), path: file.clone(), kind: 1 },
@@ -21,7 +23,8 @@ fn calls() -> Vec<Call> {
         Call::Collect,
         Call::Unlink { base, path: file },
         Call::Format,
-    ]
+    ]);
+    calls
 }
 
 fn entries(count: u32) -> Vec<u32> {
@@ -56,6 +59,28 @@ fn every_length_and_every_end() {
     for call in ["Report", "Lookup", "Create", "Append", "Open", "Read", "ReadAt", "Collect", "Unlink", "Format"] {
         for number in [0, 1, 3] {
             assert!(tally.answers.contains_key(&(call, number)), "{call} never answered {number}");
+        }
+    }
+    assert!([0, 1].iter().all(|number| tally.answers.contains_key(&("AreaReport", *number))));
+}
+
+/// The report of one area (T-08) is 0 exactly for the entries before the end of a list that is good, whether it mounts or not.
+#[test]
+fn every_entry_of_every_list() {
+    let image = vec![0x5a; (MOST * LENGTH) as usize];
+    for count in 0..=MOST {
+        for end in 0..=count {
+            let mut list = entries(count);
+            if end < count {
+                list[2 * end as usize + 1] = 0;
+            }
+            let good = (1..=16).contains(&end);
+            for index in (0..=MOST).chain([u32::MAX]) {
+                let told = nffs_compare::area_report(&image, &list, index, 0);
+                let there = good && index < end;
+                assert_eq!((told.number, told.skipped), if there { (0, LENGTH - 24) } else { (1, 0) }, "{index} of {end} of {count}");
+                assert_eq!(told, nffs_model::area_report(&image, &list, index, 0));
+            }
         }
     }
 }

@@ -1,4 +1,5 @@
-//! Document 01's program, with the areas of T-06, run on images on its standard input and compared with what the documents say it prints.
+//! Document 01's program, with the areas of T-06 and the first damage of T-08, run on images on its standard input and compared with what the
+//! documents say it prints.
 
 use std::fs::File;
 use std::io::Write;
@@ -30,8 +31,14 @@ fn refused(number: u32) -> String {
     format!("mount {number}\n")
 }
 
-fn report(inodes: u32, live: u32, stretches: u32, skipped: u32) -> String {
-    format!("mount 0\ninodes {inodes} live {live} stretches {stretches} skipped {skipped}\n")
+/// Of a volume without damage.
+fn clean(inodes: u32, live: u32) -> String {
+    format!("mount 0\ninodes {inodes} live {live} stretches 0 skipped 0 first 0+0\n")
+}
+
+/// With the offset in the image and the length of the first damage (T-08).
+fn damaged(inodes: u32, live: u32, (stretches, skipped): (u32, u32), (offset, length): (u32, u32)) -> String {
+    format!("mount 0\ninodes {inodes} live {live} stretches {stretches} skipped {skipped} first {offset}+{length}\n")
 }
 
 /// `count` areas of 4,096: the first is scratch, the others file areas 0, 1, ..; nothing in them.
@@ -58,18 +65,42 @@ fn bench() -> Flash {
 fn a_freshly_formatted_pair() {
     let mut image = vec![0; 8192];
     assert_eq!(nffs_compare::format(&mut image, &[0, 4096, 4096, 4096]), 0);
-    assert_eq!(program(&image), "mount 0\ninodes 1 live 1 stretches 0 skipped 0\n");
+    assert_eq!(program(&image), "mount 0\ninodes 1 live 1 stretches 0 skipped 0 first 0+0\n");
 }
 
 #[test]
 fn the_bench_area_and_its_flips() {
     let flash = bench();
-    assert_eq!(program(&flash.image), report(2, 2, 0, 0));
-    for (byte, bytes) in [(70, 34), (103, 29)] {
+    assert_eq!(program(&flash.image), clean(2, 2));
+    for (byte, at, bytes) in [(70, 65, 34), (103, 99, 29)] {
         let mut image = flash.image.clone();
         image[4096 + byte] ^= 1;
-        assert_eq!(program(&image), report(2, 2, 1, bytes));
+        assert_eq!(program(&image), damaged(2, 2, (1, bytes), (4096 + at, bytes)));
+        // the two areas the other way round
+        image.rotate_left(4096);
+        assert_eq!(program(&image), damaged(2, 2, (1, bytes), (at, bytes)));
     }
+}
+
+/// The first of several stretches in the first of several areas, in decimal; what is in scratch and in an area that is passed over is not told.
+#[test]
+fn the_first_damage() {
+    let mut flash = volume(16);
+    assert!(flash.root(2) && flash.put(0, b"scratch"));
+    flash.head(1, 0, 7, 0);
+    assert!(flash.put(1, b"passed over"));
+    assert_eq!(program(&flash.image), clean(1, 1));
+    let mut last = flash.clone();
+    last.image[65_535] = 0;
+    assert_eq!(program(&last.image), damaged(1, 1, (1, 4072), (61_464, 4072)));
+    assert!(flash.put(15, b"\xff\xfftorn\xff"));
+    assert_eq!(program(&flash.image), damaged(1, 1, (1, 6), (61_464, 6)));
+    assert!(flash.put(9, &[0; 500]) && flash.inode(9, FILE, 0, 0, b"a") && flash.put(9, &[0; 600]));
+    assert_eq!(program(&flash.image), damaged(2, 2, (3, 1106), (36_888, 500)));
+    assert!(flash.put(2, b"\0"));
+    assert_eq!(program(&flash.image), damaged(2, 2, (4, 1107), (8236, 1)));
+    flash.image[8192 + 24] ^= 1;
+    assert_eq!(program(&flash.image), refused(7));
 }
 
 /// A reserved byte that is not 0 (T-14), checks right: in a header the area is passed over, and what lay in it is no damage; in a record it is damage.
@@ -83,10 +114,10 @@ fn reserved_bytes() {
         }
         let mut flash = volume(3);
         assert!(flash.root(1) && flash.inode(2, FILE, 0, 0, b"a") && flash.put(2, b"torn"));
-        assert_eq!(program(&flash.image), report(2, 2, 1, 4));
+        assert_eq!(program(&flash.image), damaged(2, 2, (1, 4), (8192 + 45, 4)));
         flash.head(2, 0, reserved, 1);
-        assert_eq!(program(&flash.image), report(1, 1, 0, 0));
-        for (at, expected) in [(24, refused(7)), (44, report(1, 1, 1, 21))] {
+        assert_eq!(program(&flash.image), clean(1, 1));
+        for (at, expected) in [(24, refused(7)), (44, damaged(1, 1, (1, 21), (4096 + 44, 21)))] {
             let mut image = bench().image;
             let record = 4096 + at..4096 + at + 20 + usize::from(image[4096 + at + 17]);
             let altered = with_reserved(&image[record.clone()], reserved);
@@ -113,7 +144,7 @@ fn one_to_seventeen_areas() {
     for count in [1, 2, 8, 9, 16, 17] {
         let mut flash = volume(count);
         assert!(flash.root(count - 1));
-        let expected = if (2..=16).contains(&count) { report(1, 1, 0, 0) } else { refused(1) };
+        let expected = if (2..=16).contains(&count) { clean(1, 1) } else { refused(1) };
         assert_eq!(program(&flash.image), expected, "{count} areas");
     }
 }
@@ -147,7 +178,7 @@ fn too_many_ids_come_before_a_clash() {
     for i in 0..255 {
         assert!(flash.inode(1 + i as usize / 128, DIRECTORY + i, 0, 0, b"d"));
     }
-    assert_eq!(program(&flash.image), report(256, 256, 0, 0));
+    assert_eq!(program(&flash.image), clean(256, 256));
     assert!(flash.inode(1, DIRECTORY, 0, 0, b"other"));
     assert_eq!(program(&flash.image), refused(6));
     assert!(flash.inode(2, DIRECTORY + 255, 0, 0, b"d"));
@@ -161,7 +192,7 @@ fn too_many_blocks() {
     for i in 0..1024 {
         assert!(flash.block(1 + i as usize / 70, BLOCK + i, 0, FILE, NONE, b"x"));
     }
-    assert_eq!(program(&flash.image), report(1, 1, 0, 0));
+    assert_eq!(program(&flash.image), clean(1, 1));
     assert!(flash.block(15, BLOCK + 1024, 0, FILE, NONE, b"x"));
     assert_eq!(program(&flash.image), refused(5));
 }
@@ -204,7 +235,7 @@ fn fates() {
     assert!(flash.inode(1, 3, 0, 2, b"loop"));
     assert!(flash.inode(1, 4, 0, 4, b"its own parent"));
     assert!(flash.inode(1, FILE + 1, 0, 99, b"no such parent"));
-    assert_eq!(program(&flash.image), report(7, 1, 0, 0));
+    assert_eq!(program(&flash.image), clean(7, 1));
 }
 
 /// The greatest sequence counts, not the last record.
@@ -214,7 +245,7 @@ fn an_older_version_read_last() {
     assert!(flash.root(1));
     assert!(flash.delete(1, FILE, 2));
     assert!(flash.inode(1, FILE, 1, 0, b"last year's dose table"));
-    assert_eq!(program(&flash.image), report(2, 1, 0, 0));
+    assert_eq!(program(&flash.image), clean(2, 1));
 }
 
 /// A read that fails is not the end of the input: whole areas may have come before it, and nothing is reported of them.
@@ -241,7 +272,7 @@ fn input_that_cannot_be_read() {
 fn the_command_of_the_readme() {
     let output = Command::new("../../report").arg("../../crates/program_report/stdin").output().expect("the command");
     assert!(output.status.success());
-    assert_eq!(String::from_utf8(output.stdout).expect("text"), report(1, 1, 0, 0));
+    assert_eq!(String::from_utf8(output.stdout).expect("text"), clean(1, 1));
     for image in ["no-such-image", "."] {
         let output = Command::new("../../report").arg(image).output().expect("the command");
         assert_eq!(output.status.code(), Some(2), "{image}");

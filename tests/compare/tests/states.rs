@@ -1,4 +1,4 @@
-//! The proved code and the model over the states that seeded sequences of calls go through: report and format in each of them, every call in
+//! The proved code and the model over the states that seeded sequences of calls go through: reports and format in each of them, every call in
 //! the last.
 
 use std::collections::BTreeMap;
@@ -12,11 +12,15 @@ use nffs_model::mount::{mount, Fate};
 /// How often each number was answered.
 type Answers = BTreeMap<u32, u64>;
 
-/// Compares report and format in one state of the image; neither changes it.
+/// Compares the reports and format in one state of the image; none changes it.
 fn report_and_format(side: &Side, at: &str, reports: &mut Answers, formats: &mut Answers) {
     let report = nffs_compare::report(&side.image, &side.areas);
     assert_eq!(report, nffs_model::report(&side.image, &side.areas), "report, {at}");
     *reports.entry(report.number).or_insert(0) += 1;
+    for index in 0..=side.areas.len() as u32 / 2 {
+        let told = nffs_compare::area_report(&side.image, &side.areas, index, 0);
+        assert_eq!(told, nffs_model::area_report(&side.image, &side.areas, index, 0), "area {index}, {at}");
+    }
 
     let (mut image, mut expected) = (side.image.clone(), side.image.clone());
     let number = nffs_compare::format(&mut image, &side.areas);
@@ -47,6 +51,7 @@ fn every_call(side: &Side, at: &str, tally: &mut Tally) {
     let handle = Call::Handle { id, position: 1 };
     let calls = [
         vec![Call::Report],
+        vec![Call::AreaReport { index: 0, stretch: 0 }, Call::AreaReport { index: 1, stretch: 1 }],
         vec![Call::Format],
         vec![Call::Lookup { base: base.clone(), path: path.clone() }],
         vec![Call::Open { base: base.clone(), path: path.clone() }],
@@ -84,7 +89,7 @@ fn run(seeds: std::ops::Range<u64>) {
     println!("every call in the last states: {:?}, in all {}", tally.answers, tally.calls);
     assert!((0..=7).all(|number| reports.contains_key(&number)), "a number of the report was not reached");
     assert!([0, 1, 3].iter().all(|number| formats.contains_key(number)), "a number of format was not reached");
-    for call in ["Report", "Format", "Lookup", "Open", "ReadAt", "Read", "Create", "Append", "Unlink", "Collect"] {
+    for call in ["Report", "AreaReport", "Format", "Lookup", "Open", "ReadAt", "Read", "Create", "Append", "Unlink", "Collect"] {
         assert!(tally.answers.contains_key(&(call, 0)), "{call} was never accepted");
     }
 }

@@ -94,9 +94,10 @@ fn first_file() -> Vec<u8> {
 /// One call on one engine: the number that it answers.
 type Call = (&'static str, fn(&dyn Engine, &mut [u8], &[u32]) -> u32);
 
-const CALLS: [Call; 10] = [
+const CALLS: [Call; 11] = [
     ("format", |e, image, areas| e.format(image, areas)),
     ("report", |e, image, areas| e.report(image, areas).number),
+    ("area report", |e, image, areas| e.area_report(image, areas, 0, 0).number),
     ("lookup", |e, image, areas| e.lookup(image, areas, b"", &first_file()).number),
     ("open", |e, image, areas| e.open(image, areas, b"", &first_file()).number),
     ("read", |e, image, areas| e.read_at(image, areas, FILE, 0, &mut [0; 4096]).number),
