@@ -167,8 +167,8 @@ module _ (area : Bytes) (long : areaHeaderSize ≤ length area) where
       let d = firstStretch damage in
       ⊎-elim (λ e. e) (λ m. absurd (h (d .place) (is-damaged d m (d .place) (omega arith, omega (arith, split .stretches d m .2))))) (first-or-none damage)
 
-  pub area-told : AreaTold area
-  area-told = record {
+  told : AreaTold area
+  told = record {
     runs = is-run;
     found = in-stretch;
     order = split .order;
@@ -182,6 +182,9 @@ module _ (area : Bytes) (long : areaHeaderSize ≤ length area) where
     last = before-free;
     sum = omega (arith, parts-make, long);
   }
+
+pub area-told : (area : Bytes) → areaHeaderSize ≤ length area → AreaTold area
+area-told = told
 
 -- ---- the report
 
@@ -304,5 +307,8 @@ module _ (image : Bytes) where
         not-clean : areaClean recordSize bytes ≡ true → ⊥
         not-clean e = omega (arith, inside .2, none-first (clean-none bytes e) .1)
 
-    pub report-told : ReportTold image ds (reportOf image ds)
-    report-told = rw report-is (⊎-elim (λ n. none-told (n .0) (n .1)) some-told (sought fs))
+    reported : ReportTold image ds (reportOf image ds)
+    reported = rw report-is (⊎-elim (λ n. none-told (n .0) (n .1)) some-told (sought fs))
+
+pub report-told : (image : Bytes) (ds : List Descriptor) → mountNumber image ds ≡ 0 → ReportTold image ds (reportOf image ds)
+report-told = reported
