@@ -2,24 +2,23 @@
 use Prim.Native.Nat.{ℕ, suc, _+_, _*_, _-_, _≤_, _<_}
 use mathlib.Core.Path.{_≡_, refl, sym, ap, _∙_}
 use mathlib.Core.Logic.{_≢_}
-use mathlib.Core.Bool.{Bool, true, false, cond}
+use mathlib.Core.Bool.{true}
 use mathlib.Core.List.{List, [], _∷_}
 use native.Mathlib.Omega.{arith}
 use native.Mathlib.Decide.{ℕ-discrete}
 use lib.ListN.{length, take, drop, getD, length-take, length-drop}
 use lib.Seq.{getD-take, length-take-le}
-use lib.Dec.{eqb, leb}
 use borrow.Author.Tests.{le-leb, lt-leb}
 use Rattle.format.specs.Bytes.{Bytes}
 use Rattle.format.specs.Record.{recordSize}
 use Rattle.format.specs.Reading.{Placed, freeSize, areaParts, areaRecords}
 use Rattle.calls.specs.Refusal.{firstRefusal}
 use Rattle.calls.specs.Areas.{largestImage, areaBytes, goodArea}
-use Rattle.calls.specs.Mount.{mostRecords, badDescription}
+use Rattle.calls.specs.Mount.{mostRecords}
 use Rattle.calls.specs.AreaReport.{areaReport, refusedAreaReport, areaReportNumber, areaReportOf}
 use Rattle.calls.specs.declared.Descriptor.{Descriptor}
 use Rattle.calls.specs.declared.AreaReport.{AreaReport}
-use Rattle.area_list.specs.Numbers.{paired, areaList}
+use Rattle.area_list.specs.Numbers.{areaList}
 use Rattle.area_list.specs.Described.{areaOf}
 use Rattle.area_list.specs.Listing.{pair-holds, paired-at, paired-length}
 use Rattle.area_list.specs.Description.{GoodList, listed-good}
