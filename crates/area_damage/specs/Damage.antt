@@ -76,6 +76,7 @@ module _ (k : ℕ) (d : Damage) (at size : ℕ) (l : List Stretch) (e : d ≡ da
 
 -- ---- the damage of an area behind that of others
 
+-- the sums, and the offset in the image, fit in the numbers
 pub record Summable (d : Damage) (base : ℕ) (area : Damage) : Type 0 where
   pub stretches : (d .stretches ≤ mostAreas * largestImage) × (area .stretches ≤ largestImage)
   pub skipped : (d .skipped ≤ mostAreas * largestImage) × (area .skipped ≤ largestImage)

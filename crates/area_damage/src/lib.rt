@@ -52,7 +52,8 @@ pub fn with_stretch(damage: Damage, stretch: u32, at: usize, size: usize) -> Dam
     }
 }
 
-// The damage of areas, with that of the area at `base` behind it: its first stretch is that of the first area that has any, by its offset in the image.
+// The damage of areas, with that of the area at `base` behind it. The stretch kept is the first of the first area of the list that has any, at its
+// offset in the image.
 pub fn joined(damage: Damage, base: u32, area: Damage) -> Damage
     requires { ⌜ Summable damage base area ⌝ }
     ensures { λ r. ⌜ ((l m : List Stretch) → damage ≡ damageOf 0 l → area ≡ damageOf 0 m → r ≡ damageOf 0 (l ++ inImage base m)) ⌝ }

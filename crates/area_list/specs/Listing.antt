@@ -52,7 +52,7 @@ pub pair-holds : (f : Descriptor → Bool) (areas : List ℕ) (i : ℕ) → all 
 unfolding all
 pair-holds f areas i e h = and-left (f (areaOf (getD areas (i * 2) 0) (getD areas (i * 2 + 1) 0))) _ (rw (pair-step areas i h) at (paired-later f i areas e))
 
--- as many pairs as half the numbers
+-- pair i
 pub paired-at : (i : ℕ) (l : List ℕ) (e : Descriptor) → i * 2 + 1 < length l → getD (paired l) i e ≡ areaOf (getD l (i * 2) 0) (getD l (i * 2 + 1) 0)
 unfolding paired
 paired-at i [] e h = absurd (omega arith)
@@ -64,6 +64,7 @@ paired-at (suc i) (o ∷ n ∷ l) e h =
     let y : suc i * 2 ≡ suc (suc (i * 2)) = omega arith in
     rw (z, y) (paired-at i l e (omega arith))
 
+-- as many pairs as half the numbers
 pub paired-length : (k : ℕ) (l : List ℕ) → length l ≡ k * 2 → length (paired l) ≡ k
 unfolding paired
 paired-length zero [] e = refl

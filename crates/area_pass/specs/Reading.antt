@@ -30,7 +30,6 @@ pub record Reads (area : Bytes) (k : ℕ) (d : Damage) (free : ℕ) : Type 0 whe
   pub stretches-few : d .stretches ≤ length area
   pub skipped-few : d .skipped ≤ length area
   pub offset-inside : d .offset ≤ length area
-  pub length-inside : d .length ≤ length area
   pub free-inside : free ≤ length area
 
 -- ---- the erased end, byte by byte
@@ -72,19 +71,19 @@ erased-counted s i n h e = e ∙ rw (take-all i s h)
 
 -- ---- the loop of reading
 
--- what lies before a place: no more stretches, and no more bytes of them, than bytes; each starts and ends before it
+-- what lies before a place: no more stretches, and no more bytes of them, than bytes; each starts before it
 pub record Before (at : ℕ) (l : List Stretch) : Type 0 where
   pub few : length l ≤ at
   pub short : totalSize l ≤ at
-  pub each : (k : ℕ) → (firstStretch (drop k l) .place ≤ at) × (firstStretch (drop k l) .size ≤ at)
+  pub each : (k : ℕ) → firstStretch (drop k l) .place ≤ at
 
 before-none : (at : ℕ) → Before at []
 unfolding totalSize firstStretch
 before-none at = record { few = omega arith; short = omega arith; each = none }
   where
-    none : (k : ℕ) → (firstStretch (drop k []) .place ≤ at) × (firstStretch (drop k []) .size ≤ at)
-    none zero = (omega arith, omega arith)
-    none (suc k) = (omega arith, omega arith)
+    none : (k : ℕ) → firstStretch (drop k []) .place ≤ at
+    none zero = omega arith
+    none (suc k) = omega arith
 
 -- a stretch more, and a place behind it
 before-more : (at end : ℕ) (l : List Stretch) (n : ℕ) → at + n ≤ end → Before at l → Before end (l ++ damagedBytes at n)
@@ -92,19 +91,19 @@ unfolding damagedBytes totalSize
 before-more at end l zero h b = rw (append-nil l) (record {
   few = omega (arith, b .few);
   short = omega (arith, b .short);
-  each = λ k. (omega (arith, b .each k .0), omega (arith, b .each k .1));
+  each = λ k. omega (arith, b .each k);
 })
 before-more at end l (suc n) h b =
     let x : Stretch = record { place = at; size = suc n } in
     record {
       few = omega (arith, length-append l (x ∷ []), b .few);
       short = omega (arith, total-append l (x ∷ []), b .short);
-      each = λ k. rw (kept k l x) (go (eqb (length l) k) (b .each k));
+      each = λ k. rw (kept k l x) (go (eqb (length l) k) (firstStretch (drop k l)) (b .each k));
     }
   where
-    go : (t : Bool) {y : Stretch} → (y .place ≤ at) × (y .size ≤ at) → (cond t (record { place = at; size = suc n }) y .place ≤ end) × (cond t (record { place = at; size = suc n }) y .size ≤ end)
-    go true e = (omega arith, omega arith)
-    go false e = (omega arith, omega arith)
+    go : (t : Bool) (y : Stretch) → y .place ≤ at → cond t (record { place = at; size = suc n }) y .place ≤ end
+    go true y e = omega arith
+    go false y e = omega arith
 
 -- reading has come to a place with some damage: that and what is left make the whole
 pub record Read (area : Bytes) (k at : ℕ) (d : Damage) : Type 0 where
@@ -198,8 +197,7 @@ module _ (area : Bytes) (k at : ℕ) (d : Damage) (g : Read area k at d) (f : Ne
         free-bytes = omega (arith, c);
         stretches-few = omega (arith, b .few, ap (λ (y : Damage). y .stretches) x);
         skipped-few = omega (arith, b .short, ap (λ (y : Damage). y .skipped) x);
-        offset-inside = omega (arith, b .each k .0, ap (λ (y : Damage). y .offset) x);
-        length-inside = omega (arith, b .each k .1, ap (λ (y : Damage). y .length) x);
+        offset-inside = omega (arith, b .each k, ap (λ (y : Damage). y .offset) x);
         free-inside = omega arith;
       }
 

@@ -42,10 +42,11 @@ areaReport image d k = let area = areaBytes image d in let damage = areaDamage r
 abbrev pub refusedAreaReport : ℕ → AreaReport
 refusedAreaReport n = record { number = n; kind = 0; id = 0; count = 0; records = 0; stretches = 0; skipped = 0; free = 0; offset = 0; length = 0 }
 
--- check 1 of the list; and the list has an area i, from 0
+-- check 1; and 1 where the list has no area i, from 0
 unfoldable pub areaReportNumber : Bytes → List Descriptor → ℕ → ℕ
 areaReportNumber image ds i = firstRefusal ((badDescription image ds refused-by 1) ∷ (leb (length ds) i refused-by 1) ∷ [])
 
 unfoldable pub areaReportOf : Bytes → List Descriptor → ℕ → ℕ → AreaReport
 areaReportOf image ds i k =
-    cond (eqb (areaReportNumber image ds i) 0) (areaReport image (getD ds i (record { offset = 0; length = 0 })) k) (refusedAreaReport (areaReportNumber image ds i))
+    let number = areaReportNumber image ds i in
+    cond (eqb number 0) (areaReport image (getD ds i (record { offset = 0; length = 0 })) k) (refusedAreaReport number)

@@ -7,3 +7,5 @@ pub mod Free
 pub mod Told
 -- descriptors not in order of offset
 pub mod Example
+-- one area, as its report tells it
+pub mod Area

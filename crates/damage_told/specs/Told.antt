@@ -5,23 +5,24 @@ use mathlib.Core.Logic.{_≢_, _⊎_, inl, inr, ⊎-elim}
 use mathlib.Core.Bool.{true}
 use mathlib.Core.List.{List, [], _∷_, _++_, List·Memᴰ, List·Memᴰ·head, List·Memᴰ·not-nil, List·Memᴰ·cases-cons, Memᴰ·append-right}
 use native.Mathlib.Omega.{arith}
-use lib.ListN.{length, drop, length-drop}
+use native.Mathlib.Decide.{ℕ-discrete, decLt}
+use lib.ListN.{length, drop, length-append, length-map, length-drop}
 use lib.Dec.{eqb}
-use borrow.Author.Tests.{eqb-true}
+use borrow.Author.Tests.{eqb-true, ne-eqb}
 use Rattle.format.specs.Bytes.{Bytes, byteAt}
 use Rattle.format.specs.Record.{recordSize}
 use Rattle.format.specs.AreaHeader.{areaHeaderSize, isFileArea}
 use Rattle.format.specs.Reading.{ERASED, Placed, freeSize, Stretch, totalSize, firstStretch, areaParts, areaRecords, areaDamage, areaFree, areaClean}
 use Rattle.format_laws.specs.Bytes.{drop-byte}
-use Rattle.format_laws.specs.Reading.{records-lawful, joined, parts-joined}
+use Rattle.format_laws.specs.Reading.{records-lawful, joined, parts-joined, total-append}
 use Rattle.volume_laws.specs.Lists.{keep-mem}
 use Rattle.image_laws.specs.Laws.{part-length}
 use Rattle.calls.specs.Areas.{areaBytes, fileAreas}
 use Rattle.calls.specs.Mount.{mountNumber}
-use Rattle.calls.specs.Report.{damageIn, mountedReport, reportOf}
+use Rattle.calls.specs.Report.{inImage, damageIn, mountedReport, reportOf}
 use Rattle.calls.specs.declared.Descriptor.{Descriptor}
 use Rattle.calls_laws.specs.Checks.{passes, area-fits}
-use Rattle.damage_told.specs.Words.{InRecord, IsDamaged, InStretch, Run, FirstRun, Ascending, none, next, recordBytes, AreaTold, AllClean, ReportTold}
+use Rattle.damage_told.specs.Words.{InRecord, IsDamaged, InStretch, Run, FirstRun, Ascending, none, next, recordBytes, AreaTold, AllClean, sumOver, ReportTold, Reported}
 use Rattle.damage_told.specs.Runs.{parts-alternate, parts-sum, parts-split, InStretches, Split}
 use Rattle.damage_told.specs.Free.{free-erased, free-behind}
 
@@ -167,6 +168,23 @@ module _ (area : Bytes) (long : areaHeaderSize ≤ length area) where
       let d = firstStretch damage in
       ⊎-elim (λ e. e) (λ m. absurd (h (d .place) (is-damaged d m (d .place) (omega arith, omega (arith, split .stretches d m .2))))) (first-or-none damage)
 
+  abbrev NotFree : ℕ → Type 0
+  NotFree p = (q : ℕ) × (p ≤ q) × (q < length area) × (InRecord area q ⊎ (byteAt area q ≢ ERASED))
+
+  not-free : (p : ℕ) → IsDamaged area p → NotFree p
+  not-free p h =
+      let q = areaFree recordSize area - 1 in
+      let l : (areaHeaderSize ≤ q) × (p ≤ q) × (q < areaFree recordSize area) = (omega (arith, h .0, h .1), omega (arith, h .1), omega (arith, h .1)) in
+      let found : InRecord area q ⊎ (byteAt area q ≢ ERASED) =
+      ⊎-elim inl (λ s. inr (before-free (is-damaged (s .0) (s .1) q (s .2)))) (split .covers q (l .0) (l .2)) in
+      (q, l .1, omega (arith, l .2, free-inside), found)
+
+  before-it : (p : ℕ) → NotFree p → Dec (p < areaFree recordSize area) → p < areaFree recordSize area
+  before-it p n (yes l) = l
+  before-it p n (no l) =
+      let f = free-space (n .0) (omega (arith, n .1)) (n .2) in
+      absurd (⊎-elim (λ r. f .1 r) (λ b. b (f .0)) (n .3))
+
   told : AreaTold area
   told = record {
     runs = is-run;
@@ -180,6 +198,7 @@ module _ (area : Bytes) (long : areaHeaderSize ≤ length area) where
     clean = (λ e. none-damaged (clean-none area e), λ h. none-clean area (no-damage h));
     free = free-space;
     last = before-free;
+    damaged = λ p. (λ h. (h .0, h .2, not-free p h), λ k. (k .0, before-it p (k .2) (decLt p (areaFree recordSize area)), k .1));
     sum = omega (arith, parts-make, long);
   }
 
@@ -189,8 +208,8 @@ area-told = told
 -- ---- the report
 
 module _ (image : Bytes) where
-  abbrev damageOf : Descriptor → List Stretch
-  damageOf d = areaDamage recordSize (areaBytes image d)
+  abbrev damageHere : Descriptor → List Stretch
+  damageHere d = areaDamage recordSize (areaBytes image d)
 
   -- the first area of fs with damage, and where the first of all stretches is
   record Sought (fs : List Descriptor) : Type 0 where
@@ -199,22 +218,22 @@ module _ (image : Bytes) where
     pub behind : List Descriptor
     pub split : fs ≡ before ++ (area ∷ behind)
     pub clean : AllClean image before
-    pub there : List·Memᴰ (firstStretch (damageOf area)) (damageOf area)
-    pub place : firstStretch (damageIn image fs) .place ≡ area .offset + firstStretch (damageOf area) .place
-    pub size : firstStretch (damageIn image fs) .size ≡ firstStretch (damageOf area) .size
+    pub there : List·Memᴰ (firstStretch (damageHere area)) (damageHere area)
+    pub place : firstStretch (damageIn image fs) .place ≡ area .offset + firstStretch (damageHere area) .place
+    pub size : firstStretch (damageIn image fs) .size ≡ firstStretch (damageHere area) .size
 
   abbrev AnyDamage : List Descriptor → Type 0
   AnyDamage fs = ((damageIn image fs ≡ []) × AllClean image fs) ⊎ Sought fs
 
-  all-clean : (d : Descriptor) (fs : List Descriptor) → damageOf d ≡ [] → AllClean image fs → AllClean image (d ∷ fs)
+  all-clean : (d : Descriptor) (fs : List Descriptor) → damageHere d ≡ [] → AllClean image fs → AllClean image (d ∷ fs)
   all-clean d fs e c f m = ⊎-elim (λ q. rw q (none-clean (areaBytes image d) e)) (c f) (List·Memᴰ·cases-cons m)
 
   sought : (fs : List Descriptor) → AnyDamage fs
   unfolding damageIn firstStretch
   sought [] = inl (refl, λ d m. absurd (List·Memᴰ·not-nil m))
-  sought (d ∷ fs) = go (damageOf d) refl (sought fs)
+  sought (d ∷ fs) = go (damageHere d) refl (sought fs)
     where
-      go : (l : List Stretch) → damageOf d ≡ l → AnyDamage fs → AnyDamage (d ∷ fs)
+      go : (l : List Stretch) → damageHere d ≡ l → AnyDamage fs → AnyDamage (d ∷ fs)
       go [] e (inl n) = inl (rw e (n .0), all-clean d fs e (n .1))
       go [] e (inr s) = inr (record {
         before = d ∷ s .before;
@@ -237,6 +256,22 @@ module _ (image : Bytes) where
         size = rw e refl;
       })
 
+  total-image : (o : ℕ) (l : List Stretch) → totalSize (inImage o l) ≡ totalSize l
+  unfolding totalSize
+  total-image o [] = refl
+  total-image o (d ∷ l) = ap (λ (n : ℕ). d .size + n) (total-image o l)
+
+  counts : (fs : List Descriptor) → (length (damageIn image fs) ≡ sumOver (λ d. length (damageHere d)) fs)
+      × (totalSize (damageIn image fs) ≡ sumOver (λ d. totalSize (damageHere d)) fs)
+  unfolding damageIn totalSize sumOver
+  counts [] = (refl, refl)
+  counts (d ∷ fs) =
+      let l = inImage (d .offset) (damageHere d) in
+      let c = counts fs in (
+        omega (arith, length-append l (damageIn image fs), length-map {B = Stretch} (damageHere d) (λ e. record { place = d .offset + e .place; size = e .size }), c .0),
+        omega (arith, total-append l (damageIn image fs), total-image (d .offset) (damageHere d), c .1),
+      )
+
   module _ (ds : List Descriptor) (mounts : mountNumber image ds ≡ 0) where
     report-is : reportOf image ds ≡ mountedReport image ds
     unfolding reportOf
@@ -257,6 +292,8 @@ module _ (image : Bytes) where
     none-told : damageIn image fs ≡ [] → AllClean image fs → ReportTold image ds (mountedReport image ds)
     unfolding mountedReport totalSize
     none-told e c = record {
+      stretches = counts fs .0;
+      skipped = counts fs .1;
       none = (λ z. c, λ c. none-first e .1);
       zeros = λ z. (none-first e .0, ap length e, ap totalSize e);
       first = λ h. absurd (omega (arith, h, none-first e .1));
@@ -266,6 +303,8 @@ module _ (image : Bytes) where
     some-told : Sought fs → ReportTold image ds (mountedReport image ds)
     unfolding mountedReport
     some-told s = record {
+      stretches = counts fs .0;
+      skipped = counts fs .1;
       none = (λ z. absurd (omega (arith, z, some)), λ c. absurd (not-clean (c (s .area) there)));
       zeros = λ z. absurd (omega (arith, z, some));
       first = λ h. record {
@@ -288,7 +327,7 @@ module _ (image : Bytes) where
         bytes = areaBytes image (s .area)
 
         f : Stretch
-        f = firstStretch (damageOf (s .area))
+        f = firstStretch (damageHere (s .area))
 
         there : List·Memᴰ (s .area) fs
         there = rw (s .split) (Memᴰ·append-right (s .before) (List·Memᴰ·head refl))
@@ -310,5 +349,10 @@ module _ (image : Bytes) where
     reported : ReportTold image ds (reportOf image ds)
     reported = rw report-is (⊎-elim (λ n. none-told (n .0) (n .1)) some-told (sought fs))
 
-pub report-told : (image : Bytes) (ds : List Descriptor) → mountNumber image ds ≡ 0 → ReportTold image ds (reportOf image ds)
-report-told = reported
+pub report-told : (image : Bytes) (ds : List Descriptor) → Reported image ds (reportOf image ds)
+unfolding reportOf mountedReport
+report-told image ds = go (ℕ-discrete (mountNumber image ds) 0)
+  where
+    go : Dec (mountNumber image ds ≡ 0) → Reported image ds (reportOf image ds)
+    go (yes m) = record { mounted = λ z. reported image ds m; refused = λ n. absurd (n (rw m refl)) }
+    go (no m) = rw (ne-eqb (mountNumber image ds) 0 m) (record { mounted = λ z. absurd (m z); refused = λ n. (refl, refl, refl, refl) })

@@ -3,7 +3,7 @@
 -- Offsets in an area count from its start, those of the report from the image's.
 use Prim.Native.Nat.{ℕ, _+_, _-_, _≤_, _<_}
 use mathlib.Core.Path.{_≡_}
-use mathlib.Core.Logic.{_≢_, _↔_}
+use mathlib.Core.Logic.{_⊎_, _≢_, _↔_}
 use mathlib.Core.Bool.{true}
 use mathlib.Core.List.{List, [], _∷_, _++_, List·Memᴰ}
 use lib.ListN.{length}
@@ -14,6 +14,7 @@ use Rattle.format.specs.Reading.{ERASED, Placed, Stretch, freeSize, totalSize, 
 use Rattle.calls.specs.Areas.{areaBytes, areaEnd, fileAreas}
 use Rattle.calls.specs.declared.Descriptor.{Descriptor}
 use Rattle.calls.specs.declared.Report.{Report}
+use Rattle.calls.specs.declared.AreaReport.{AreaReport}
 
 -- ---- the bytes of an area
 
@@ -73,6 +74,9 @@ pub record AreaTold (area : Bytes) : Type 0 where
   -- "The part of the last stretch that is FF up to the area's end is free space": FF and in no record; a damaged byte right before it is not FF
   pub free : (p : ℕ) → areaFree recordSize area ≤ p → p < length area → (byteAt area p ≡ ERASED) × ¬ InRecord area p
   pub last : IsDamaged area (areaFree recordSize area - 1) → byteAt area (areaFree recordSize area - 1) ≢ ERASED
+  -- so a byte behind the header is damaged exactly if it is in no record, and it or one behind it is in a record or not FF
+  pub damaged : (p : ℕ) → IsDamaged area p
+      ↔ ((areaHeaderSize ≤ p) × (¬ InRecord area p) × ((q : ℕ) × (p ≤ q) × (q < length area) × (InRecord area q ⊎ (byteAt area q ≢ ERASED))))
   -- header, records, damage and free space make up the area
   pub sum : areaHeaderSize + recordBytes (areaRecords recordSize area) + totalSize (areaDamage recordSize area) + freeSize (areaParts recordSize area)
       ≡ length area
@@ -102,9 +106,48 @@ pub record FirstDamage (image : Bytes) (ds : List Descriptor) (r : Report) : Typ
   pub starts : area .offset + areaHeaderSize ≤ r .«first_offset»
   pub ends : r .«first_offset» + r .«first_length» ≤ areaEnd area
 
+-- the sum of a number of each of some areas
+unfoldable pub sumOver : (Descriptor → ℕ) → List Descriptor → ℕ
+sumOver f [] = 0
+sumOver f (d ∷ fs) = f d + sumOver f fs
+
+-- of a volume that mounts
 pub record ReportTold (image : Bytes) (ds : List Descriptor) (r : Report) : Type 0 where
+  -- "damage stretches, damage bytes over file areas"
+  pub stretches : r .stretches ≡ sumOver (λ d. length (areaDamage recordSize (areaBytes image d))) (fileAreas image ds)
+  pub skipped : r .skipped ≡ sumOver (λ d. totalSize (areaDamage recordSize (areaBytes image d))) (fileAreas image ds)
   -- "(both 0 if there is none)": exactly when all file areas are clean, and then no damage is counted
   pub none : (r .«first_length» ≡ 0) ↔ AllClean image (fileAreas image ds)
   pub zeros : r .«first_length» ≡ 0 → (r .«first_offset» ≡ 0) × (r .stretches ≡ 0) × (r .skipped ≡ 0)
   -- otherwise
   pub first : 0 < r .«first_length» → FirstDamage image ds r
+
+-- of any image and list: a refused report's zeros tell nothing
+pub record Reported (image : Bytes) (ds : List Descriptor) (r : Report) : Type 0 where
+  pub mounted : r .number ≡ 0 → ReportTold image ds r
+  -- "A refused answer's other numbers are 0"
+  pub refused : r .number ≢ 0 → (r .stretches ≡ 0) × (r .skipped ≡ 0) × (r .«first_offset» ≡ 0) × (r .«first_length» ≡ 0)
+
+-- ---- the theorem of the report of one area
+
+-- the stretch that it gives
+abbrev pub given : AreaReport → Stretch
+given r = record { place = r .offset; size = r .length }
+
+-- the reports of an area that is in a good list, of whatever kind: r k is asked for stretch k
+pub record AreaReportTold (area : Bytes) (r : ℕ → AreaReport) : Type 0 where
+  -- only the stretch that is given depends on k
+  pub same : (k : ℕ) → (r k .stretches ≡ r 0 .stretches) × (r k .skipped ≡ r 0 .skipped) × (r k .free ≡ r 0 .free) × (r k .records ≡ r 0 .records)
+  -- those below the number of stretches are runs of damaged bytes ..
+  pub runs : (k : ℕ) → k < r 0 .stretches → Run area (given (r k))
+  -- .. in ascending order, apart, ..
+  pub order : (j k : ℕ) → j < k → k < r 0 .stretches → r j .offset + r j .length < r k .offset
+  -- .. in which every damaged byte is; "both 0 if there is none"
+  pub found : (p : ℕ) → IsDamaged area p → (k : ℕ) × (k < r 0 .stretches) × InStretch (given (r k)) p
+  pub none : (k : ℕ) → r 0 .stretches ≤ k → (r k .offset ≡ 0) × (r k .length ≡ 0)
+  -- T-08: "the offset of the first damage stretch and its length"
+  pub first : 0 < r 0 .stretches → FirstRun area (given (r 0))
+  -- as many bytes at the end are FF and in no record
+  pub free : (p : ℕ) → length area ≤ p + r 0 .free → p < length area → (byteAt area p ≡ ERASED) × ¬ InRecord area p
+  -- header, records, damage and free space make up the area
+  pub sum : areaHeaderSize + recordBytes (areaRecords recordSize area) + r 0 .skipped + r 0 .free ≡ length area

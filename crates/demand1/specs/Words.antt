@@ -45,7 +45,7 @@ formatNumbers = 0 ∷ 1 ∷ 3 ∷ []
 abbrev pub reportNumbers : List ℕ
 reportNumbers = 0 ∷ 1 ∷ 2 ∷ 3 ∷ 4 ∷ 5 ∷ 6 ∷ 7 ∷ []
 
--- the report of one area makes check 1 alone
+-- of one area: 1, by check 1 or where the list has no such area
 abbrev pub areaReportNumbers : List ℕ
 areaReportNumbers = 0 ∷ 1 ∷ []
 

@@ -105,6 +105,9 @@ pub record Cases : Type 0 where
       ≡ record { number = 0; inodes = 2; live = 2; stretches = 3; skipped = 10; «first_offset» = 44; «first_length» = 3 }
   pub first-by-descriptors : reportOf littered (area₁ ∷ area₀ ∷ area₂ ∷ [])
       ≡ record { number = 0; inodes = 2; live = 2; stretches = 3; skipped = 10; «first_offset» = 184; «first_length» = 5 }
+  -- damage in scratch and in an area that is passed over is none of it
+  pub passed-over-unreported : reportOf (set littered 182 1) three
+      ≡ record { number = 0; inodes = 2; live = 2; stretches = 2; skipped = 5; «first_offset» = 44; «first_length» = 3 }
   -- T-08: the reading of an area, with its first stretch, its second, and a third, of which there is none; and of scratch
   pub area-read : areaReportOf littered three 0 0 ∷ areaReportOf littered three 0 1 ∷ areaReportOf littered three 0 2 ∷ areaReportOf littered three 2 0 ∷ []
       ≡ record { number = 0; kind = 1; id = 0; count = 0; records = 2; stretches = 2; skipped = 5; free = 90; offset = 44; length = 3 }
@@ -161,6 +164,7 @@ cases = record {
   each-preceded = refl;
   first-damage = refl;
   first-by-descriptors = refl;
+  passed-over-unreported = refl;
   area-read = refl;
   passed-over-read = refl;
   beyond-the-list = refl;

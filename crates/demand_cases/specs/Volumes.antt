@@ -111,12 +111,14 @@ unfoldable pub counted : List ℕ → Bytes
 counted [] = []
 counted (n ∷ l) = holding n 0 [] ++ counted l
 
+-- the directories 1 and 2, each below the other, and a file in one
+unfoldable pub looping : Bytes
+looping = holding 0 0 (rootRecord ++ (inodeBytes 1 0 2 a ++ (inodeBytes 2 0 1 b ++ inodeBytes file 0 1 a))) ++ holding 0 255 []
+
 -- ---- damage (T-08)
 
 -- three bytes between two records of the first area and two behind them, five in the second, and seven in scratch, that are no records
 unfoldable pub littered : Bytes
-littered = holding 0 0 (rootRecord ++ (replicate 3 0 ++ (inodeBytes file 0 0 a ++ replicate 2 0))) ++ (holding 9 1 (replicate 5 0) ++ holding 7 255 (replicate 7 0))
-
--- the directories 1 and 2, each below the other, and a file in one
-unfoldable pub looping : Bytes
-looping = holding 0 0 (rootRecord ++ (inodeBytes 1 0 2 a ++ (inodeBytes 2 0 1 b ++ inodeBytes file 0 1 a))) ++ holding 0 255 []
+littered =
+    holding 0 0 (rootRecord ++ (replicate 3 0 ++ (inodeBytes file 0 0 a ++ replicate 2 0)))
+    ++ (holding 9 1 (replicate 5 0) ++ holding 7 255 (replicate 7 0))
