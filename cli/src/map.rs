@@ -121,7 +121,7 @@ impl Map {
         let (as_json, as_list) = (arguments.given("--json"), arguments.given("--stretches"));
         if let Some(refusal) = self.refusal {
             let shown = match (self.areas.is_empty(), as_list) {
-                (true, _) => "nothing is shown",
+                (true, _) => "no area is shown",
                 (false, true) => "its stretches are shown",
                 (false, false) => "its areas are shown",
             };

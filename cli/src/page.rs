@@ -15,10 +15,10 @@ Damage: bytes that no record holds, torn or worn. Of what stood there an older v
   or something deleted be back: compare with what you expect. Nothing is written to a damaged area;
   `nffs collect` clears the area that it collects, which is never one shorter than scratch.
   `nffs map` shows where it lies.";
-const PASSED_OVER: &str = "\
-  They are not read, and no damage is counted there: what is live without it may be an older version,
-  and what was deleted may be back. If it is a part of the volume, write nothing to the image, and
-  keep it: what lies in the area may all be whole.";
+const PASSED_OVER: &str = "where the list names an area without a valid header.
+  What lies there is not read, and no damage is counted in it: what is live without it may be an
+  older version, and what was deleted may be back. If it is a part of the volume, write nothing to
+  the image, and keep it: what lies in the area may all be whole.";
 const BROKEN: &str = "\
 Broken: blocks of the file are lost. `nffs put IMAGE PATH FILE --replace` stores it anew, `nffs rm`
   unlinks it.";
@@ -121,8 +121,7 @@ impl Page<'_> {
         }
         if let Some(records) = self.passed_over() {
             let records = count(records as usize, "record lies", "records lie");
-            let what = "where an area of the list has no valid header, and is not blank";
-            let _ = writeln!(page, "Passed over: {records} {what}.\n{PASSED_OVER}");
+            let _ = writeln!(page, "Passed over: {records} {PASSED_OVER}");
         }
         page + &self.hints.text()
     }
