@@ -1,7 +1,8 @@
 //! `map`: what each area holds, and where.
 //!
 //! All of it is answered by the calls, also where the volume does not mount. Here only the picture
-//! is drawn, and an area's offset added to what counts from its start.
+//! is drawn, and an area's offset added to what counts from its start. A gap is asked about as if it
+//! were an area: where it begins and ends is from the areas that were found.
 
 use crate::areas::{take, Chosen};
 use crate::arguments::Arguments;
