@@ -168,13 +168,7 @@ fn an_area_that_reaches_over_the_next() {
     // scratch as long as that: the next header begins in its last byte, farther in it, or lies in it
     // with its whole area
     for (length, inside) in [(4097, 1), (4352, 1), (6144, 1), (12_288, 2)] {
-        let mut worn = bytes.clone();
-        worn.copy_within(8192..12_288, 12_288);
-        worn.copy_within(4096..8192, 8192);
-        worn.copy_within(0..4096, 4096);
-        // from here on: blank, scratch, the two file areas
-        worn[..4096].fill(0xff);
-        worn.drain(..4096);
+        let mut worn = bytes[..12_288].to_vec();
         worn[16..20].copy_from_slice(&u32::to_le_bytes(length));
         // a root for what is left, so that it mounts
         let root = [header(7, 4096), inode(0, 0, NONE, b"")].concat();
