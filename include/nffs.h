@@ -7,8 +7,9 @@
  *   image   0 to 65,536 bytes, the flash.
  *   areas   offset and length of each area. The list ends at the first length 0 or at its end; what stands behind is not looked at. Good
  *           are 1 to 16 areas of 128 to 65,536 bytes, inside the image, none overlapping. One without a valid header is passed over with
- *           all that lies in it, by every call but nffs_format. Since version 0.4.0 a header whose reserved byte is not 0 is not valid, and an
- *           inode's record with such a byte is not read (docs/LINKING.md, "Volumes of other writers").
+ *           all that lies in it, by every call but nffs_format and nffs_area_report, which tells of it. Since version 0.4.0 a header whose
+ *           reserved byte is not 0 is not valid, and an inode's record with such a byte is not read (docs/LINKING.md, "Volumes of other
+ *           writers").
  *   base    what a path without a leading slash is taken below: a good absolute path. Otherwise it is not looked at and may be empty.
  *   path    1 to 1,024 bytes: "/", or names of 1 to 255 bytes parted by single slashes, none at the end, no NUL. Nothing has to stand
  *           behind it.
@@ -66,7 +67,7 @@ typedef struct nffs_handle {
    makes, and in which order, which is not always that of the numbers. */
 enum {
     NFFS_OK = 0,
-    NFFS_BAD_AREAS = 1,           /* image over 65,536 bytes, or areas not good; nffs_area_report: the list has no such entry */
+    NFFS_BAD_AREAS = 1,           /* image over 65,536 bytes, or areas not good; nffs_area_report: or the list has no such entry */
     NFFS_SAME_AREA_ID = 2,        /* two file areas have one id */
     NFFS_NO_FILE_OR_SCRATCH = 3,  /* no file area, or not exactly one scratch area */
     NFFS_SHORT_SCRATCH = 4,       /* scratch shorter than a file area */
@@ -98,8 +99,9 @@ enum { NFFS_MOST_AREAS = 16, NFFS_APPEND_MOST = 8192 };
 
 /* Distinct inode ids, live inodes, damage stretches and their bytes; where the first of these stretches begins in the image, and its
    length, both 0 if there is none. The first is the first of the first damaged file area in the order of the list, which need not be the one
-   with the lowest offset. Not seen is what lies in scratch or in an area that is passed over; nor is a page that came back with its previous
-   contents, where its checks are right: it is no damage and has no stretch. */
+   with the lowest offset. Of the last stretch of an area the bytes that read FF up to the area's end are left out and count as free: a torn
+   or worn record can reach farther than is told. Not seen is what lies in scratch or in an area that is passed over; nor is a page that came
+   back with its previous contents, where its checks are right: it is no damage and has no stretch. */
 typedef struct nffs_report_answer {
     uint32_t number;
     uint32_t inodes;
@@ -112,9 +114,10 @@ typedef struct nffs_report_answer {
 
 /* One area: its kind (NFFS_AREA_..); id and collection count of its header, both 0 where it is passed over; and, whatever its kind, what
    stands behind its first 24 bytes: records, damage stretches, their bytes, and the bytes of free space at its end. Then one of the
-   stretches: where it begins, counted from the area's start, and its length, both 0 if there are not so many. What is no record and not
-   free in scratch, or in an area that is passed over, is told here too, but it is no damage of the volume. Header, records, stretches and
-   free space are the whole area: 24 + bytes of records + skipped + free = its length. */
+   stretches: where it begins, counted from the area's start, and its length, both 0 if there are not so many. Of the last one the bytes
+   that read FF up to the area's end are free space. What is no record and not free in scratch, or in an area that is passed over, is told
+   here too, but it is no damage of the volume. Header, records, stretches and free space are the whole area: 24 + bytes of records +
+   skipped + free = its length. */
 typedef struct nffs_area_answer {
     uint32_t number;
     uint32_t kind;
@@ -165,7 +168,8 @@ NFFS_ANSWERS uint32_t nffs_format(uint8_t *image, size_t image_length, const nff
 NFFS_ANSWERS nffs_report_answer nffs_report(const uint8_t *image, size_t image_length, const nffs_area *areas, size_t areas_count);
 
 /* The state of one area, entry index of the list, and its damage stretch of number stretch; both count from 0. It tells of the areas of a
-   volume that does not mount, too. With each number below the answer's stretches it gives all of them; each call reads the area anew.
+   volume that does not mount, too. With each number below the answer's stretches it gives all of them; each call reads the area anew, so
+   bound how many you ask for.
    Checks in order: 1, and 1 where the list has no entry `index`. */
 NFFS_ANSWERS nffs_area_answer nffs_area_report(const uint8_t *image, size_t image_length, const nffs_area *areas, size_t areas_count,
                                   uint32_t index, uint32_t stretch);
@@ -230,7 +234,7 @@ NFFS_HOLDS(sizeof(nffs_create_answer) == 8, "layout of nffs_create_answer");
 static inline const char *nffs_meaning(uint32_t number) {
     switch (number) {
     case NFFS_OK: return "done";
-    case NFFS_BAD_AREAS: return "image over 65,536 bytes, or areas not good";
+    case NFFS_BAD_AREAS: return "image over 65,536 bytes, or areas not good (report of an area: or no such entry)";
     case NFFS_SAME_AREA_ID: return "two file areas have one id";
     case NFFS_NO_FILE_OR_SCRATCH: return "no file area, or not exactly one scratch area";
     case NFFS_SHORT_SCRATCH: return "scratch shorter than a file area";

@@ -6,7 +6,7 @@ use nffs::Refusal;
 /// program offers for it.
 #[rustfmt::skip]
 const TABLE: [(u32, &str, &str); 17] = [
-    (1, "Give the areas that the volume was formatted with: 1 to 16, of 128 to 65,536 bytes, inside the image, none overlapping. The image has at most 65,536 bytes.",
+    (1, "Give the areas that the volume was formatted with: 1 to 16, of 128 to 65,536 bytes, inside the image, none overlapping. The image has at most 65,536 bytes. Of the report of an area: ask for an index below their number.",
         "`nffs areas IMAGE` prints the areas whose valid headers it sees; --at names the place of a volume in a longer file."),
     (2, "Give the areas that the volume was formatted with. If they are these, the header of an area is damaged, by a single bit perhaps, or power was lost during a collection, for which there is no recovery call yet. Nothing can be read or written. Keep the image: the files may all be whole.",
         "`nffs check IMAGE` shows the header of each area."),
@@ -14,7 +14,7 @@ const TABLE: [(u32, &str, &str); 17] = [
         "`nffs check IMAGE` shows the header of each area."),
     (4, "Give the areas that the volume was formatted with. If they are these, the header of an area is damaged. Nothing can be read or written. Keep the image: the files may all be whole.",
         "`nffs check IMAGE` shows the header of each area."),
-    (5, "Ask for a report. While it answers 0, ids are used up: collecting gives back those of deleted files, an inode's mostly one collection later than those of its blocks, which still name it. Where it answers 5 too, the image holds more ids than the tables, every call but format answers 5, and nothing can be read, written or collected.",
+    (5, "Ask for a report. While it answers 0, ids are used up: collecting gives back those of deleted files, an inode's mostly one collection later than those of its blocks, which still name it. Where it answers 5 too, the image holds more ids than the tables, every call but format and the report of an area answers 5, and nothing can be read, written or collected.",
         "--collect collects until it fits."),
     (6, "Two records have the same id and version and different bytes, so that neither can be trusted: nothing can be read or written. Keep the image.",
         ""),

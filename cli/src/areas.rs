@@ -4,10 +4,11 @@
 //! for the calls to say: they look at every header again.
 
 use crate::arguments::{number, usage, Arguments};
-use crate::console::say;
+use crate::console::{count, say};
 use crate::failure::Failure;
+use crate::gaps::{gaps, inside, passed_over, Gap, Inside};
+use crate::hints::Hints;
 use crate::image_file::MOST;
-use crate::reserved::Hints;
 use nffs::{Area, MOST_AREAS};
 use std::ffi::OsStr;
 use std::fs::File;
@@ -68,11 +69,23 @@ pub fn header(image: &[u8], area: Area) -> Option<Header> {
     header_at(image, area.offset as usize).filter(is_its_own)
 }
 
+/// The area that a valid header begins here.
+pub fn valid_at(image: &[u8], offset: u32) -> Option<Area> {
+    let header = header_at(image, offset as usize).filter(Header::is_valid)?;
+    Some(Area { offset, length: header.length })
+}
+
 /// A header and where it stands.
 #[derive(Clone, Copy)]
 pub struct Placed {
     pub offset: u32,
     pub header: Header,
+}
+
+impl Placed {
+    fn area(&self) -> Area {
+        Area { offset: self.offset, length: self.header.length }
+    }
 }
 
 /// What is seen in an image.
@@ -121,6 +134,34 @@ pub struct Chosen {
     pub left_out: Vec<Area>,
     /// Headers that are passed over for their reserved byte.
     pub reserved_headers: Vec<Placed>,
+    /// Areas of a list that are passed over, for another reason, and hold records.
+    pub passed_over: Vec<Gap>,
+    /// Where the areas were found: bytes in none of them that hold records.
+    pub gaps: Vec<Gap>,
+    /// Valid headers inside of these areas, but in none of their records.
+    pub inside: Vec<Inside>,
+}
+
+impl Chosen {
+    /// Whether a part of the volume may be missing, by a hint.
+    pub fn may_lack_a_part(&self) -> bool {
+        !(self.reserved_headers.is_empty() && self.gaps.is_empty() && self.inside.is_empty())
+    }
+
+    /// Warns of headers that the list leaves out, and of records in areas that are passed over.
+    pub fn warn(&self) {
+        warn(&self.left_out);
+        for Gap { area, records } in &self.passed_over {
+            say(&format!(
+                "warning: the area at {} (length {}) has no valid header and is passed over, with \
+                 {} in it: what is live without it may be an older version, and what was deleted \
+                 may be back",
+                area.offset,
+                area.length,
+                count(*records as usize, "record", "records")
+            ));
+        }
+    }
 }
 
 /// The areas by `--areas`, or else by their headers; nothing is said of them.
@@ -128,18 +169,21 @@ pub fn choose(arguments: &Arguments, image: &[u8]) -> Result<Chosen, Failure> {
     let list = listed(arguments)?;
     let found = list.is_none();
     let listed = list.unwrap_or_default();
-    let Seen { areas, reserved_headers } = seen(image, &listed);
-    Ok(match found {
-        true => Chosen { areas, found, left_out: Vec::new(), reserved_headers },
-        false => Chosen { areas: listed, found, left_out: areas, reserved_headers },
-    })
+    let Seen { areas: seen, reserved_headers } = seen(image, &listed);
+    let taken = seen.iter().copied().chain(reserved_headers.iter().map(Placed::area));
+    let gaps = if found { gaps(image, taken) } else { Vec::new() };
+    let (areas, left_out) = if found { (seen, Vec::new()) } else { (listed, seen) };
+    let inside = inside(image, &areas);
+    let mut passed_over = passed_over(image, &areas);
+    passed_over.retain(|gap| reserved_headers.iter().all(|placed| placed.area() != gap.area));
+    Ok(Chosen { areas, found, left_out, reserved_headers, passed_over, gaps, inside })
 }
 
-/// The same; which areas were found is said, a header that was left out is warned of, and reserved
-/// bytes that are not 0 are hinted at.
+/// The same; which areas were found is said, a header that was left out is warned of, and what may
+/// be a part of the volume and is not read is hinted at.
 pub fn take(arguments: &Arguments, image: &[u8]) -> Result<Chosen, Failure> {
     let chosen = choose(arguments, image)?;
-    warn(&chosen.left_out);
+    chosen.warn();
     Hints::of_a_run(image, &chosen).say();
     if !chosen.found {
         return Ok(chosen);
@@ -167,14 +211,19 @@ pub fn take_to_read(arguments: &Arguments, image: &[u8]) -> Result<Vec<Area>, Fa
     take(arguments, image).map(|chosen| chosen.areas)
 }
 
-/// The areas of a volume that is to be changed. Where they were found, none may be passed over for
-/// its reserved byte: if it is a part of the volume, ids that stand in it would be given again.
+/// The areas of a volume that is to be changed. Where they were found, no part may be missing by a
+/// hint: if it is one of the volume, ids that stand in it would be given again.
 pub fn take_to_change(arguments: &Arguments, image: &[u8]) -> Result<Vec<Area>, Failure> {
     let chosen = take(arguments, image)?;
-    if chosen.found && !chosen.reserved_headers.is_empty() {
+    if chosen.found && chosen.may_lack_a_part() {
+        let what = match chosen.reserved_headers.is_empty() {
+            true => "what may be a part of the volume is in no area that was found",
+            false => {
+                "an area that may be a part of the volume is passed over for its reserved byte"
+            }
+        };
         return Err(Failure::Unfit(format!(
-            "{} was not changed: an area that may be a part of the volume is passed over for its \
-             reserved byte (hint above). If it is none, name the areas with --areas.",
+            "{} was not changed: {what} (hint above). If it is none, name the areas with --areas.",
             arguments.image.display()
         )));
     }

@@ -2,16 +2,16 @@
 //!
 //! Whether it mounts, what is live, how long a file is and whether it is broken, how much is damaged:
 //! all of it is answered by the calls. Only the headers of areas, the names that are asked for, the
-//! names of orphans and what hints are about are read here (`areas`, `records`, `reserved`).
+//! names of orphans and what hints are about are read here (`areas`, `gaps`, `records`).
 
 use crate::areas::{choose, header};
 use crate::arguments::Arguments;
 use crate::console::print;
 use crate::failure::Failure;
+use crate::hints::Hints;
 use crate::image_file;
 use crate::page::{rows, Gone, Mounted, Page};
 use crate::records::{candidates, is_each_once, Candidate};
-use crate::reserved::Hints;
 use crate::tree::tree;
 use crate::work::Collections;
 use nffs::{Area, Refusal, Report};
@@ -27,7 +27,7 @@ pub fn check(arguments: &Arguments) -> Result<(), Failure> {
         image: arguments.image.display().to_string(),
         size: image.len(),
         at: at.unwrap_or(0),
-        chosen,
+        chosen: &chosen,
         rows,
         hints,
         mounted,

@@ -4,8 +4,8 @@ use crate::areas;
 use crate::arguments::{usage, Arguments};
 use crate::console::{print, say};
 use crate::failure::Failure;
+use crate::hints::Hints;
 use crate::image_file::{self, failed, Held, MOST};
-use crate::reserved::Hints;
 use crate::tree::contents;
 use crate::work::{append as append_all, Work};
 use nffs::{Area, Kind, Refusal};
@@ -41,7 +41,7 @@ fn change(
 pub fn areas_seen(arguments: &Arguments) -> Result<(), Failure> {
     let image = image_file::load(&arguments.image, arguments.number("--at")?)?;
     let chosen = areas::choose(arguments, &image)?;
-    areas::warn(&chosen.left_out);
+    chosen.warn();
     Hints::of_a_run(&image, &chosen).say();
     if chosen.areas.is_empty() {
         return Err(areas::none_seen(arguments, &chosen));

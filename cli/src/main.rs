@@ -8,12 +8,13 @@ mod console;
 mod failure;
 mod files;
 mod folders;
+mod gaps;
+mod hints;
 mod image_file;
 mod json;
 mod map;
 mod page;
 mod records;
-mod reserved;
 mod tree;
 mod work;
 

@@ -1,41 +1,46 @@
 //! `map`: what each area holds, and where.
 //!
 //! All of it is answered by the calls, also where the volume does not mount. Here only the picture
-//! is drawn, and an area's offset added to what counts from its start.
+//! is drawn, and an area's offset added to what counts from its start. A gap is asked about as if it
+//! were an area: where it begins and ends is from the areas that were found.
 
 use crate::areas::{take, Chosen};
 use crate::arguments::Arguments;
 use crate::console::{print, say};
 use crate::failure::Failure;
+use crate::hints::parts_json;
 use crate::image_file;
 use crate::json;
 use crate::page::refusal_json;
 use nffs::{Area, AreaKind, AreaReport, Refusal, Stretch};
 
 /// The characters of a bar. No area has fewer bytes than this, and each byte falls into one.
-const CELLS: u32 = 64;
+const CELLS: u32 = 48;
 /// The bytes of an area's header.
 const HEADER: u32 = 24;
 const FREE: char = '.';
-const LEGEND: &str = "H header, = records, X damage, . free; in areas that are not read: \
-                      ? no valid header, - records, ~ other bytes";
+const LEGEND: &str = "H header, = records, X damage, x in part, . free; \
+                      in scratch or passed over: - records, ~ other bytes; ? no valid header";
 
 struct Map {
     image: String,
     size: usize,
     at: u64,
-    /// Whether the areas were found by their headers.
-    found: bool,
+    chosen: Chosen,
     /// Why the volume does not mount.
     refusal: Option<Refusal>,
+    /// None where the list is not good.
     areas: Vec<Mapped>,
+    /// What is in no area that was found, and holds records.
+    gaps: Vec<Mapped>,
 }
 
-/// An area of the list, its state and its stretches.
+/// An area of the list, or a gap, its state and its stretches.
 struct Mapped {
     area: Area,
     report: AreaReport,
     stretches: Vec<Stretch>,
+    is_gap: bool,
 }
 
 /// What a kind of area is called in the map and in JSON, and how header, records and stretches are
@@ -46,44 +51,50 @@ struct Look {
     header: char,
     records: char,
     rest: char,
+    /// Of a cell that holds something else, too.
+    rest_in_part: char,
     rest_name: &'static str,
 }
 
-const FILE: Look =
-    Look { kind: "file", json: "file", header: 'H', records: '=', rest: 'X', rest_name: "damaged" };
+const FILE: Look = Look {
+    kind: "file",
+    json: "file",
+    header: 'H',
+    records: '=',
+    rest: 'X',
+    rest_in_part: 'x',
+    rest_name: "damaged",
+};
 const SCRATCH: Look = Look {
     kind: "scratch",
     json: "scratch",
     header: 'H',
     records: '-',
     rest: '~',
+    rest_in_part: '~',
     rest_name: "other",
 };
 const PASSED_OVER: Look = Look { kind: "passed over", json: "none", header: '?', ..SCRATCH };
+const GAP: Look = Look { kind: "not in list", ..PASSED_OVER };
 
 pub fn map(arguments: &Arguments) -> Result<(), Failure> {
     let at = arguments.number("--at")?;
     let image = image_file::load(&arguments.image, at)?;
-    let Chosen { areas, found, .. } = take(arguments, &image)?;
+    let chosen = take(arguments, &image)?;
+    let areas = mapped(&image, &chosen.areas);
+    if let (Err(refusal), false) = (&areas, arguments.given("--json")) {
+        return Err(arguments.refused(*refusal));
+    }
     let map = Map {
         image: arguments.image.display().to_string(),
         size: image.len(),
         at: at.unwrap_or(0),
-        found,
-        refusal: nffs::report(&image, &areas).err(),
-        areas: mapped(&image, &areas).map_err(|refusal| arguments.refused(refusal))?,
+        refusal: nffs::report(&image, &chosen.areas).err(),
+        areas: areas.unwrap_or_default(),
+        gaps: mapped_gaps(&image, &chosen),
+        chosen,
     };
-    if let Some(refusal) = map.refusal {
-        let what = arguments.what();
-        say(&format!("{what}: the volume is refused with {refusal}; its areas are shown"));
-    }
-    let text = match (arguments.given("--json"), arguments.given("--stretches")) {
-        (true, _) => map.json(),
-        (false, true) => map.stretches(),
-        (false, false) => map.text(),
-    };
-    print(text.as_bytes())?;
-    map.refusal.map_or(Ok(()), |_| Err(Failure::Unmounted))
+    map.show(arguments)
 }
 
 /// The areas of a list; refused where it is not good, or empty.
@@ -94,18 +105,53 @@ fn mapped(image: &[u8], areas: &[Area]) -> Result<Vec<Mapped>, Refusal> {
             area: *area,
             report: nffs::area_report(image, areas, index, 0)?,
             stretches: nffs::stretches(image, areas, index)?.collect(),
+            is_gap: false,
         })
     };
     areas.iter().zip(0..).map(one).collect()
 }
 
+/// Each gap as a list of its own.
+fn mapped_gaps(image: &[u8], chosen: &Chosen) -> Vec<Mapped> {
+    let gaps = chosen.gaps.iter().filter_map(|gap| mapped(image, &[gap.area]).ok());
+    gaps.flatten().map(|gap| Mapped { is_gap: true, ..gap }).collect()
+}
+
 impl Map {
+    fn show(&self, arguments: &Arguments) -> Result<(), Failure> {
+        let (as_json, as_list) = (arguments.given("--json"), arguments.given("--stretches"));
+        if let Some(refusal) = self.refusal {
+            let shown = match (self.areas.is_empty(), as_list) {
+                (true, _) => "no area is shown",
+                (false, true) => "its stretches are shown",
+                (false, false) => "its areas are shown",
+            };
+            let what = arguments.what();
+            say(&format!("{what}: the volume is refused with {refusal}; {shown}"));
+        }
+        let text = match (as_json, as_list) {
+            (true, _) => self.json(),
+            (false, true) => self.stretches(),
+            (false, false) => self.text(),
+        };
+        print(text.as_bytes())?;
+        self.refusal.map_or(Ok(()), |_| Err(Failure::Unmounted))
+    }
+
     fn text(&self) -> String {
-        let head = format!(
+        let mut head = format!(
             "{:<11}  {:<11}  {:>3}  {:>5}  {:>7}  {:>5}  {:>5}",
             "area", "kind", "id", "count", "records", "free", "rest"
         );
-        let lines: String = self.areas.iter().map(|area| area.line() + "\n").collect();
+        if self.at > 0 {
+            head = format!("{head}  from {} on", self.at);
+        }
+        let mut areas: Vec<_> = self.areas.iter().chain(&self.gaps).collect();
+        if !self.gaps.is_empty() {
+            // areas that were found are in this order already
+            areas.sort_by_key(|area| area.area.offset);
+        }
+        let lines: String = areas.iter().map(|area| area.line() + "\n").collect();
         format!("{head}\n{lines}{LEGEND}\n")
     }
 
@@ -115,21 +161,24 @@ impl Map {
     }
 
     fn json(&self) -> String {
-        json::page(&[
+        let mut fields = vec![
             ("image", json::text(&self.image)),
             ("at", self.at.to_string()),
             ("size", self.size.to_string()),
             ("status", u8::from(self.refusal.is_some()).to_string()),
             ("refusal", refusal_json(self.refusal.as_ref())),
-            ("found", self.found.to_string()),
+            ("found", self.chosen.found.to_string()),
             ("areas", json::list(self.areas.iter().map(Mapped::json))),
-        ])
+        ];
+        fields.extend(parts_json(&self.chosen));
+        json::page(&fields)
     }
 }
 
 impl Mapped {
     fn look(&self) -> &'static Look {
         match self.report.kind {
+            _ if self.is_gap => &GAP,
             AreaKind::File => &FILE,
             AreaKind::Scratch => &SCRATCH,
             AreaKind::PassedOver => &PASSED_OVER,
@@ -155,37 +204,40 @@ impl Mapped {
     fn line(&self) -> String {
         let (look, report) = (self.look(), &self.report);
         let [id, count] = self.header().map(|n| n.map_or("-".into(), |n| n.to_string()));
+        let rest = match (report.skipped, self.is_file_area()) {
+            (0, true) => format!("{:>5} {:<7}", "", "clean"),
+            (bytes, _) => format!("{bytes:>5} {:<7}", look.rest_name),
+        };
         format!(
-            "{:>5}+{:<5}  {:<11}  {id:>3}  {count:>5}  {:>7}  {:>5}  {:>5} {:<7}  {}",
+            "{:>5}+{:<5}  {:<11}  {id:>3}  {count:>5}  {:>7}  {:>5}  {rest}  {}",
             self.area.offset,
             self.area.length,
             look.kind,
             report.records,
             report.free,
-            report.skipped,
-            look.rest_name,
             self.bar()
         )
     }
 
-    /// The area to scale. Where several things fall into a cell, the first of these is shown:
-    /// damage, header, records, free space. So no stretch is too short to be seen.
+    /// The area to scale.
     fn bar(&self) -> String {
-        let look = self.look();
-        let mut cells = [FREE; CELLS as usize];
-        self.draw(&mut cells, HEADER, self.area.length - self.report.free, look.records);
-        self.draw(&mut cells, 0, HEADER, look.header);
-        for stretch in &self.stretches {
-            self.draw(&mut cells, stretch.offset, stretch.offset + stretch.length, look.rest);
-        }
-        cells.iter().collect()
+        (0..CELLS).map(|cell| self.cell(cell)).collect()
     }
 
-    /// Draws the bytes of the area from a place up to another.
-    fn draw(&self, cells: &mut [char], from: u32, to: u32, with: char) {
-        let cell = |byte: u32| (byte * CELLS / self.area.length) as usize;
-        if from < to {
-            cells[cell(from)..=cell(to - 1)].fill(with);
+    /// What is shown of the bytes that fall into a cell. Where there are several things, it is the
+    /// first of these: damage, header, records, free space. So no stretch is too short to be seen.
+    fn cell(&self, cell: u32) -> char {
+        let start = |cell: u32| (cell * self.area.length).div_ceil(CELLS);
+        let (from, to) = (start(cell), start(cell + 1));
+        let common = |s: &Stretch| to.min(s.offset + s.length).saturating_sub(from.max(s.offset));
+        let rest: u32 = self.stretches.iter().map(common).sum();
+        let look = self.look();
+        match () {
+            () if rest == to - from => look.rest,
+            () if rest > 0 => look.rest_in_part,
+            () if from < HEADER => look.header,
+            () if from < self.area.length - self.report.free => look.records,
+            () => FREE,
         }
     }
 

@@ -3,11 +3,11 @@
 use crate::advice;
 use crate::areas::{header, list, Chosen, Header};
 use crate::console::{count, shown};
+use crate::hints::Hints;
 use crate::json;
 use crate::records::Candidate;
-use crate::reserved::Hints;
 use crate::tree::{Entry, Tree, What};
-use nffs::{Area, AreaKind, Refusal, Report};
+use nffs::{Area, AreaKind, AreaReport, Refusal, Report};
 use std::fmt::Write;
 
 const DAMAGE: &str = "\
@@ -15,6 +15,10 @@ Damage: bytes that no record holds, torn or worn. Of what stood there an older v
   or something deleted be back: compare with what you expect. Nothing is written to a damaged area;
   `nffs collect` clears the area that it collects, which is never one shorter than scratch.
   `nffs map` shows where it lies.";
+const PASSED_OVER: &str = "where the list names an area without a valid header.
+  What lies there is not read, and no damage is counted in it: what is live without it may be an
+  older version, and what was deleted may be back. If it is a part of the volume, write nothing to
+  the image, and keep it: what lies in the area may all be whole.";
 const BROKEN: &str = "\
 Broken: blocks of the file are lost. `nffs put IMAGE PATH FILE --replace` stores it anew, `nffs rm`
   unlinks it.";
@@ -25,24 +29,26 @@ const UNREACHED: &str = "\
 Unreached: live, but no path leads there, since two have one name or the path would be too long.
   `nffs rm` of the directory above takes them away; the root cannot be unlinked.";
 
-/// An area, what its header says, and its damage in stretches and bytes.
+/// An area, what its header says, and what a call says of it, if the list is good.
 pub struct Row {
     pub area: Area,
     pub header: Option<Header>,
-    pub damage: Option<(u32, u32)>,
+    report: Option<AreaReport>,
+    /// Whether it reads as nothing but FF.
+    is_blank: bool,
 }
 
-/// The areas of a list, each with its header and, if it is a file area, its damage; no damage is
-/// known where the list is not good.
+/// The areas of a list.
 pub fn rows(image: &[u8], areas: &[Area]) -> Vec<Row> {
-    let damage = |index: u32| {
-        let report = nffs::area_report(image, areas, index, 0).ok()?;
-        (report.kind == AreaKind::File).then_some((report.stretches, report.skipped))
+    let is_blank = |area: &Area| {
+        let bytes = image.get(area.offset as usize..).and_then(|i| i.get(..area.length as usize));
+        bytes.is_some_and(|bytes| bytes.iter().all(|byte| *byte == 0xff))
     };
     let row = |(area, index): (&Area, u32)| Row {
         area: *area,
         header: header(image, *area),
-        damage: damage(index),
+        report: nffs::area_report(image, areas, index, 0).ok(),
+        is_blank: is_blank(area),
     };
     areas.iter().zip(0..).map(row).collect()
 }
@@ -65,25 +71,36 @@ pub struct Mounted {
     pub unreached: u32,
 }
 
-pub struct Page {
+pub struct Page<'a> {
     pub image: String,
     pub size: usize,
     pub at: u64,
-    pub chosen: Chosen,
+    pub chosen: &'a Chosen,
     pub rows: Vec<Row>,
-    pub hints: Hints,
+    pub hints: Hints<'a>,
     pub mounted: Result<Mounted, Refusal>,
 }
 
-impl Page {
+impl Page<'_> {
     /// 0 nothing wrong, 1 it does not mount, 3 something is wrong in it.
     pub fn status(&self) -> u8 {
         match &self.mounted {
             Err(_) => 1,
-            Ok(_) if !self.chosen.left_out.is_empty() || self.hints.has_headers() => 3,
-            Ok(volume) if volume.wrong().is_empty() => 0,
+            Ok(volume) if volume.wrong().is_empty() && !self.may_lack_a_part() => 0,
             Ok(_) => 3,
         }
+    }
+
+    /// Whether a part of the volume may be missing from what mounts.
+    fn may_lack_a_part(&self) -> bool {
+        let left_out = !self.chosen.left_out.is_empty();
+        left_out || self.chosen.may_lack_a_part() || self.passed_over().is_some()
+    }
+
+    /// The records in areas of the list that are passed over and not blank, if there are such areas.
+    fn passed_over(&self) -> Option<u32> {
+        let rows = self.rows.iter().filter(|row| row.is_passed_over() && !row.is_blank);
+        rows.filter_map(|row| row.report).map(|report| report.records).reduce(|sum, n| sum + n)
     }
 
     pub fn text(&self) -> String {
@@ -102,12 +119,16 @@ impl Page {
         if let Ok(volume) = &self.mounted {
             page += &volume.text();
         }
+        if let Some(records) = self.passed_over() {
+            let records = count(records as usize, "record lies", "records lie");
+            let _ = writeln!(page, "Passed over: {records} {PASSED_OVER}");
+        }
         page + &self.hints.text()
     }
 
     fn areas_text(&self) -> String {
         let from = match (self.chosen.found, self.chosen.areas.is_empty()) {
-            (true, true) if self.hints.has_headers() => {
+            (true, true) if !self.chosen.reserved_headers.is_empty() => {
                 "areas: no valid header is seen; headers are passed over for their reserved byte \
                  (see the hint)\n"
                     .to_string()
@@ -132,7 +153,6 @@ impl Page {
             ("refusal", refusal_json(self.mounted.as_ref().err())),
             ("found", self.chosen.found.to_string()),
             ("areas", json::list(self.rows.iter().map(Row::json))),
-            ("left_out", json::list(self.chosen.left_out.iter().map(|a| json::object(&place(*a))))),
         ];
         fields.extend(self.hints.json());
         if let Ok(volume) = &self.mounted {
@@ -152,24 +172,38 @@ pub fn refusal_json(refusal: Option<&Refusal>) -> String {
     ])
 }
 
-fn place(area: Area) -> [(&'static str, String); 2] {
+pub fn place(area: Area) -> [(&'static str, String); 2] {
     [("offset", area.offset.to_string()), ("length", area.length.to_string())]
 }
 
 impl Row {
+    fn is_passed_over(&self) -> bool {
+        self.report.is_some_and(|report| report.kind == AreaKind::PassedOver)
+    }
+
+    /// Stretches and bytes, of a file area.
+    pub fn damage(&self) -> Option<(u32, u32)> {
+        let report = self.report.filter(|report| report.kind == AreaKind::File)?;
+        Some((report.stretches, report.skipped))
+    }
+
     fn text(&self) -> String {
-        let mut text = format!("{:>5}+{:<5} ", self.area.offset, self.area.length);
-        text += &match self.header {
+        let what = match self.header {
             Some(header) if header.is_scratch() => format!("scratch, count {}", header.count),
             Some(header) => format!("file area {}, count {}", header.id, header.count),
+            None if self.is_blank => "blank: passed over".to_string(),
             None => "no valid header of this length: passed over".to_string(),
         };
-        match self.damage {
-            None => {}
-            Some((0, _)) => text += ", clean",
-            Some((stretches, bytes)) => text += &format!(", damaged: {}", damage(stretches, bytes)),
-        }
-        text
+        let state = match (self.damage(), self.report) {
+            (Some((0, _)), _) => ", clean".to_string(),
+            (Some((stretches, bytes)), _) => format!(", damaged: {}", damage(stretches, bytes)),
+            (None, Some(report)) if self.is_passed_over() && !self.is_blank => {
+                let records = count(report.records as usize, "record", "records");
+                format!(", with {records} in it")
+            }
+            _ => String::new(),
+        };
+        format!("{:>5}+{:<5} {what}{state}", self.area.offset, self.area.length)
     }
 
     fn json(&self) -> String {
@@ -180,8 +214,10 @@ impl Row {
             ("kind", json::text(self.header.map_or("none", |h| h.kind()))),
             ("id", json::number(self.header.map(|h| h.id))),
             ("count", json::number(self.header.map(|h| h.count))),
-            ("stretches", json::number(self.damage.map(|d| d.0))),
-            ("skipped", json::number(self.damage.map(|d| d.1))),
+            ("records", json::number(self.report.map(|report| report.records))),
+            ("blank", self.is_blank.to_string()),
+            ("stretches", json::number(self.damage().map(|d| d.0))),
+            ("skipped", json::number(self.damage().map(|d| d.1))),
         ])
     }
 }

@@ -3,10 +3,10 @@ read a second time.
 
     check.py PROGRAM [COUNT]
 
-What is live, deleted or an orphan, where it stands, how much is damaged in which area and where, and which reserved bytes are hinted at; of the map
-every number and every character. Volumes hold several versions, missing and looping parents, equal records in two areas, damaged bits, areas shorter
-than scratch, scratch with something in it, and headers and inodes whose reserved byte is not 0. The map is given the areas in an order by chance. A
-volume is one check. Ends with the count.
+What is live, deleted or an orphan, where it stands, how much is damaged in which area and where, and which reserved bytes and records in no area are
+hinted at; of the map every number and every character. Volumes hold several versions, missing and looping parents, equal records in two areas, damaged
+bits, areas shorter than scratch, scratch with something in it, damaged headers, and headers and inodes whose reserved byte is not 0. The map is given
+the areas in an order by chance. A volume is one check. Ends with the count.
 """
 
 import binascii
@@ -21,6 +21,8 @@ from pathlib import Path
 NONE = 0xFFFFFFFF
 INODE, BLOCK = 0x925F8BC0, 0x53BA23B9
 MAGICS = [struct.pack("<I", INODE), struct.pack("<I", BLOCK)]
+AREA_MAGICS = struct.pack("<IIII", 0xB98A31E2, 0x7FB0428C, 0xACE08253, 0xB185FC8E)
+CELLS = 48
 DIRECTORIES = list(range(1, 6))
 FILES = [0x10000000 + i for i in range(5)]
 BLOCKS = [0x80000000 + i for i in range(8)]
@@ -41,7 +43,7 @@ def block(ident, sequence, owner, previous, data):
 
 
 def header(ident, count, length, reserved):
-    return struct.pack("<IIIII", 0xB98A31E2, 0x7FB0428C, 0xACE08253, 0xB185FC8E, length) + bytes([0, count, reserved, ident])
+    return AREA_MAGICS + struct.pack("<I", length) + bytes([0, count, reserved, ident])
 
 
 def other_than_0(chance, likely):
@@ -93,13 +95,20 @@ def volume(chance):
         if chance.random() < 0.1:
             # far from all others, in scratch too
             area[chance.choice([24, length // 2, length - 1, chance.randrange(24, length)])] ^= 1 << chance.randrange(8)
+        if chance.random() < 0.05:
+            # no header is seen there any more
+            area[chance.choice([*range(16), 20])] ^= 1 << chance.randrange(8)
         areas.append(bytes(area))
     return areas
 
 
+def is_seen(area):
+    return area[:16] == AREA_MAGICS and area[20] == 0
+
+
 def is_valid(area):
     """T-14: a header whose reserved byte is not 0 is none."""
-    return area[22] == 0
+    return is_seen(area) and area[22] == 0
 
 
 def is_file_area(area):
@@ -176,7 +185,8 @@ def starts(areas):
 
 def hinted(areas):
     """The headers, and in file areas that are not clean the inodes with a right check, whose reserved byte is not 0."""
-    headers = [(at, len(area), "scratch" if area[23] == 255 else "file", area[23], area[22]) for at, area in starts(areas) if not is_valid(area)]
+    reserved = [(at, area) for at, area in starts(areas) if is_seen(area) and not is_valid(area)]
+    headers = [(at, len(area), "scratch" if area[23] == 255 else "file", area[23], area[22]) for at, area in reserved]
     inodes = []
     for at, area in starts(areas):
         if is_file_area(area) and read(area)[1]:
@@ -186,6 +196,22 @@ def hinted(areas):
                     right = check(area[k:k + 18] + area[k + 20:end]) == int.from_bytes(area[k + 18:k + 20], "little")
                     inodes += [(at + k, int.from_bytes(area[k + 4:k + 8], "little"), area[k + 20:end].hex(), area[k + 16])] if right else []
     return headers, inodes
+
+
+def gaps(areas):
+    """What is in no area that is found, and no header is seen for: each run of it in which records stand."""
+    runs = []
+    for at, area in starts(areas):
+        if not is_seen(area):
+            if runs and runs[-1][0] + len(runs[-1][1]) == at:
+                runs[-1][1] += area
+            else:
+                runs.append([at, area])
+    return [(at, run) for at, run in runs if read(run)[0]]
+
+
+def told_gaps(page):
+    return [(gap["offset"], gap["length"], gap["records"]) for gap in page["gaps"]]
 
 
 def told_hints(page):
@@ -264,18 +290,18 @@ def bar(area):
     drawn[:24] = b"h" * 24
     for start, end in read(area)[1]:
         drawn[start:end] = b"d" * (end - start)
-    letters = dict(zip("dhrf", {"file": "XH=.", "scratch": "~H-.", "none": "~?-."}[kind(area)]))
-    cells = [set() for _ in range(64)]
+    letters = dict(zip("Ddhrf", {"file": "XxH=.", "scratch": "~~H-.", "none": "~~?-."}[kind(area)]))
+    cells = [set() for _ in range(CELLS)]
     for k, what in enumerate(drawn):
-        cells[64 * k // len(area)].add(chr(what))
-    return "".join(next(letters[what] for what in "dhrf" if what in cell) for cell in cells)
+        cells[CELLS * k // len(area)].add(chr(what))
+    return "".join(letters["D"] if cell == {"d"} else next(letters[what] for what in "dhrf" if what in cell) for cell in cells)
 
 
-def map_line(at, area):
-    """An area as a line of the map, in words."""
+def map_line(at, area, name=("passed", "over")):
+    """An area as a line of the map, in words; one without a header is called so."""
     row = mapped(at, area)
-    name = {"file": ["file"], "scratch": ["scratch"], "none": ["passed", "over"]}[row["kind"]]
-    rest = [str(row["skipped"]), "damaged"] if row["kind"] == "file" else [str(row["other"]), "other"]
+    name = {"file": ["file"], "scratch": ["scratch"], "none": name}[row["kind"]]
+    rest = [str(row["skipped"]), "damaged"] if row["skipped"] else ["clean"] if row["kind"] == "file" else [str(row["other"]), "other"]
     header = [str("-" if row[field] is None else row[field]) for field in ("id", "count")]
     return [f"{at}+{len(area)}", *name, *header, str(row["records"]), str(row["free"]), *rest, bar(area)]
 
@@ -298,9 +324,19 @@ def map_faults(run, placed):
     return [f"{name} of the map" for name, holds in checks.items() if not holds]
 
 
+def found_faults(run, areas):
+    """What the map says otherwise where the areas are found."""
+    found = [(at, area) for at, area in starts(areas) if is_valid(area)]
+    if not found:
+        return []
+    expected = [(at, map_line(at, area)) for at, area in found] + [(at, map_line(at, gap, ("not", "in", "list"))) for at, gap in gaps(areas)]
+    lines = run("map").splitlines()[1:-1]
+    return [] if [line.split() for line in lines] == [line for _, line in sorted(expected)] else ["the map of what is found"]
+
+
 def main(program, count):
     chance = random.Random(27)
-    passed = failed = told = orphans = ambiguous = unmounted = headers = records = turned = unread = 0
+    passed = failed = told = orphans = ambiguous = unmounted = headers = records = turned = unread = lost = 0
     with tempfile.TemporaryDirectory() as folder:
         image = Path(folder) / "image"
         for k in range(count):
@@ -323,22 +359,25 @@ def main(program, count):
                 orphans += bool(page["orphans"])
                 ambiguous += bool(page["ambiguous"])
             faults += [] if told_hints(page) == hinted(areas) else ["hints"]
+            faults += [] if told_gaps(page) == [(at, len(gap), len(read(gap)[0])) for at, gap in gaps(areas)] else ["gaps"]
+            faults += [] if page["status"] or not page["gaps"] else ["status"]
             faults += [] if rows_right(page, areas) else ["damage by area"]
             placed = list(starts(areas))
             chance.shuffle(placed)
-            faults += map_faults(run, placed)
+            faults += map_faults(run, placed) + found_faults(run, areas)
             turned += first_damage(placed) != first_damage(list(starts(areas)))
             unread += any(read(area)[1] and not is_file_area(area) for area in areas)
+            lost += bool(page["gaps"])
             headers += bool(page["reserved_headers"])
             records += bool(page["reserved_records"])
             if faults:
                 print(f"FAILED: volume {k}: {', '.join(faults)}\n{printed}")
             passed, failed = passed + (not faults), failed + bool(faults)
     print(f"of {count} volumes {told} told apart, {orphans} with orphans, {ambiguous} with ambiguous paths, {unmounted} that do not mount,")
-    print(f"{headers} with hints at headers, {records} at records, {turned} whose first damage is not that of the lowest offset, {unread} with some in an")
-    print("area that is not read")
+    print(f"{headers} with hints at headers, {records} at records, {lost} at records in no area, {turned} whose first damage is not that of the lowest")
+    print(f"offset, {unread} with some in an area that is not read")
     # none of these would be a check of nothing
-    failed += min(told, orphans, ambiguous, unmounted, headers, records, turned, unread) < count // 20
+    failed += min(told, orphans, ambiguous, unmounted, headers, records, turned, unread, lost) < count // 20
     print(f"{passed} passed, {failed} failed")
     sys.exit(failed > 0)
 

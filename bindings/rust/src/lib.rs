@@ -43,9 +43,9 @@ pub use volume::Volume;
 /// 65,536 bytes, each inside the image, none overlapping.
 ///
 /// An area without a valid header is passed over with all that lies in it, by every call but
-/// [`format`](crate::format()). Since version 0.4.0 a header whose reserved byte is not 0 is not
-/// valid, and an inode's record with such a byte is not read (`docs/LINKING.md`, "Volumes of other
-/// writers").
+/// [`format`](crate::format()) and [`area_report`], which tells of it. Since version 0.4.0 a header
+/// whose reserved byte is not 0 is not valid, and an inode's record with such a byte is not read
+/// (`docs/LINKING.md`, "Volumes of other writers").
 ///
 /// ```
 /// use nffs::{Area, Refusal};
@@ -103,9 +103,11 @@ pub enum Kind {
 /// The state of a volume.
 ///
 /// The first damage stretch is the first of the first damaged file area in the order of the list,
-/// which need not be the one with the lowest offset. Not seen is what lies in scratch or in an area
-/// that is passed over; nor is a page that came back with its previous contents, where its checks
-/// are right: it is no damage and has no stretch.
+/// which need not be the one with the lowest offset. Of the last stretch of an area the bytes that
+/// read FF up to the area's end are left out and count as free: a torn or worn record can reach
+/// farther than is told. Not seen is what lies in scratch or in an area that is passed over; nor is a
+/// page that came back with its previous contents, where its checks are right: it is no damage and
+/// has no stretch.
 #[derive(Clone, Copy, Debug, PartialEq, Eq)]
 #[non_exhaustive]
 pub struct Report {

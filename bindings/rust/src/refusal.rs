@@ -12,7 +12,7 @@ use core::num::NonZeroU32;
 ///
 /// let refused = nffs::report(&[], &[]).unwrap_err();
 /// assert_eq!(refused, Refusal::BAD_AREAS);
-/// assert_eq!(refused.to_string(), "1, image over 65,536 bytes, or areas not good");
+/// assert_eq!(refused.to_string(), "1, image over 65,536 bytes, or areas not good (report of an area: or no such entry)");
 /// ```
 #[derive(Clone, Copy, Debug, PartialEq, Eq, PartialOrd, Ord, Hash)]
 pub struct Refusal(NonZeroU32);
@@ -41,7 +41,7 @@ macro_rules! refusals {
 }
 
 refusals! {
-    BAD_AREAS 1 "image over 65,536 bytes, or areas not good";
+    BAD_AREAS 1 "image over 65,536 bytes, or areas not good (report of an area: or no such entry)";
     SAME_AREA_ID 2 "two file areas have one id";
     NO_FILE_OR_SCRATCH 3 "no file area, or not exactly one scratch area";
     SHORT_SCRATCH 4 "scratch shorter than a file area";

@@ -3,7 +3,9 @@
 use crate::{raw, Area, Refusal};
 use core::iter::FusedIterator;
 
-/// A damage stretch of an area.
+/// A damage stretch of an area: a run of bytes that no record holds. Of the last one the bytes that
+/// read FF up to the area's end are left out and count as free, so that a torn or worn record can
+/// reach farther.
 #[derive(Clone, Copy, Debug, PartialEq, Eq)]
 #[non_exhaustive]
 pub struct Stretch {
@@ -25,7 +27,8 @@ pub struct Stretches<'a> {
 
 /// All damage stretches of one area, entry `index` of the list, from its start on: as many as
 /// [`area_report`](crate::area_report) counts. They do not touch each other, and their lengths come
-/// to its `skipped`. Each is one call, which reads the area anew.
+/// to its `skipped`. Each is one call, which reads the area anew: n stretches take n + 1 readings, so
+/// bound how many are taken.
 ///
 /// Where the area is scratch, or passed over, they are no damage of the volume.
 ///

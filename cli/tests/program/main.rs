@@ -7,6 +7,7 @@ mod desk;
 mod files;
 mod folder;
 mod folders;
+mod lost;
 mod map;
 mod records;
 mod refusals;

@@ -5,11 +5,10 @@ use crate::folder::Folder;
 use crate::records::{header, image, inode, NONE};
 use crate::refusals::cases;
 
-const CELLS: usize = 64;
+const CELLS: usize = 48;
 const HEAD: &str = "area         kind          id  count  records   free   rest";
-const LEGEND: &str =
-    "H header, = records, X damage, . free; in areas that are not read: ? no valid \
-                      header, - records, ~ other bytes";
+const LEGEND: &str = "H header, = records, X damage, x in part, . free; \
+                      in scratch or passed over: - records, ~ other bytes; ? no valid header";
 
 /// What a command prints and says, with a status.
 fn run(folder: &Folder, words: &[&str], status: i32) -> (String, String) {
@@ -25,8 +24,11 @@ fn lines(folder: &Folder, words: &[&str], status: i32) -> Vec<String> {
     let lines: Vec<_> = map.lines().map(String::from).collect();
     let [head, areas @ .., legend] = &lines[..] else { panic!("{map}") };
     assert_eq!((&head[..], &legend[..]), (HEAD, LEGEND));
+    assert!(lines.iter().all(|line| line.len() <= 120), "{map}");
     for line in areas {
         assert!(line.len() == areas[0].len() && line.is_ascii(), "{map}");
+        // what is found by this word is damaged
+        assert_eq!(line.contains("damaged"), bar(line).contains(['X', 'x']), "{map}");
     }
     areas.to_vec()
 }
@@ -94,9 +96,9 @@ fn a_fresh_volume() {
     let folder = Folder::formatted("map_fresh");
     let expected = "\
 area         kind          id  count  records   free   rest
-    0+4096   scratch      255      0        0   4072      0 other    H...............................................................
- 4096+4096   file           0      0        1   4052      0 damaged  H...............................................................
-H header, = records, X damage, . free; in areas that are not read: ? no valid header, - records, ~ other bytes
+    0+4096   scratch      255      0        0   4072      0 other    H...............................................
+ 4096+4096   file           0      0        1   4052        clean    H...............................................
+H header, = records, X damage, x in part, . free; in scratch or passed over: - records, ~ other bytes; ? no valid header
 ";
     let (map, said) = run(&folder, &["map", "image"], 0);
     assert_eq!((&map[..], &said[..]), (expected, "nffs: areas 4096x2, found by their headers\n"));
@@ -110,57 +112,59 @@ fn a_full_area_and_the_shortest_and_longest() {
     let folder = Folder::new("map_full");
     folder.write("image", with_last(&records(4072)));
     let lines_of = lines(&folder, &[], 0);
-    let start = " 8192+4096   file           1      0       16      0      0 damaged  ";
-    assert_eq!(lines_of[2], start.to_string() + &drawn(&[('H', 1), ('=', 63)]));
+    let start = " 8192+4096   file           1      0       16      0        clean    ";
+    assert_eq!(lines_of[2], start.to_string() + &drawn(&[('H', 1), ('=', 47)]));
 
-    // two bytes a character, and 1,024
+    // two or three bytes a character, and 1,365 or 1,366
     std::fs::remove_file(folder.path("image")).unwrap();
     folder.good(&["format", "image", "--areas", "128x2"], b"");
     let lines_of = lines(&folder, &[], 0);
-    assert_eq!(bar(&lines_of[1]), drawn(&[('H', 12), ('=', 10), ('.', 42)]));
+    assert_eq!(bar(&lines_of[1]), drawn(&[('H', 9), ('=', 8), ('.', 31)]));
     folder.write("image", area(0, 65_536, &records(40_000)));
     let lines_of = lines(&folder, &[], 1);
     assert!(
-        lines_of[0].starts_with("    0+65536  file           0      0      157  25512      0 d")
+        lines_of[0].starts_with("    0+65536  file           0      0      157  25512        c")
     );
-    assert_eq!(bar(&lines_of[0]), drawn(&[('H', 1), ('=', 39), ('.', 24)]));
+    assert_eq!(bar(&lines_of[0]), drawn(&[('H', 1), ('=', 29), ('.', 18)]));
 }
 
 #[test]
 fn damage_at_the_first_and_at_the_last_byte() {
     let folder = Folder::new("map_edges");
     folder.write("image", with_last(&[0]));
-    assert_eq!(bar(&lines(&folder, &[], 0)[2]), drawn(&[('X', 1), ('.', 63)]));
+    assert_eq!(bar(&lines(&folder, &[], 0)[2]), drawn(&[('x', 1), ('.', 47)]));
     assert_eq!(as_reported(&folder, &[]), [(8192 + 24, 1)]);
 
     // the last alone behind records, and the last record
     folder.write("image", with_last(&[records(4071), vec![0]].concat()));
-    assert_eq!(bar(&lines(&folder, &[], 0)[2]), drawn(&[('H', 1), ('=', 62), ('X', 1)]));
+    assert_eq!(bar(&lines(&folder, &[], 0)[2]), drawn(&[('H', 1), ('=', 46), ('x', 1)]));
     assert_eq!(as_reported(&folder, &[]), [(8192 + 4095, 1)]);
     let mut bytes = with_last(&records(4072));
     *bytes.last_mut().unwrap() ^= 1;
     folder.write("image", &bytes);
     let listed = as_reported(&folder, &[]);
     assert_eq!(listed, [(8192 + 24 + 15 * 255, 247)]);
-    assert_eq!(bar(&lines(&folder, &[], 0)[2]), drawn(&[('H', 1), ('=', 59), ('X', 4)]));
+    let expected = drawn(&[('H', 1), ('=', 44), ('x', 1), ('X', 2)]);
+    assert_eq!(bar(&lines(&folder, &[], 0)[2]), expected);
 
     // blank bytes before it are no free space
     folder.write("image", with_last(&[&[0xff; 4071][..], &[0]].concat()));
-    assert_eq!(bar(&lines(&folder, &[], 0)[2]), drawn(&[('X', 64)]));
+    assert_eq!(bar(&lines(&folder, &[], 0)[2]), drawn(&[('x', 1), ('X', 47)]));
     assert_eq!(as_reported(&folder, &[]), [(8192 + 24, 4072)]);
 }
 
 #[test]
 fn one_byte_of_65536_is_seen() {
     let folder = Folder::new("map_byte");
-    for place in [44, 1023, 1024, 1025, 40_000, 65_515] {
+    for place in [44, 1365, 1366, 1367, 40_000, 65_515] {
         let before = records(place - 24);
         let contents = [&before[..], &[0], &records(65_536 - place - 1)].concat();
         folder.write("image", area(0, 65_536, &contents));
         let line = lines(&folder, &[], 1).remove(0);
         assert!(line.contains("      0      1 damaged  "), "{line}");
-        let mut expected = drawn(&[('H', 1), ('=', 63)]);
-        expected.replace_range(place / 1024..place / 1024 + 1, "X");
+        let mut expected = drawn(&[('H', 1), ('=', 47)]);
+        let cell = place * CELLS / 65_536;
+        expected.replace_range(cell..cell + 1, "x");
         assert_eq!(bar(&line), expected);
         assert_eq!(stretches(&folder, &[], 1), [(place as u32, 1)]);
     }
@@ -170,18 +174,18 @@ fn one_byte_of_65536_is_seen() {
 fn many_stretches() {
     let folder = Folder::new("map_many");
     let pair = [inode(1, 0, NONE, b""), vec![0]].concat();
-    let (many, most) = (pair.repeat(4072 / 21), pair.repeat(65_512 / 21));
+    let (many, most) = (pair.repeat(4072 / 21), [vec![0], pair.repeat(65_512 / 21)].concat());
     folder.write("image", with_last(&many));
     let listed = as_reported(&folder, &[]);
     assert_eq!(listed.len(), 193);
     assert!(listed.iter().zip(0..).all(|(s, k)| *s == (8192 + 24 + 20 + 21 * k, 1)));
-    assert_eq!(bar(&lines(&folder, &[], 0)[2]), drawn(&[('X', 64)]));
+    assert_eq!(bar(&lines(&folder, &[], 0)[2]), drawn(&[('x', 48)]));
 
     // no area has more
     folder.write("image", area(0, 65_536, &most));
-    assert_eq!(stretches(&folder, &[], 1).len(), 3119);
+    assert_eq!(stretches(&folder, &[], 1).len(), 3120);
     let line = lines(&folder, &[], 1).remove(0);
-    assert!(line.contains("  3119     13   3119 damaged  X"), "{line}");
+    assert!(line.contains("  3119     12   3120 damaged  x"), "{line}");
 }
 
 #[test]
@@ -193,7 +197,7 @@ fn what_lies_in_scratch_is_no_damage() {
     folder.write("image", &bytes);
     let lines_of = lines(&folder, &[], 0);
     let start = "    0+4096   scratch      255      0        1   3776    276 other    ";
-    let bar = drawn(&[('~', 5), ('.', 59)]);
+    let bar = drawn(&[('~', 4), ('.', 44)]);
     assert_eq!(lines_of[0], start.to_string() + &bar);
     assert!(as_reported(&folder, &[]).is_empty());
     assert!(folder.text(&["check", "image"]).contains("mounts, and nothing is wrong\n"));
@@ -203,13 +207,13 @@ fn what_lies_in_scratch_is_no_damage() {
     bytes[300..320].copy_from_slice(&inode(0, 0, NONE, b""));
     folder.write("image", &bytes);
     let line = lines(&folder, &[], 0).remove(0);
-    assert!(line.ends_with(&drawn(&[('~', 5), ('.', 59)])), "{line}");
+    assert!(line.ends_with(&drawn(&[('~', 4), ('.', 44)])), "{line}");
     bytes[24..44].copy_from_slice(&inode(0, 0, NONE, b""));
     bytes[44..144].copy_from_slice(&records(100));
     bytes[144..320].fill(0xff);
     folder.write("image", &bytes);
     let line = lines(&folder, &[], 0).remove(0);
-    assert!(line.ends_with(&drawn(&[('H', 1), ('-', 2), ('.', 61)])), "{line}");
+    assert!(line.ends_with(&drawn(&[('H', 1), ('-', 1), ('.', 46)])), "{line}");
 }
 
 #[test]
@@ -221,11 +225,14 @@ fn an_area_that_is_passed_over_is_shown_and_is_no_damage() {
         folder.write("image", &bytes);
         let listed = ["--areas", "4096x3"];
         let start = " 8192+4096   passed over    -      -        4   2572    500 other    ";
-        let bar = drawn(&[('?', 1), ('-', 15), ('~', 8), ('.', 40)]);
+        let bar = drawn(&[('?', 1), ('-', 11), ('~', 6), ('.', 30)]);
         assert_eq!(lines(&folder, &listed, 0)[2], start.to_string() + &bar);
         assert!(as_reported(&folder, &listed).is_empty());
-        // it is not found
-        assert_eq!(lines(&folder, &[], 0).len(), 2);
+        // it is not found; the records are seen, but where another hint tells it
+        let found = lines(&folder, &[], 0);
+        assert_eq!(found.len(), if at == 22 { 2 } else { 3 });
+        let gap = start.replace("passed over", "not in list") + &bar;
+        assert!(at == 22 || found[2] == gap, "{found:?}");
         bytes[8192 + at] ^= 1;
     }
     folder.write("image", &bytes);
@@ -244,8 +251,12 @@ fn volumes_that_do_not_mount() {
         let start = format!("nffs: map image: the volume is refused with {number}, ");
         assert!(said.starts_with(&start) && said.lines().count() == 1, "{said}");
         let lines_of = lines(&folder, &[], 1);
-        assert!(!lines_of.is_empty() && lines_of.iter().all(|line| !bar(line).contains('X')));
+        assert!(
+            !lines_of.is_empty() && lines_of.iter().all(|line| !bar(line).contains(['X', 'x']))
+        );
         assert!(stretches(&folder, &[], 1).is_empty());
+        let (_, said) = run(&folder, &["map", "image", "-q", "--stretches"], 1);
+        assert!(said.ends_with("; its stretches are shown\n"), "{said}");
 
         // damage is shown all the same; in one of the images the last area is scratch
         *image.last_mut().unwrap() ^= 1;
@@ -266,6 +277,10 @@ fn a_list_that_is_not_good() {
             assert!(said.contains("nffs: map image: refused with 1, image over"), "{said}");
             assert_eq!(map, "");
         }
+        let (page, said) = run(&folder, &["map", "image", "--json", "--areas", list], 1);
+        let told = "v['status'], v['refusal']['number'], v['found'], v['areas'], v['gaps']";
+        assert_eq!(python(&page, told), "1 1 False [] []");
+        assert!(said.contains("refused with 1, ") && said.ends_with("; no area is shown\n"));
     }
     // behind its end nothing is looked at
     let ended = lines(&folder, &["--areas", "4096:4096,0:4096,0:0,9:9"], 0);
@@ -296,6 +311,8 @@ fn places_count_from_where_the_volume_begins() {
     let folder = Folder::new("map_at");
     folder.write("image", [vec![0; 5000], with_last(&[0])].concat());
     assert_eq!(as_reported(&folder, &["--at", "5000"]), [(8192 + 24, 1)]);
+    let map = folder.text(&["map", "image", "--at", "5000"]);
+    assert!(map.starts_with(&format!("{HEAD}  from 5000 on\n    0+4096 ")), "{map}");
 }
 
 #[test]
@@ -318,6 +335,10 @@ fn for_machines() {
                     [12288, 4096, 'none', None, None, 0, 0, None, None, 4072, []]]";
     assert_eq!(json(&listed, 0, areas), expected);
     assert_eq!(json(&["--stretches"], 0, "v['found'], len(v['areas'])"), "True 3");
+    let parts = "v['left_out'], v['reserved_headers'], v['headers_inside'], v['gaps']";
+    assert_eq!(json(&listed, 0, parts), "[] [] [] []");
+    let two = ["--areas", "4096x2"];
+    assert_eq!(json(&two, 0, parts), "[{'offset': 8192, 'length': 4096}] [] [] []");
     let refusal = "v['status'], v['refusal']['number'], v['areas'][0]['damage']";
     let one = ["--areas", "8192:4096"];
     assert_eq!(json(&one, 1, refusal), "1 3 [{'offset': 8216, 'length': 2}]");

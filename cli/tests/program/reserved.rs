@@ -179,7 +179,8 @@ damage: 0 stretches, 0 bytes
     let found = page(&folder, &[], 3);
     assert!(found.starts_with(&(expected.to_string() + &hint)), "{found}");
     let listed = page(&folder, &["--areas", "4096x3"], 3);
-    assert!(listed.contains("\n   8192+4096  no valid header of this length: passed over\n"));
+    let row = "\n   8192+4096  no valid header of this length: passed over, with 1 record in it\n";
+    assert!(listed.contains(row) && listed.contains("\nPassed over: 1 record lies "), "{listed}");
     assert!(listed.contains(&hint) && hints(&listed) == 1, "{listed}");
     let told = "[(8192, 4096, 'file', 1, 1)] []";
     assert_eq!(fields(&folder, &[], 3), told);
