@@ -517,15 +517,18 @@ fn the_most_stretches() {
         assert!(flash.put(0, b"x") && flash.root(0));
         most += 1;
     }
-    assert_eq!(most, 3119);
+    // and one more behind the last record
+    assert!(flash.put(0, b"x"));
+    let stretches = most + 1;
+    assert_eq!(stretches, 3120);
     let mut pair = Pair::of(flash);
     assert_eq!(pair.report().number, 3);
-    let free = 65_536 - 24 - 21 * most;
-    let whole = AreaReport { kind: 2, id: 255, records: most, stretches: most, skipped: most, free, ..AreaReport::default() };
-    for stretch in (0..most).step_by(7).chain([254, 255, 256, 257, most - 2, most - 1]) {
+    let free = 65_536 - 24 - 21 * most - 1;
+    let whole = AreaReport { kind: 2, id: 255, records: most, stretches, skipped: stretches, free, ..AreaReport::default() };
+    for stretch in (0..stretches).step_by(7).chain([254, 255, 256, 257, most - 1, most]) {
         assert_eq!(pair.area_report(0, stretch), AreaReport { offset: 24 + 21 * stretch, length: 1, ..whole });
     }
-    for stretch in [most, most + 1, 0x1_0000, 0x8000_0000, u32::MAX] {
+    for stretch in [stretches, stretches + 1, 0x1_0000, 0x8000_0000, u32::MAX] {
         assert_eq!(pair.area_report(0, stretch), whole);
     }
 }
