@@ -35,26 +35,20 @@ refused-read : (g : Given) (h : Handle) (buffer : Bytes) → readAnswer g .numbe
 refused-read (given bytes headers) h buffer n = absurd (n refl)
 refused-read (refused r) h buffer n = record { answer = refl; same-buffer = refl; same-handle = refl }
 
--- the other answers: refused, they have zeros
+-- the other answers: refused, they have zeros, spelled out here a second time
+abbrev pub zeros : ℕ → Report
+zeros n = record { number = n; inodes = 0; live = 0; stretches = 0; skipped = 0; «first_offset» = 0; «first_length» = 0 }
+
+abbrev pub areaZeros : ℕ → AreaReport
+areaZeros n = record { number = n; kind = 0; id = 0; count = 0; records = 0; stretches = 0; skipped = 0; free = 0; offset = 0; length = 0 }
+
 refused-report : (b : Bool) (r : Report) (n : ℕ) → r .number ≡ 0 → cond b r (refusedReport n) .number ≢ 0
-    → cond b r (refusedReport n)
-    ≡ record { number = cond b r (refusedReport n) .number; inodes = 0; live = 0; stretches = 0; skipped = 0; «first_offset» = 0; «first_length» = 0 }
+    → cond b r (refusedReport n) ≡ zeros (cond b r (refusedReport n) .number)
 refused-report true r n e h = absurd (h e)
 refused-report false r n e h = refl
 
 refused-area : (b : Bool) (r : AreaReport) (n : ℕ) → r .number ≡ 0 → cond b r (refusedAreaReport n) .number ≢ 0
-    → cond b r (refusedAreaReport n) ≡ record {
-      number = cond b r (refusedAreaReport n) .number;
-      kind = 0;
-      id = 0;
-      count = 0;
-      records = 0;
-      stretches = 0;
-      skipped = 0;
-      free = 0;
-      offset = 0;
-      length = 0;
-    }
+    → cond b r (refusedAreaReport n) ≡ areaZeros (cond b r (refusedAreaReport n) .number)
 refused-area true r n e h = absurd (h e)
 refused-area false r n e h = refl
 
@@ -70,21 +64,9 @@ refused-open (absent r) h = refl
 pub record RefusedCalls (image : Bytes) (ds : List Descriptor) : Type 0 where
   pub format : formatNumber image ds ≢ 0 → imageFormatted image ds ≡ image
   pub report : reportOf image ds .number ≢ 0
-      → reportOf image ds
-      ≡ record { number = reportOf image ds .number; inodes = 0; live = 0; stretches = 0; skipped = 0; «first_offset» = 0; «first_length» = 0 }
+      → reportOf image ds ≡ zeros (reportOf image ds .number)
   pub area-report : (i k : ℕ) → areaReportOf image ds i k .number ≢ 0
-      → areaReportOf image ds i k ≡ record {
-        number = areaReportOf image ds i k .number;
-        kind = 0;
-        id = 0;
-        count = 0;
-        records = 0;
-        stretches = 0;
-        skipped = 0;
-        free = 0;
-        offset = 0;
-        length = 0;
-      }
+      → areaReportOf image ds i k ≡ areaZeros (areaReportOf image ds i k .number)
   pub lookup : (base path : Bytes) → lookupOf image ds base path .number ≢ 0
       → lookupOf image ds base path ≡ record { number = lookupOf image ds base path .number; id = 0; kind = 0 }
   pub opened : (base path : Bytes) → openOf image ds base path .number ≢ 0
