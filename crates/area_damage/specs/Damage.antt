@@ -5,6 +5,7 @@ use mathlib.Core.Logic.{_≢_}
 use mathlib.Core.Bool.{cond}
 use mathlib.Core.List.{List, [], _∷_, _++_, append-nil}
 use native.Mathlib.Omega.{arith}
+use native.Mathlib.Decide.{ℕ-discrete}
 use lib.ListN.{length, drop, length-append, length-map}
 use lib.Dec.{eqb, eqb·suc-suc, eqb·zero-suc}
 use borrow.Author.Tests.{eq-eqb, ne-eqb}
@@ -30,6 +31,15 @@ none-is (suc k) = refl
 
 -- ---- a stretch behind others
 
+-- n bytes at a place put behind, if any; stretch k is kept
+unfoldable pub withStretch : ℕ → Damage → ℕ → ℕ → Damage
+withStretch k d at n = cond (eqb n 0) d (record {
+  stretches = d .stretches + 1;
+  skipped = d .skipped + n;
+  offset = cond (eqb (d .stretches) k) at (d .offset);
+  length = cond (eqb (d .stretches) k) n (d .length);
+})
+
 -- there is room for it in the numbers
 pub record Fewer (d : Damage) (at size : ℕ) : Type 0 where
   pub few : d .stretches ≤ largestImage
@@ -44,8 +54,23 @@ kept (suc zero) [] x = refl
 kept (suc (suc k)) [] x = rw (eqb·zero-suc (suc k))
 kept (suc k) (d ∷ l) x = rw (eqb·suc-suc (length l) k) (kept k l x)
 
+module _ (k : ℕ) (d : Damage) (at size : ℕ) where
+  pub with-none : size ≡ 0 → d ≡ withStretch k d at size
+  unfolding withStretch
+  with-none z = rw (eq-eqb size 0 z)
+
+  pub with-kept : size ≢ 0 → d .stretches ≡ k
+      → record { stretches = d .stretches + 1; skipped = d .skipped + size; offset = at; length = size } ≡ withStretch k d at size
+  unfolding withStretch
+  with-kept z h = rw (ne-eqb size 0 z, eq-eqb (d .stretches) k h)
+
+  pub with-other : size ≢ 0 → d .stretches ≢ k
+      → record { stretches = d .stretches + 1; skipped = d .skipped + size; offset = d .offset; length = d .length } ≡ withStretch k d at size
+  unfolding withStretch
+  with-other z h = rw (ne-eqb size 0 z, ne-eqb (d .stretches) k h)
+
 module _ (k : ℕ) (d : Damage) (at size : ℕ) (l : List Stretch) (e : d ≡ damageOf k l) where
-  pub stretch-none : size ≡ 0 → d ≡ damageOf k (l ++ damagedBytes at size)
+  stretch-none : size ≡ 0 → d ≡ damageOf k (l ++ damagedBytes at size)
   unfolding damagedBytes
   stretch-none z = e ∙ rw (z, append-nil l)
 
@@ -64,17 +89,35 @@ module _ (k : ℕ) (d : Damage) (at size : ℕ) (l : List Stretch) (e : d ≡ da
     summed : totalSize (l ++ damagedBytes at size) ≡ totalSize l + size
     summed = total-append l (damagedBytes at size) ∙ ap (λ (n : ℕ). totalSize l + n) (total-damaged at size)
 
-    pub stretch-kept : d .stretches ≡ k
+    stretch-kept : d .stretches ≡ k
         → record { stretches = d .stretches + 1; skipped = d .skipped + size; offset = at; length = size } ≡ damageOf k (l ++ damagedBytes at size)
     unfolding damageOf
     stretch-kept h = rw (counted, summed, one-more, kept k l (record { place = at; size = size }), eq-eqb (length l) k (sym (ap (λ (x : Damage). x .stretches) e) ∙ h), e)
 
-    pub stretch-other : d .stretches ≢ k
+    stretch-other : d .stretches ≢ k
         → record { stretches = d .stretches + 1; skipped = d .skipped + size; offset = d .offset; length = d .length } ≡ damageOf k (l ++ damagedBytes at size)
     unfolding damageOf
     stretch-other h = rw (counted, summed, one-more, kept k l (record { place = at; size = size }), ne-eqb (length l) k (λ z. h (ap (λ (x : Damage). x .stretches) e ∙ z)), e)
 
+  -- of the damage l it makes that of l and the stretch
+  pub stretch-behind : (d′ : Damage) → d′ ≡ withStretch k d at size → d′ ≡ damageOf k (l ++ damagedBytes at size)
+  stretch-behind d′ r = r ∙ go (ℕ-discrete size 0) (ℕ-discrete (d .stretches) k)
+    where
+      go : Dec (size ≡ 0) → Dec (d .stretches ≡ k) → withStretch k d at size ≡ damageOf k (l ++ damagedBytes at size)
+      go (yes z) h = sym (with-none k d at size z) ∙ stretch-none z
+      go (no z) (yes h) = sym (with-kept k d at size z h) ∙ stretch-kept z h
+      go (no z) (no h) = sym (with-other k d at size z h) ∙ stretch-other z h
+
 -- ---- the damage of an area behind that of others
+
+-- that of an area at base put behind; the first stretch is kept, at its offset in the image
+unfoldable pub joinedWith : Damage → ℕ → Damage → Damage
+joinedWith d base e = cond (eqb (e .stretches) 0) d (record {
+  stretches = d .stretches + e .stretches;
+  skipped = d .skipped + e .skipped;
+  offset = cond (eqb (d .stretches) 0) (base + e .offset) (d .offset);
+  length = cond (eqb (d .stretches) 0) (e .length) (d .length);
+})
 
 -- the sums, and the offset in the image, fit in the numbers
 pub record Summable (d : Damage) (base : ℕ) (area : Damage) : Type 0 where
@@ -94,22 +137,45 @@ module _ (base : ℕ) (l m : List Stretch) where
   pub joined-sum : totalSize (l ++ inImage base m) ≡ totalSize l + totalSize m
   joined-sum = total-append l (inImage base m) ∙ ap (λ (n : ℕ). totalSize l + n) (total-image base m)
 
--- d is the damage l, and e that of an area at base, m from the area's start
 module _ (d : Damage) (base : ℕ) (e : Damage) where
-  pub joined-none : (l m : List Stretch) → d ≡ damageOf 0 l → e ≡ damageOf 0 m → e .stretches ≡ 0 → d ≡ damageOf 0 (l ++ inImage base m)
+  pub join-none : e .stretches ≡ 0 → d ≡ joinedWith d base e
+  unfolding joinedWith
+  join-none z = rw (eq-eqb (e .stretches) 0 z)
+
+  pub join-first : e .stretches ≢ 0 → d .stretches ≡ 0
+      → record { stretches = d .stretches + e .stretches; skipped = d .skipped + e .skipped; offset = base + e .offset; length = e .length } ≡ joinedWith d base e
+  unfolding joinedWith
+  join-first z h = rw (ne-eqb (e .stretches) 0 z, eq-eqb (d .stretches) 0 h)
+
+  pub join-later : e .stretches ≢ 0 → d .stretches ≢ 0
+      → record { stretches = d .stretches + e .stretches; skipped = d .skipped + e .skipped; offset = d .offset; length = d .length } ≡ joinedWith d base e
+  unfolding joinedWith
+  join-later z h = rw (ne-eqb (e .stretches) 0 z, ne-eqb (d .stretches) 0 h)
+
+  -- where d is the damage l, and e that of the area, m from its start
+  joined-none : (l m : List Stretch) → d ≡ damageOf 0 l → e ≡ damageOf 0 m → e .stretches ≡ 0 → d ≡ damageOf 0 (l ++ inImage base m)
   unfolding damageOf
   joined-none l [] a b z = a ∙ rw (append-nil l)
   joined-none l (x ∷ m) a b z = absurd (omega (arith, ap (λ (y : Damage). y .stretches) b))
 
-  pub joined-first : (l m : List Stretch) → d ≡ damageOf 0 l → e ≡ damageOf 0 m → e .stretches ≢ 0 → d .stretches ≡ 0
+  joined-first : (l m : List Stretch) → d ≡ damageOf 0 l → e ≡ damageOf 0 m → e .stretches ≢ 0 → d .stretches ≡ 0
       → record { stretches = d .stretches + e .stretches; skipped = d .skipped + e .skipped; offset = base + e .offset; length = e .length } ≡ damageOf 0 (l ++ inImage base m)
   unfolding damageOf firstStretch
   joined-first [] [] a b h z = absurd (h (ap (λ (y : Damage). y .stretches) b))
   joined-first [] (x ∷ m) a b h z = rw (joined-count base [] (x ∷ m), joined-sum base [] (x ∷ m), a, b)
   joined-first (x ∷ l) m a b h z = absurd (omega (arith, ap (λ (y : Damage). y .stretches) a))
 
-  pub joined-later : (l m : List Stretch) → d ≡ damageOf 0 l → e ≡ damageOf 0 m → d .stretches ≢ 0
+  joined-later : (l m : List Stretch) → d ≡ damageOf 0 l → e ≡ damageOf 0 m → d .stretches ≢ 0
       → record { stretches = d .stretches + e .stretches; skipped = d .skipped + e .skipped; offset = d .offset; length = d .length } ≡ damageOf 0 (l ++ inImage base m)
   unfolding damageOf firstStretch
   joined-later [] m a b z = absurd (z (ap (λ (y : Damage). y .stretches) a))
   joined-later (x ∷ l) m a b z = rw (joined-count base (x ∷ l) m, joined-sum base (x ∷ l) m, a, b)
+
+  -- they make that of l and then m
+  pub joined-behind : (d′ : Damage) → d′ ≡ joinedWith d base e → (l m : List Stretch) → d ≡ damageOf 0 l → e ≡ damageOf 0 m → d′ ≡ damageOf 0 (l ++ inImage base m)
+  joined-behind d′ r l m a b = r ∙ go (ℕ-discrete (e .stretches) 0) (ℕ-discrete (d .stretches) 0)
+    where
+      go : Dec (e .stretches ≡ 0) → Dec (d .stretches ≡ 0) → joinedWith d base e ≡ damageOf 0 (l ++ inImage base m)
+      go (yes z) h = sym (join-none z) ∙ joined-none l m a b z
+      go (no z) (yes h) = sym (join-first z h) ∙ joined-first l m a b z h
+      go (no z) (no h) = sym (join-later z h) ∙ joined-later l m a b h

@@ -1,10 +1,8 @@
 // Damage in four numbers, as a reading of areas finds it, stretch by stretch and area by area (T-08).
 ghost use mathlib.Core.Path.{_≡_};
-ghost use mathlib.Core.List.{List, [], _++_};
+ghost use mathlib.Core.List.{[]};
 ghost use Prim.Native.Nat.{ℕ};
-ghost use Rattle.format.specs.Reading.{Stretch, damagedBytes};
-ghost use Rattle.calls.specs.Report.{inImage};
-ghost use Rattle.area_damage.specs.Damage.{damageOf, Fewer, Summable};
+ghost use Rattle.area_damage.specs.Damage.{damageOf, withStretch, joinedWith, Fewer, Summable};
 
 // Damage: how many stretches, their bytes, and offset and length of one of the stretches, both 0 where there are not so many.
 pub struct Damage {
@@ -29,7 +27,7 @@ pub fn no_damage() -> Damage
 // Damage with the `size` bytes at `at` behind it, if any; the stretch kept is number `stretch`, from 0.
 pub fn with_stretch(damage: Damage, stretch: u32, at: usize, size: usize) -> Damage
     requires { ⌜ Fewer damage at size ⌝ }
-    ensures { λ r. ⌜ ((l : List Stretch) → damage ≡ damageOf stretch l → r ≡ damageOf stretch (l ++ damagedBytes at size)) ⌝ }
+    ensures { λ r. ⌜ r ≡ withStretch stretch damage at size ⌝ }
 {
     if size == 0 {
         return damage;
@@ -56,7 +54,7 @@ pub fn with_stretch(damage: Damage, stretch: u32, at: usize, size: usize) -> Dam
 // offset in the image.
 pub fn joined(damage: Damage, base: u32, area: Damage) -> Damage
     requires { ⌜ Summable damage base area ⌝ }
-    ensures { λ r. ⌜ ((l m : List Stretch) → damage ≡ damageOf 0 l → area ≡ damageOf 0 m → r ≡ damageOf 0 (l ++ inImage base m)) ⌝ }
+    ensures { λ r. ⌜ r ≡ joinedWith damage base area ⌝ }
 {
     if area.stretches == 0 {
         return damage;

@@ -75,7 +75,7 @@ fn refused(number: u32) -> AreaReport
     }
 }
 
-// The report of the area `index` of a list, with its damage stretch `stretch`, both from 0.
+// The report of the area `index` of a list, with its damage stretch `stretch`, both from 0. What `places` holds afterwards has no meaning.
 pub fn report_area(
     image: &[u8],
     areas: &[u32],

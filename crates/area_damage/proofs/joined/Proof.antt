@@ -1,21 +1,25 @@
 -- `area_damage::joined` meets its contract.
 use native.Mathlib.Omega.{arith}
-use Rattle.area_damage.specs.Damage.{joined-none, joined-first, joined-later}
+use Rattle.area_damage.specs.Damage.{join-none, join-first, join-later}
 use Rattle.area_damage.proofs.joined.Statement.{statement}
 use Rattle.area_damage.proofs.joined.Tie as tie
 
 returns : tie.Need-returns
-returns c l m e f = let a = c .before .before .args in joined-none (a .damage) (a .base) (a .area) l m e f (c .if1 .taken)
+returns c = let a = c .before .before .args in join-none (a .damage) (a .base) (a .area) (c .if1 .taken)
+
+-- the area has damage, and the arguments
+abbrev at-damage : tie.Else2 → tie.Else1
+at-damage e = e .before .before .before .before .before .before
 
 returns-2 : tie.Need-returns-2
-returns-2 c l m e f =
+returns-2 c =
     let t = c .before in
     let n = t .before .before .before .before .before .before in
     let a = n .before .before .args in
-    joined-first (a .damage) (a .base) (a .area) l m e f (n .if1 .left) (t .if2 .taken)
+    join-first (a .damage) (a .base) (a .area) (n .if1 .left) (t .if2 .taken)
 
 returns-3 : tie.Need-returns-3
-returns-3 c l m e f = let a = c .before .before .before .before .before .before .before .before .args in joined-later (a .damage) (a .base) (a .area) l m e f (c .if2 .left)
+returns-3 c = let a = at-damage c .before .before .args in join-later (a .damage) (a .base) (a .area) (at-damage c .if1 .left) (c .if2 .left)
 
 pub joined-spec : {M : Type 1} → statement M
 joined-spec =

@@ -1,23 +1,23 @@
 -- `area_damage::with_stretch` meets its contract.
 use native.Mathlib.Omega.{arith}
-use Rattle.area_damage.specs.Damage.{stretch-none, stretch-kept, stretch-other}
+use Rattle.area_damage.specs.Damage.{with-none, with-kept, with-other}
 use Rattle.area_damage.proofs.with_stretch.Statement.{statement}
 use Rattle.area_damage.proofs.with_stretch.Tie as tie
 
 returns : tie.Need-returns
-returns c l e = let a = c .before .args in stretch-none (a .stretch) (a .damage) (a .at) (a .size) l e (c .if1 .taken)
+returns c = let a = c .before .args in with-none (a .stretch) (a .damage) (a .at) (a .size) (c .if1 .taken)
 
 returns-2 : tie.Need-returns-2
-returns-2 c l e =
+returns-2 c =
     let n = c .before .before .before .before in
     let a = n .before .args in
-    stretch-kept (a .stretch) (a .damage) (a .at) (a .size) l e (n .if1 .left) (c .if2 .taken)
+    with-kept (a .stretch) (a .damage) (a .at) (a .size) (n .if1 .left) (c .if2 .taken)
 
 returns-3 : tie.Need-returns-3
-returns-3 c l e =
+returns-3 c =
     let n = c .before .before .before .before in
     let a = n .before .args in
-    stretch-other (a .stretch) (a .damage) (a .at) (a .size) l e (n .if1 .left) (c .if2 .left)
+    with-other (a .stretch) (a .damage) (a .at) (a .size) (n .if1 .left) (c .if2 .left)
 
 pub with-stretch-spec : {M : Type 1} → statement M
 with-stretch-spec =

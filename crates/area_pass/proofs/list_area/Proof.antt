@@ -9,6 +9,7 @@ use Rattle.format.specs.Reading.{erasedEnd}
 use Rattle.format_laws.specs.Bytes.{rest-part}
 use Rattle.calls.specs.Areas.{largestImage}
 use Rattle.area_read.specs.Laws.{Nexts, next-law}
+use Rattle.area_damage.specs.Damage.{stretch-behind}
 use Rattle.area_pass.specs.Reading.{Read, read-begins, read-on, read-ends, fewer, erased-fits}
 use Rattle.area_pass.specs.Laws.{has-room}
 use Rattle.area_pass.specs.Laws.{Going as Listing, going-begins as listing-begins, going-on as listing-on, going-ends as listing-ends}
@@ -102,7 +103,7 @@ returns c =
       listing-ends (s .args .area .now) (s .args .base) (s .args .places .now) (s .args .n) (l .loop .places) (l .loop .k) (l .loop .at) (s .pre) (l .loop .inv .listing)
           (n .next-record .result) (next n) (t .if1 .taken),
       read-ends (s .args .area .now) (s .args .stretch) (l .loop .at) (l .loop .damage) (l .loop .inv .reading)
-          (n .next-record .result) (n .next-record .ensures) (t .if1 .taken) (e .erased-end .result) (counted e) (fits e) (c .with-stretch .result) (c .with-stretch .ensures),
+          (n .next-record .result) (n .next-record .ensures) (t .if1 .taken) (e .erased-end .result) (counted e) (fits e) (c .with-stretch .result) (λ m q. stretch-behind _ _ _ _ m q _ (c .with-stretch .ensures)),
     )
 
 with-stretch-requires-2 : tie.Need-with-stretch-requires-2 Inv-loop μ-loop
@@ -123,7 +124,7 @@ loop-again c =
       listing = listing-on (s .args .area .now) (s .args .base) (s .args .places .now) (s .args .n) (l .loop .places) (l .loop .k) (l .loop .at) (s .pre) (l .loop .inv .listing)
           (n .next-record .result) (next n) (e .if1 .left);
       reading = read-on (s .args .area .now) (s .args .stretch) (l .loop .at) (l .loop .damage) (l .loop .inv .reading)
-          (n .next-record .result) (n .next-record .ensures) (e .if1 .left) (o .with-stretch2 .result) (o .with-stretch2 .ensures);
+          (n .next-record .result) (n .next-record .ensures) (e .if1 .left) (o .with-stretch2 .result) (λ m q. stretch-behind _ _ _ _ m q _ (o .with-stretch2 .ensures));
     }
 
 pub list-area-spec : {M : Type 1} → statement M

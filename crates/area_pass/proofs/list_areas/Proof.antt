@@ -7,6 +7,7 @@ use native.Mathlib.Nat.{add-sub-cancel-left}
 use borrow.Author.Needs.{needs}
 use lib.ListN.{length, take, drop, getD, length-set, length-take, length-drop}
 use Rattle.calls.specs.Areas.{mostAreas, largestImage}
+use Rattle.area_damage.specs.Damage.{joined-behind}
 use Rattle.area_pass.specs.Areas.{through-ends}
 use Rattle.area_pass.specs.Reading.{Reads}
 use Rattle.table_rows.specs.Parts.{part}
@@ -98,7 +99,7 @@ loop-again c =
     let l = n .before in
     going-on _ _ _ _ (l .loop .rows) (l .loop .places) (l .loop .k) (l .loop .damage) (l .loop .i) (start l .pre) (l .loop .inv) (n .loop-test .taken)
     (d .list-area .last .1 .1 .0) (d .list-area .result .count) (d .list-area .result .damage) (d .list-area .result .free) (j .joined .result)
-    (d .list-area .kept .1 .1 .0) (rw add-sub-cancel-left at (d .list-area .ensures .0)) (reads d) (j .joined .ensures)
+    (d .list-area .kept .1 .1 .0) (rw add-sub-cancel-left at (d .list-area .ensures .0)) (reads d) (joined-behind _ _ _ _ (j .joined .ensures))
 
 returns : tie.Need-returns Inv-loop μ-loop
 returns c =
