@@ -1,16 +1,22 @@
 // A table in one lent part of 32-bit numbers: the ids of its rows, then as many spots, the places of the records that count for them.
 // Rows are never given back, so those that are taken stand first; who reads a table is lent just those, as two shared parts.
 ghost use mathlib.Core.Path.{_≡_};
-ghost use lib.ListN.{length};
+ghost use Prim.Native.Nat.{_≤_};
+ghost use lib.ListN.{length, take};
 ghost use Rattle.record_places.specs.Place.{Lies};
+ghost use Rattle.table_words.specs.Position.{positionOf};
 ghost use Rattle.table_rows.specs.Table.{found, spotOf};
 ghost use Rattle.table_rows.specs.Rows.{GoodPart, UpdatesPart};
+ghost use Rattle.table_rows.specs.RowIndex.{RowIndex, IndexedPart};
 use record_places::id_at;
 use record_places::sequence_at;
+use table_index::SLOTS;
+use table_index::before;
+use table_index::newest;
+use table_index::put;
 use table_words::first_free;
 use table_words::occupy;
 use table_words::position;
-use table_words::taken;
 
 // What became of a record that was shown to a table.
 pub enum Updated {
@@ -28,15 +34,40 @@ pub enum Spot {
     Nowhere,
 }
 
-// Shows the record at `p` to the table, which has `most` rows.
-pub fn update(image: &[u8], words: &mut [u64], rows: &mut [u32], most: usize, p: u32) -> Updated
+// The row of `id` among the first `n`, or `n` where none of them has it: a walk of the rows that the index has in the slot of the id.
+fn row_of(index: &[u16], ids: &[u32], n: usize, id: u32) -> usize
+    requires { ⌜ n ≤ length (now ids) ⌝ }
+    requires { ⌜ RowIndex (now index) (now ids) n ⌝ }
+    ensures { λ r. ⌜ r ≡ positionOf id (take n (now (ids .entry))) ⌝ }
+{
+    let mut k = newest(index, id as usize % SLOTS);
+    while 0 < k {
+        if ids[k - 1] == id {
+            return k - 1;
+        }
+        k = before(index, k);
+    }
+    n
+}
+
+// Shows the record at `p` to the table, which has `most` rows. Those that are taken stand first, so the lowest free row is their number.
+pub fn update(
+    image: &[u8],
+    words: &mut [u64],
+    index: &mut [u16],
+    rows: &mut [u32],
+    most: usize,
+    p: u32,
+) -> Updated
     requires { ⌜ GoodPart (now image) most (now words) (now rows) ⌝ }
+    requires { ⌜ IndexedPart most (now words) (now index) (now rows) ⌝ }
     requires { ⌜ Lies (now image) p ⌝ }
-    ensures { λ r. ⌜ UpdatesPart (now (image .entry)) p most (now (words .entry)) (now (rows .entry)) r (now (words .exit)) (now (rows .exit)) ⌝ }
+    ensures shown { λ r. ⌜ UpdatesPart (now (image .entry)) p most (now (words .entry)) (now (rows .entry)) r (now (words .exit)) (now (rows .exit)) ⌝ }
+    ensures indexed { λ r. ⌜ IndexedPart most (now (words .exit)) (now (index .exit)) (now (rows .exit)) ⌝ }
 {
     let id = id_at(image, p);
-    let n = taken(&*words);
-    let k = position(&*rows, n, id);
+    let n = first_free(&*words);
+    let k = row_of(&*index, &*rows, n, id);
     if k < n {
         if sequence_at(image, rows[most + k]) < sequence_at(image, p) {
             rows[most + k] = p;
@@ -44,11 +75,11 @@ pub fn update(image: &[u8], words: &mut [u64], rows: &mut [u32], most: usize, p:
         }
         return Updated::Older;
     }
-    let free = first_free(&*words);
-    if free < most {
-        rows[free] = id;
-        rows[most + free] = p;
-        occupy(&mut *words, free);
+    if n < most {
+        rows[n] = id;
+        rows[most + n] = p;
+        occupy(&mut *words, n);
+        put(&mut *index, id as usize % SLOTS, n + 1);
         return Updated::Newer;
     }
     Updated::Full

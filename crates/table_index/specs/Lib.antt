@@ -1,0 +1,3 @@
+-- The definitions that the contracts cite, and the laws that callers cite. Assumes nothing.
+pub mod Index
+pub mod Laws

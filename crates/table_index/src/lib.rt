@@ -1,0 +1,36 @@
+// An index of numbered items by slot, in one lent part: of each slot the last item that was put there, and of each item the one before it in its
+// slot. Items are named by their numbers from 1, so that 0 is none, and who seeks an item walks those of its slot alone.
+ghost use mathlib.Core.Path.{_≡_};
+ghost use Prim.Native.Nat.{_+_, _≤_, _<_};
+ghost use lib.ListN.{length};
+ghost use Rattle.table_index.specs.Index.{slots, newestOf, beforeOf, withItem};
+
+// How many slots there are: a power of two, so that a remainder costs nothing.
+pub const SLOTS: usize = 512;
+
+// The last item of a slot, 0 if it has none.
+pub fn newest(index: &[u16], slot: usize) -> usize
+    requires { ⌜ (slot < slots) × (slots ≤ length (now index)) ⌝ }
+    ensures { λ r. ⌜ r ≡ newestOf (now (index .entry)) slot ⌝ }
+{
+    index[slot] as usize
+}
+
+// The item before an item in its slot, 0 if there is none.
+pub fn before(index: &[u16], item: usize) -> usize
+    requires { ⌜ (0 < item) × (slots + item ≤ length (now index)) ⌝ }
+    ensures { λ r. ⌜ r ≡ beforeOf (now (index .entry)) item ⌝ }
+{
+    index[SLOTS + item - 1] as usize
+}
+
+// Puts an item into a slot.
+pub fn put(index: &mut [u16], slot: usize, item: usize)
+    requires { ⌜ slot < slots ⌝ }
+    requires { ⌜ (0 < item) × (slots + item ≤ length (now index)) ⌝ }
+    requires { ⌜ item < 65536 ⌝ }
+    ensures { λ _. ⌜ now (index .exit) ≡ withItem (now (index .entry)) slot item ⌝ }
+{
+    index[SLOTS + item - 1] = index[slot];
+    index[slot] = item as u16;
+}
