@@ -1,11 +1,11 @@
 -- Checks 5 to 7 by the tables are those by the records, and the tables filled are those of a mounted volume.
-use Prim.Native.Nat.{ℕ, _+_, _-_, _/_, _≤_}
+use Prim.Native.Nat.{ℕ, _+_, _-_, _/_, _≤_, _<_}
 use mathlib.Core.Path.{_≡_, refl, sym, ap, ap₂, _∙_}
 use mathlib.Core.Bool.{Bool, true, false, cond, not}
 use mathlib.Core.Option.{Option, none, some}
 use mathlib.Core.List.{List, [], _∷_}
 use native.Mathlib.Omega.{arith}
-use lib.ListN.{length, take, drop, getD, replicate, length-take, length-drop}
+use lib.ListN.{length, take, drop, getD, replicate, length-take, length-drop, length-replicate}
 use lib.Seq.{getD-take, getD-drop, length-take-le}
 use Rattle.format.specs.Bytes.{Bytes}
 use Rattle.format.specs.Ids.{rootId}
@@ -16,19 +16,23 @@ use Rattle.volume_laws.specs.Map.{over, overVolume, volumeOf-map, allAgree-map,
 use Rattle.record_places.specs.Place.{bytesAt, byPlace, AllLie}
 use Rattle.record_places.specs.Laws.{place-views}
 use Rattle.table_words.specs.Occupancy.{capacity}
+use Rattle.table_index.specs.Index.{slots}
+use Rattle.table_index.specs.Laws.{zeros, no-items}
 use Rattle.table_words.specs.Laws.{total-within, fresh-total}
 use Rattle.table_rows.specs.Table.{taken, found, Rows, Good, spotOf}
 use Rattle.table_rows.specs.Laws.{fresh-good, ids-room, spots-room}
 use Rattle.table_rows.specs.declared.Spot.{Spot}
 use Rattle.table_rows.specs.Parts.{part, part-long, part-part, part-first, lent, lent-front}
+use Rattle.table_rows.specs.RowIndex.{IndexedPart, no-rows}
 use Rattle.table_rows.specs.Rows.{Usable, RowsOf, InodeTable, BlockTable, rows-exact, usable-exact, inode-table, block-table}
 use Rattle.table_fill.specs.Gather.{Tables, SameKind, AllGood, AllRows, overfull, Gathered}
 use Rattle.table_fill.specs.Gather.{Ready as GatherReady}
 use Rattle.table_fill.specs.Laws.{getD-in}
 use Rattle.table_fill.specs.Agreement.{sound-places}
-use Rattle.table_fill.specs.Parts.{tablesIn, Room, allRows, inodeRows, blockRows, inodePart, blockPart}
+use Rattle.table_fill.specs.Parts.{tablesIn, Room, allRows, inodeRows, blockRows, inodePart, blockPart, inodeIndexSize, idIndexSize, Indexed}
+use Rattle.table_fill.specs.Twins.{placeSlot, NoTwins}
 use Rattle.calls.specs.Refusal.{Check, _refused-by_, firstRefusal}
-use Rattle.calls.specs.Mount.{mostInodes, mostBlocks, recordsIn, tooManyIds, noRoot}
+use Rattle.calls.specs.Mount.{mostInodes, mostBlocks, mostRecords, recordsIn, tooManyIds, noRoot}
 use Rattle.calls.specs.declared.Descriptor.{Descriptor}
 use Rattle.calls_laws.specs.Records.{records-sound}
 use Rattle.area_pass.specs.Listing.{placesIn}
@@ -57,6 +61,7 @@ fresh rows = tablesIn (replicate inodeWords 0) (replicate blockWords 0) rows
 -- the first n places are of whole records, and there is room for the rows
 pub record Ready (image : Bytes) (places : List ℕ) (n : ℕ) (rows : List ℕ) : Type 0 where
   pub count : n ≤ length places
+  pub few : n ≤ mostRecords
   pub lie : AllLie image places n
   pub kinds : SameKind (byPlace image) (take n places)
   pub long : length rows ≡ allRows
@@ -168,6 +173,33 @@ module _ (image : Bytes) (places : List ℕ) (n : ℕ) (rows : List ℕ) (ready 
     };
     no-inode = fresh-total inodeWords;
     no-block = fresh-total blockWords;
+  }
+
+  -- the index of the rows, and that of the records, in arrays of zeros
+  fresh-part : (a most w : ℕ) (l : List ℕ) → a + (slots + most) ≤ idIndexSize → most < 65536
+      → IndexedPart most (replicate w 0) (part a (slots + most) (replicate idIndexSize 0)) l
+  fresh-part a most w l h small =
+      let long : length (part a (slots + most) (replicate idIndexSize 0)) ≡ slots + most =
+      part-long a (slots + most) (replicate idIndexSize 0) (omega (arith, length-replicate {A = ℕ} idIndexSize 0)) in
+      record {
+        long = long;
+        small = small;
+        rows = no-rows (part a (slots + most) (replicate idIndexSize 0)) l (taken (replicate w 0)) (fresh-total w) (omega (arith, long)) (λ s b.
+            getD-take (slots + most) (drop a (replicate idIndexSize 0)) s 0 (omega arith) ∙ getD-drop a (replicate idIndexSize 0) s 0 ∙ zeros idIndexSize (a + s));
+      }
+
+  pub fresh-indexed : Indexed (replicate inodeWords 0) (replicate blockWords 0) (replicate idIndexSize 0) rows
+  fresh-indexed = record {
+    long = length-replicate {A = ℕ} idIndexSize 0;
+    inodes = fresh-part 0 mostInodes inodeWords (inodePart rows) (omega arith) (omega arith);
+    blocks = fresh-part inodeIndexSize mostBlocks blockWords (blockPart rows) (omega arith) (omega arith);
+  }
+
+  pub fresh-twins : NoTwins image places (replicate (slots + mostRecords) 0) n
+  fresh-twins = record {
+    room = omega (arith, ready .few, length-replicate {A = ℕ} (slots + mostRecords) 0);
+    small = omega (arith, ready .few);
+    empty = no-items (placeSlot image places) (replicate (slots + mostRecords) 0) (λ s h. zeros (slots + mostRecords) s);
   }
 
 -- ---- the taken rows by themselves

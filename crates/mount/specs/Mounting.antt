@@ -79,7 +79,7 @@ module _ (image : Bytes) (ds : List Descriptor) (a : CheckedAreas) (t : List ℕ
 
     -- n places are listed, the tables u have the readings of the areas, and q is their damage
     module _ (n : ℕ) (ps u : List ℕ) (l : take n ps ≡ placesIn image (described (part 0 (a .files) t) (part spansAt (a .files) t)))
-        (few : n ≤ length ps) (u-same : length u ≡ length t) (read : Readings image (a .files) t u)
+        (few : n ≤ length ps) (ps-long : length ps ≡ mostRecords) (u-same : length u ≡ length t) (read : Readings image (a .files) t u)
         (q : Damage) (damage : q ≡ damageOf 0 (damageIn image (described (part 0 (a .files) t) (part spansAt (a .files) t)))) where
       listed : take n ps ≡ placesIn image (fileAreas image ds)
       listed = l ∙ ap (placesIn image) (split .files)
@@ -93,6 +93,7 @@ module _ (image : Bytes) (ds : List Descriptor) (a : CheckedAreas) (t : List ℕ
       pub ready : Ready image ps n (part inodeIdsAt allRows u)
       ready = record {
         count = few;
+        few = omega (arith, few, ps-long);
         lie = all-lie;
         kinds = rw listed (sound-places image (placesIn image (fileAreas image ds)) (rw (places-bytes image (fileAreas image ds)) (records-sound image (fileAreas image ds))));
         long = part-long inodeIdsAt allRows u (omega (arith, u-long));
@@ -180,10 +181,10 @@ module _ (image : Bytes) (ds : List Descriptor) (a : CheckedAreas) (t : List ℕ
           block-spots : part blockSpotsAt (f .blocks) full ≡ part (inodeRows + mostBlocks) (f .blocks) rows
           block-spots = inner (inodeRows + mostBlocks) (f .blocks) (omega (arith, rowed .blocks-few))
 
-          pub mount-passes : length ps ≡ mostRecords
-              → Mounts image ds (record { number = 0; files = a .files; records = n; inodes = f .inodes; blocks = f .blocks; damage = q; scratch = a .scratch })
+          pub mount-passes :
+              Mounts image ds (record { number = 0; files = a .files; records = n; inodes = f .inodes; blocks = f .blocks; damage = q; scratch = a .scratch })
               (putBack inodeIdsAt allRows u rows) ps
-          mount-passes ps-long = record {
+          mount-passes = record {
             number = sym y ∙ checked;
             refused = λ w. absurd (w refl);
             safe = λ w. record {

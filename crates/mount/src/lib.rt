@@ -14,6 +14,8 @@ use mount_state::INODE_IDS;
 use mount_state::Mounted;
 use mount_state::TABLES;
 use record_read::ROOT;
+use table_fill::ID_INDEX;
+use table_fill::TWIN_INDEX;
 use table_fill::gather;
 use table_rows::Spot;
 use table_rows::find;
@@ -39,13 +41,17 @@ fn fill_tables(image: &[u8], places: &[u16], n: usize, rows: &mut [u32]) -> Fill
 {
     let mut iwords = [0u64; INODE_WORDS];
     let mut bwords = [0u64; BLOCK_WORDS];
+    let mut index = [0u16; ID_INDEX];
+    let mut twins = [0u16; TWIN_INDEX];
     let number = gather(
         image,
         places,
         n,
         &mut iwords[..],
         &mut bwords[..],
+        &mut index[..],
         &mut *rows,
+        &mut twins[..],
     );
     if number != 0 {
         return Filled {

@@ -2,4 +2,5 @@
 pub mod Gather
 pub mod Agreement
 pub mod Laws
+pub mod Twins
 pub mod Parts

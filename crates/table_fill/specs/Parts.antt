@@ -11,9 +11,12 @@ use Rattle.table_words.specs.Occupancy.{capacity}
 use Rattle.table_rows.specs.declared.Updated.{Updated}
 use Rattle.calls.specs.Mount.{mostInodes, mostBlocks}
 use Rattle.table_rows.specs.Rows.{GoodPart, UpdatesPart}
-use Rattle.table_rows.specs.Parts.{part, putBack, part-long, part-same, part-before, part-after}
+use Rattle.table_index.specs.Index.{slots}
+use Rattle.table_rows.specs.Parts.{part, putBack, put-long, part-long, part-same, part-before, part-after}
+use Rattle.table_rows.specs.RowIndex.{IndexedPart}
 use Rattle.table_fill.specs.Gather.{Tables, table, tables, AllGood, Tabulates}
 use Rattle.table_fill.specs.Laws.{SameSizes, sizes-trans, Going, tabulates-block, tabulates-inode}
+use Rattle.table_fill.specs.Twins.{TwinIndex}
 
 -- the rows of inodes, of blocks, and of both: an id and a spot each
 abbrev pub inodeRows : ℕ
@@ -103,7 +106,57 @@ module _ {image : Bytes} {iw bw rows : List ℕ} (room : Room iw bw rows) (good 
         )
         (tabulates-inode image p (tablesIn iw bw rows) r (table iw′ (take mostInodes y) (drop mostInodes y)) e k)
 
--- the records at the first i places are in the tables
-pub record Turn (image : Bytes) (places : List ℕ) (n : ℕ) (iw₀ bw₀ rows₀ iw bw rows : List ℕ) (agreed : Bool) (i : ℕ) : Type 0 where
+-- ---- the index of inode ids and that of block ids, one behind the other
+
+abbrev pub inodeIndexSize : ℕ
+inodeIndexSize = slots + mostInodes
+
+abbrev pub blockIndexSize : ℕ
+blockIndexSize = slots + mostBlocks
+
+abbrev pub idIndexSize : ℕ
+idIndexSize = inodeIndexSize + blockIndexSize
+
+-- the taken rows of both tables are indexed
+pub record Indexed (iw bw index rows : List ℕ) : Type 0 where
+  pub long : length index ≡ idIndexSize
+  pub inodes : IndexedPart mostInodes iw (part 0 inodeIndexSize index) (inodePart rows)
+  pub blocks : IndexedPart mostBlocks bw (part inodeIndexSize blockIndexSize index) (blockPart rows)
+
+-- and still are with the index of one kind, and its rows, put back
+module _ {iw bw index rows : List ℕ} (room : Room iw bw rows) (x : Indexed iw bw index rows) (z y : List ℕ) where
+  pub indexed-block : (bw′ : List ℕ) → length z ≡ blockIndexSize → length y ≡ blockRows → IndexedPart mostBlocks bw′ z y
+      → Indexed iw bw′ (putBack inodeIndexSize blockIndexSize index z) (putBack inodeRows blockRows rows y)
+  indexed-block bw′ lz ly k = record {
+    long = put-long inodeIndexSize blockIndexSize index z (omega (arith, x .long)) lz ∙ x .long;
+    inodes = rw (
+      part-before inodeIndexSize blockIndexSize index z (omega (arith, x .long)) 0 inodeIndexSize (omega arith),
+      part-before inodeRows blockRows rows y (omega (arith, room .both)) 0 inodeRows (omega arith),
+    ) (x .inodes);
+    blocks = rw (
+      part-same inodeIndexSize blockIndexSize index z (omega (arith, x .long)) lz,
+      part-same inodeRows blockRows rows y (omega (arith, room .both)) ly,
+    ) k;
+  }
+
+  pub indexed-inode : (iw′ : List ℕ) → length z ≡ inodeIndexSize → length y ≡ inodeRows → IndexedPart mostInodes iw′ z y
+      → Indexed iw′ bw (putBack 0 inodeIndexSize index z) (putBack 0 inodeRows rows y)
+  indexed-inode iw′ lz ly k = record {
+    long = put-long 0 inodeIndexSize index z (omega (arith, x .long)) lz ∙ x .long;
+    inodes = rw (
+      part-same 0 inodeIndexSize index z (omega (arith, x .long)) lz,
+      part-same 0 inodeRows rows y (omega (arith, room .both)) ly,
+    ) k;
+    blocks = rw (
+      part-after 0 inodeIndexSize index z (omega (arith, x .long)) lz inodeIndexSize blockIndexSize (omega arith),
+      part-after 0 inodeRows rows y (omega (arith, room .both)) ly inodeRows blockRows (omega arith),
+    ) (x .blocks);
+  }
+
+-- the records at the first i places are in the tables, and indexed
+pub record Turn (image : Bytes) (places : List ℕ) (n : ℕ) (iw₀ bw₀ rows₀ twins₀ iw bw index rows twins : List ℕ) (agreed : Bool) (i : ℕ) : Type 0 where
   pub going : Going image places n (tablesIn iw₀ bw₀ rows₀) (tablesIn iw bw rows) agreed i
   pub lengths : SameLengths iw bw rows iw₀ bw₀ rows₀
+  pub indexed : Indexed iw bw index rows
+  pub twins-indexed : TwinIndex image places twins i
+  pub twins-long : length twins ≡ length twins₀

@@ -26,19 +26,22 @@ index-same index n e x = record {
   before = λ k h b. rw (e k h b) (last-same _ (k - 1) (beforeOf index k) (λ j y z. e j y (omega arith)) (x .before k h b));
 }
 
--- all zero: no item
-pub no-items : (f : ℕ → ℕ) (m : ℕ) → Indexes f (replicate m 0) 0
-no-items f m = record {
-  newest = λ s h. rw (zeros m s) (record { within = omega arith; own = λ y. absurd (omega arith); none = λ j y z. absurd (omega arith) });
+-- zeros: no item
+pub zeros : (m s : ℕ) → getD {A = ℕ} (replicate m 0) s 0 ≡ 0
+zeros zero s = refl
+zeros (suc m) zero = refl
+zeros (suc m) (suc s) = zeros m s
+
+pub no-items : (f : ℕ → ℕ) (index : List ℕ) → ((s : ℕ) → s < slots → newestOf index s ≡ 0) → Indexes f index 0
+no-items f index z = record {
+  newest = λ s h. rw (z s h) (record { within = omega arith; own = λ y. absurd (omega arith); none = λ j y b. absurd (omega arith) });
   before = λ k h b. absurd (omega arith);
 }
-  where
-    zeros : (m s : ℕ) → getD {A = ℕ} (replicate m 0) s 0 ≡ 0
-    zeros zero s = refl
-    zeros (suc m) zero = refl
-    zeros (suc m) (suc s) = zeros m s
 
 -- one item more
+pub item-long : (index : List ℕ) (s k : ℕ) → length (withItem index s k) ≡ length index
+item-long index s k = length-set (set index (slots + k - 1) (newestOf index s)) s k ∙ length-set index (slots + k - 1) (newestOf index s)
+
 pub more-items : (f : ℕ → ℕ) (index : List ℕ) (n : ℕ) → slots + n + 1 ≤ length index → f (n + 1) < slots
     → Indexes f index n → Indexes f (withItem index (f (n + 1)) (n + 1)) (n + 1)
 more-items f index n room h x = record {

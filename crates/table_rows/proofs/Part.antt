@@ -1,16 +1,17 @@
 -- The four ways that `update` ends, of the part in which a table stands.
-use Prim.Native.Nat.{ℕ, _+_, _-_, _≤_, _<_}
+use Prim.Native.Nat.{ℕ, _+_, _≤_, _<_}
 use mathlib.Core.Path.{_≡_, refl, sym, ap, _∙_}
 use mathlib.Core.List.{List}
 use native.Mathlib.Omega.{arith}
-use lib.ListN.{length, take, drop, getD, set, length-set, length-take, length-drop}
+use lib.ListN.{length, take, drop, getD, set, length-take, length-drop}
 use lib.Seq.{take-take, getD-drop, getD-set-same, getD-set-other, take-set-le, take-set-lt, drop-set-lt, drop-set-add}
 use Rattle.format.specs.Bytes.{Bytes}
 use Rattle.record_places.specs.Place.{byPlace, Lies}
 use Rattle.table_words.specs.Position.{positionOf}
 use Rattle.table_words.specs.Occupancy.{bits, capacity, firstZero}
 use Rattle.table_words.specs.Laws.{position-before, total-within, low-first, next-total}
-use Rattle.table_index.specs.Index.{slots, withItem}
+use Rattle.table_index.specs.Index.{withItem}
+use Rattle.table_index.specs.Laws.{item-long}
 use Rattle.table_rows.specs.Table.{taken, rowFor}
 use Rattle.table_rows.specs.declared.Updated.the-variants.{Newer, Older, Full}
 use Rattle.table_rows.specs.Rows.{GoodPart, UpdatesPart}
@@ -75,7 +76,7 @@ module _ {image : Bytes} {most : ℕ} {words part : List ℕ} (g : GoodPart imag
           let f : free ≡ taken words = first ∙ low-first (bits words) (g .good .low) in
           let t : taken words′ ≡ free + 1 = omega (arith, f, next-total words words′ free (g .good .low) first (omega (arith, g .room)) took) in
           record {
-            long = length-set (set index (slots + (free + 1) - 1) (getD index (slotOf i) 0)) (slotOf i) (free + 1) ∙ length-set index (slots + (free + 1) - 1) (getD index (slotOf i) 0) ∙ x .long;
+            long = item-long index (slotOf i) (free + 1) ∙ x .long;
             small = x .small;
             rows = rw t (rows-more index part (set (set part free i) (most + free) p) free i (rw f (x .rows)) (omega (arith, x .long))
                 (λ j l. getD-set-other (set part free i) (most + free) j p 0 (λ e. omega arith) ∙ getD-set-other part free j i 0 (λ e. omega arith))

@@ -5,12 +5,12 @@ use mathlib.Core.Logic.{_≢_}
 use mathlib.Core.List.{List}
 use native.Mathlib.Omega.{arith}
 use native.Mathlib.Decide.{ℕ-discrete}
-use lib.ListN.{length, take, getD, set, replicate, length-set, length-replicate}
+use lib.ListN.{length, take, getD}
 use lib.Seq.{length-take-le, getD-take}
 use Rattle.table_words.specs.Position.{positionOf}
 use Rattle.table_words.specs.Laws.{position-only, position-within, position-before}
-use Rattle.table_index.specs.Index.{slots, withItem, Indexes, Walk}
-use Rattle.table_index.specs.Laws.{index-same, no-items, more-items, walk-starts, walk-goes}
+use Rattle.table_index.specs.Index.{slots, newestOf, withItem, Indexes, Walk}
+use Rattle.table_index.specs.Laws.{index-same, no-items, item-long, more-items, walk-starts, walk-goes}
 use Rattle.table_rows.specs.Table.{taken}
 
 -- the slot of an id: ids are given out in order, so their last digits are spread
@@ -82,12 +82,7 @@ pub rows-more : (index ids ids′ : List ℕ) (n i : ℕ) → RowIndex index ids
     → ((j : ℕ) → j < n → getD ids′ j 0 ≡ getD ids j 0) → getD ids′ n 0 ≡ i → ((j : ℕ) → j < n → getD ids j 0 ≢ i)
     → RowIndex (withItem index (slotOf i) (n + 1)) ids′ (n + 1)
 rows-more index ids ids′ n i x room same here absent = record {
-  room = omega (
-    arith,
-    room,
-    length-set (set index (slots + (n + 1) - 1) (getD index (slotOf i) 0)) (slotOf i) (n + 1),
-    length-set index (slots + (n + 1) - 1) (getD index (slotOf i) 0),
-  );
+  room = omega (arith, room, item-long index (slotOf i) (n + 1));
   indexes = rw last at
       (more-items (rowSlot ids′) index n room (omega arith) (index-same index n (λ j h b. ap slotOf (same (j - 1) (omega arith))) (x .indexes)));
   apart = λ j k h b. go j k h b (ℕ-discrete k n);
@@ -101,9 +96,9 @@ rows-more index ids ids′ n i x room same here absent = record {
     go j k h b (no e) q = x .apart j k h (omega arith) (sym (same j (omega arith)) ∙ q ∙ same k (omega arith))
 
 -- an index of no row
-pub no-rows : (most : ℕ) (ids : List ℕ) (n : ℕ) → n ≡ 0 → RowIndex (replicate (slots + most) 0) ids n
-no-rows most ids n e = rw e (record {
-  room = omega (arith, length-replicate {A = ℕ} (slots + most) 0);
-  indexes = no-items (rowSlot ids) (slots + most);
+pub no-rows : (index ids : List ℕ) (n : ℕ) → n ≡ 0 → slots ≤ length index → ((s : ℕ) → s < slots → newestOf index s ≡ 0) → RowIndex index ids n
+no-rows index ids n e room z = rw e (record {
+  room = omega arith;
+  indexes = no-items (rowSlot ids) index z;
   apart = λ j k h b. absurd (omega arith);
 })

@@ -3,30 +3,36 @@ use mathlib.Core.Path.{_≡_, ap, _∙_}
 use native.Mathlib.Omega.{arith}
 use Rattle.table_rows.specs.Table.{spotOf}
 use Rattle.table_fill.specs.Parts.{Room}
-use Rattle.mount.specs.Filling.{fresh-ready, fresh-room, fill-refused, fill-rootless, fill-passes}
+use Rattle.mount.specs.Filling.{fresh-ready, fresh-room, fresh-indexed, fresh-twins, fill-refused, fill-rootless, fill-passes}
 use borrow.Author.Needs.{needs}
 use Rattle.mount.proofs.fill_tables.Statement.{statement}
 use Rattle.mount.proofs.fill_tables.Tie as tie
 
 -- the arguments, from where the records are gathered; and the way there
 abbrev start : tie.After-gather → tie.Start
-start g = g .before .before .before .before .before .before .before
+start g = g .before .before .before .before .before .before .before .before .before
 
-abbrev at-gather : tie.After-slice-known2 → tie.After-gather
-at-gather k = k .before .before .before .before
+abbrev at-gather : tie.After-twins2 → tie.After-gather
+at-gather k = k .before .before .before .before .before .before .before .before
 
-room : (g : tie.After-gather) → Room (g .gather .last .1 .1 .1 .0) (g .gather .last .1 .1 .1 .1 .0) (g .gather .last .1 .1 .1 .1 .1 .0)
+room : (g : tie.After-gather) → Room (g .gather .last .1 .1 .1 .0) (g .gather .last .1 .1 .1 .1 .0) (g .gather .last .1 .1 .1 .1 .1 .1 .0)
 room g = record {
   inodes = omega (arith, g .gather .kept .1 .1 .1 .0);
   blocks = omega (arith, g .gather .kept .1 .1 .1 .1 .0);
-  both = g .gather .kept .1 .1 .1 .1 .1 .0 ∙ start g .pre .long;
+  both = g .gather .kept .1 .1 .1 .1 .1 .1 .0 ∙ start g .pre .long;
 }
 
 gather-requires : tie.Need-gather-requires
 gather-requires c κs =
-    let s = c .before .before .before .before .before .before in (
+    let s = c .before .before .before .before .before .before .before .before in (
       fresh-ready (s .args .image .now) (s .args .places .now) (s .args .n) (s .args .rows .now) (s .pre),
-      fresh-room (s .args .image .now) (s .args .places .now) (s .args .n) (s .args .rows .now) (s .pre),
+      (
+        fresh-room (s .args .image .now) (s .args .places .now) (s .args .n) (s .args .rows .now) (s .pre),
+        (
+          fresh-indexed (s .args .image .now) (s .args .places .now) (s .args .n) (s .args .rows .now) (s .pre),
+          fresh-twins (s .args .image .now) (s .args .places .now) (s .args .n) (s .args .rows .now) (s .pre),
+        ),
+      ),
     )
 
 returns : tie.Need-returns
@@ -34,7 +40,7 @@ returns c =
     let g = at-gather (c .before) in
     let s = start g in
     fill-refused (s .args .image .now) (s .args .places .now) (s .args .n) (s .args .rows .now) (g .gather .result)
-    (g .gather .last .1 .1 .1 .0) (g .gather .last .1 .1 .1 .1 .0) (g .gather .last .1 .1 .1 .1 .1 .0) (g .gather .ensures) (room g) (c .if1 .taken)
+    (g .gather .last .1 .1 .1 .0) (g .gather .last .1 .1 .1 .1 .0) (g .gather .last .1 .1 .1 .1 .1 .1 .0) (g .gather .ensures) (room g) (c .if1 .taken)
 
 abbrev at-blocks : tie.After-find → tie.After-taken2
 at-blocks f = f .before .before .before .before
@@ -52,7 +58,7 @@ returns-2 c =
     let g = at-gather (e .before) in
     let s = start g in
     fill-rootless (s .args .image .now) (s .args .places .now) (s .args .n) (s .args .rows .now) (g .gather .result)
-    (g .gather .last .1 .1 .1 .0) (g .gather .last .1 .1 .1 .1 .0) (g .gather .last .1 .1 .1 .1 .1 .0) (g .gather .ensures) (room g) (e .if1 .left)
+    (g .gather .last .1 .1 .1 .0) (g .gather .last .1 .1 .1 .1 .0) (g .gather .last .1 .1 .1 .1 .1 .1 .0) (g .gather .ensures) (room g) (e .if1 .left)
     (at-inodes f .taken .result) (at-blocks f .taken2 .result) (at-inodes f .taken .ensures .0) (at-blocks f .taken2 .ensures .0)
     (f .find .result) (f .find .ensures) (ap spotOf (c .enum-told2 .given .1))
 
@@ -63,7 +69,7 @@ returns-3 c =
     let g = at-gather (e .before) in
     let s = start g in
     fill-passes (s .args .image .now) (s .args .places .now) (s .args .n) (s .args .rows .now) (g .gather .result)
-    (g .gather .last .1 .1 .1 .0) (g .gather .last .1 .1 .1 .1 .0) (g .gather .last .1 .1 .1 .1 .1 .0) (g .gather .ensures) (room g) (e .if1 .left)
+    (g .gather .last .1 .1 .1 .0) (g .gather .last .1 .1 .1 .1 .0) (g .gather .last .1 .1 .1 .1 .1 .1 .0) (g .gather .ensures) (room g) (e .if1 .left)
     (at-inodes f .taken .result) (at-blocks f .taken2 .result) (at-inodes f .taken .ensures .0) (at-blocks f .taken2 .ensures .0)
     (f .find .result) (f .find .ensures) (c .enum-told .given .0 .0) (ap spotOf (c .enum-told .given .1))
 
@@ -71,6 +77,8 @@ pub fill-tables-spec : {M : Type 1} → statement M
 fill-tables-spec =
     tie.close
     (tie.spec
+    (λ c. search needs)
+    (λ c. search needs)
     (λ c. search needs)
     (λ c. search needs)
     gather-requires

@@ -4,6 +4,7 @@ use mathlib.Core.Path.{_≡_, _∙_}
 use native.Mathlib.Omega.{arith}
 use lib.ListN.{length}
 use Rattle.table_rows.specs.Parts.{putBack, part-long, put-long}
+use Rattle.calls.specs.Mount.{mostRecords}
 use Rattle.table_fill.specs.Parts.{allRows}
 use Rattle.mount_state.specs.State.{tablesSize, inodeIdsAt}
 use Rattle.mount.specs.Mounting.{areas-refused, pass-lent, ready, records-refused, mount-passes}
@@ -41,6 +42,9 @@ same-tables f =
     put-long inodeIdsAt allRows u (f .fill-tables .last .1 .1 .1 .0) h (f .fill-tables .kept .1 .1 .1 .0 ∙ part-long inodeIdsAt allRows u h)
     ∙ l .list-areas .kept .1 .0 ∙ a .check-areas .kept .1 .1 .0
 
+places-long : (l : tie.After-list-areas) → length (l .list-areas .last .1 .1 .1 .0) ≡ mostRecords
+places-long l = l .list-areas .kept .1 .1 .1 .0 ∙ start (at-areas (at-pass l)) .pre .places-long
+
 returns : tie.Need-returns
 returns c =
     let t = c .before in
@@ -58,7 +62,7 @@ fill-tables-requires c κs =
     let l = c .before .before .before .before .before .before in
     let e = at-pass l in
     let a = at-areas e in
-    ready _ _ _ _ (long a) (a .check-areas .ensures) (e .if1 .left) _ _ (l .list-areas .last .1 .0) (l .list-areas .ensures .0) (l .list-areas .ensures .1 .0)
+    ready _ _ _ _ (long a) (a .check-areas .ensures) (e .if1 .left) _ _ (l .list-areas .last .1 .0) (l .list-areas .ensures .0) (l .list-areas .ensures .1 .0) (places-long l)
     (l .list-areas .kept .1 .0) (l .list-areas .ensures .1 .1 .0) _ (l .list-areas .ensures .1 .1 .1)
 
 returns-2 : tie.Need-returns-2
@@ -67,7 +71,7 @@ returns-2 c =
     let l = at-list f in
     let e = at-pass l in
     let a = at-areas e in
-    records-refused _ _ _ _ (long a) (a .check-areas .ensures) (e .if1 .left) _ _ (l .list-areas .last .1 .0) (l .list-areas .ensures .0) (l .list-areas .ensures .1 .0)
+    records-refused _ _ _ _ (long a) (a .check-areas .ensures) (e .if1 .left) _ _ (l .list-areas .last .1 .0) (l .list-areas .ensures .0) (l .list-areas .ensures .1 .0) (places-long l)
     (l .list-areas .kept .1 .0) (l .list-areas .ensures .1 .1 .0) _ (l .list-areas .ensures .1 .1 .1)
     (f .fill-tables .result) _ (f .fill-tables .ensures) _ (c .refused2 .result) (c .refused2 .ensures) (c .before .if2 .taken)
 
@@ -78,9 +82,9 @@ returns-3 c =
     let l = at-list f in
     let e = at-pass l in
     let a = at-areas e in
-    mount-passes _ _ _ _ (long a) (a .check-areas .ensures) (e .if1 .left) _ _ (l .list-areas .last .1 .0) (l .list-areas .ensures .0) (l .list-areas .ensures .1 .0)
+    mount-passes _ _ _ _ (long a) (a .check-areas .ensures) (e .if1 .left) _ _ (l .list-areas .last .1 .0) (l .list-areas .ensures .0) (l .list-areas .ensures .1 .0) (places-long l)
     (l .list-areas .kept .1 .0) (l .list-areas .ensures .1 .1 .0) _ (l .list-areas .ensures .1 .1 .1)
-    (f .fill-tables .result) _ (f .fill-tables .ensures) (f .fill-tables .kept .1 .1 .1 .0) (e2 .if2 .left) (l .list-areas .kept .1 .1 .1 .0 ∙ start a .pre .places-long)
+    (f .fill-tables .result) _ (f .fill-tables .ensures) (f .fill-tables .kept .1 .1 .1 .0) (e2 .if2 .left)
 
 pub mount-spec : {M : Type 1} → statement M
 mount-spec =
