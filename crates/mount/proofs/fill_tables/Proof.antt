@@ -13,7 +13,7 @@ abbrev start : tie.After-gather → tie.Start
 start g = g .before .before .before .before .before .before .before .before .before
 
 abbrev at-gather : tie.After-twins2 → tie.After-gather
-at-gather k = k .before .before .before .before .before .before .before .before
+at-gather k = k .before .before .before .before .before .before
 
 room : (g : tie.After-gather) → Room (g .gather .last .1 .1 .1 .0) (g .gather .last .1 .1 .1 .1 .0) (g .gather .last .1 .1 .1 .1 .1 .1 .0)
 room g = record {
