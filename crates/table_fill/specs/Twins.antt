@@ -1,5 +1,5 @@
 -- T-10: the index of all records by id and sequence. The records with those of another lie in its slot.
-use Prim.Native.Nat.{ℕ, zero, suc, _+_, _-_, _*_, _%_, _≤_, _<_}
+use Prim.Native.Nat.{ℕ, zero, suc, _+_, _-_, _*_, _≤_, _<_}
 use mathlib.Core.Path.{_≡_, refl, sym, ap, _∙_}
 use mathlib.Core.Logic.{_≢_}
 use mathlib.Core.Bool.{Bool, true, false, _&&_}
@@ -11,14 +11,14 @@ use Rattle.volume.specs.Lists.{all}
 use Rattle.volume.specs.View.{View}
 use Rattle.volume.specs.Counting.{agree}
 use Rattle.record_places.specs.Place.{byPlace}
-use Rattle.table_index.specs.Index.{slots, newestOf, beforeOf, withItem, Indexes, Walk}
-use Rattle.table_index.specs.Laws.{item-long, more-items, walk-starts, walk-goes}
+use Rattle.table_index.specs.Index.{slots, slotOf, newestOf, beforeOf, withItem, Indexes, Walk}
+use Rattle.table_index.specs.Laws.{slot-within, item-long, more-items, walk-starts, walk-goes}
 use Rattle.table_fill.specs.Gather.{twins}
 use Rattle.table_fill.specs.Agreement.{twins-are, others-agree}
 
--- the slot of a record: by id and sequence, so that the versions of one id are spread
+-- the slot of a record, by id and sequence
 abbrev pub slotOfTwins : View ℕ → ℕ → ℕ
-slotOfTwins F p = (F .id p % slots + F .sequence p % slots * 37) % slots
+slotOfTwins F p = slotOf (F .id p + F .sequence p * 40503)
 
 -- the slot of the record at the place k, from 1
 abbrev pub placeSlot : Bytes → List ℕ → ℕ → ℕ
@@ -52,7 +52,7 @@ module _ (image : Bytes) (places index : List ℕ) (n : ℕ) (x : TwinIndex imag
       go false e = e
 
   pub walk-twins : TwinWalk image places p n (newestOf index (slotOfTwins (byPlace image) p))
-  walk-twins = walk-starts (placeSlot image places) (NoTwin image places p) index (slotOfTwins (byPlace image) p) n (x .indexes) other-slot (omega arith)
+  walk-twins = walk-starts (placeSlot image places) (NoTwin image places p) index (slotOfTwins (byPlace image) p) n (x .indexes) other-slot (slot-within _)
 
   pub walk-on : (k : ℕ) → 0 < k → NoTwin image places p k → TwinWalk image places p n k → TwinWalk image places p n (beforeOf index k)
   walk-on = walk-goes (placeSlot image places) (NoTwin image places p) index (slotOfTwins (byPlace image) p) n (x .indexes) other-slot
@@ -74,7 +74,7 @@ pub more-twins : (image : Bytes) (places index : List ℕ) (i : ℕ) → slots +
     → TwinIndex image places (withItem index (slotOfTwins (byPlace image) (getD places i 0)) (i + 1)) (i + 1)
 more-twins image places index i room x = record {
   room = omega (arith, room, item-long index (slotOfTwins (byPlace image) (getD places i 0)) (i + 1));
-  indexes = rw last at (more-items (placeSlot image places) index i room (omega arith) (x .indexes));
+  indexes = rw last at (more-items (placeSlot image places) index i room (slot-within _) (x .indexes));
 }
   where
     last : placeSlot image places (i + 1) ≡ slotOfTwins (byPlace image) (getD places i 0)

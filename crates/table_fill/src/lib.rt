@@ -21,6 +21,7 @@ use table_index::SLOTS;
 use table_index::before;
 use table_index::newest;
 use table_index::put;
+use table_index::slot_of;
 use table_rows::Updated;
 use table_rows::update;
 
@@ -36,8 +37,8 @@ pub const ID_INDEX: usize = INODE_INDEX + SLOTS + MOST_BLOCKS;
 
 pub const TWIN_INDEX: usize = SLOTS + MOST_RECORDS;
 
-// Spreads the versions of one id over the slots: any odd number does.
-const SPREAD: usize = 37;
+// By which id and sequence are made one key.
+const SPREAD: usize = 40503;
 
 // Whether the records at `p` and `q` have one id and one sequence.
 fn are_twins(image: &[u8], p: u32, q: u32) -> bool
@@ -54,11 +55,11 @@ fn are_twins(image: &[u8], p: u32, q: u32) -> bool
 // The slot of the record at `p` in the index of all records: the same for all of its id and sequence.
 fn twin_slot(image: &[u8], p: u32) -> usize
     requires { ⌜ Lies (now image) p ⌝ }
-    ensures slot { λ r. ⌜ r ≡ slotOfTwins (byPlace (now (image .entry))) p ⌝ }
+    ensures { λ r. ⌜ r ≡ slotOfTwins (byPlace (now (image .entry))) p ⌝ }
 {
     let id = id_at(image, p) as usize;
     let sequence = sequence_at(image, p) as usize;
-    (id % SLOTS + sequence % SLOTS * SPREAD) % SLOTS
+    slot_of(id + sequence * SPREAD)
 }
 
 // Whether check 6 still passes with the record at `p` behind those at the first `n` places, of which `agreed` tells whether it passes.

@@ -1,5 +1,5 @@
 -- An index of numbered items by slot. Assumes nothing.
-use Prim.Native.Nat.{ℕ, _+_, _-_, _≤_, _<_}
+use Prim.Native.Nat.{ℕ, _+_, _-_, _*_, _/_, _%_, _≤_, _<_}
 use mathlib.Core.Path.{_≡_}
 use mathlib.Core.Logic.{_≢_}
 use mathlib.Core.List.{List}
@@ -8,6 +8,11 @@ use lib.ListN.{getD, set}
 -- how many slots there are
 abbrev pub slots : ℕ
 slots = 512
+
+-- the slot of a key: its low 32 bits times 2^32 by the golden ratio, of which the 9 highest bits. It spreads keys that follow one another, and such as
+-- are a power of two apart.
+unfoldable pub slotOf : ℕ → ℕ
+slotOf key = key % 4294967296 * 2654435769 % 4294967296 / 8388608
 
 -- an index in one list: of each slot the last item, then of each item, numbered from 1, the one before it in its slot; 0 is none
 abbrev pub newestOf : List ℕ → ℕ → ℕ

@@ -10,7 +10,12 @@ use lib.ListN.{length, getD, set, replicate, length-set}
 use lib.Seq.{getD-set-same, getD-set-other}
 use lib.Dec.{ltb}
 use borrow.Author.Tests.{ltb-true, ltb-false}
-use Rattle.table_index.specs.Index.{slots, newestOf, beforeOf, withItem, Last, Indexes, Walk}
+use Rattle.table_index.specs.Index.{slots, slotOf, newestOf, beforeOf, withItem, Last, Indexes, Walk}
+
+-- every slot is one of the index
+pub slot-within : (key : ℕ) → slotOf key < slots
+unfolding slotOf
+slot-within key = omega arith
 
 -- what tells the same slots of the items has the same index
 last-same : {f g : ℕ → ℕ} (s n k : ℕ) → ((j : ℕ) → 0 < j → j ≤ n → g j ≡ f j) → Last f s n k → Last g s n k

@@ -3,10 +3,22 @@
 ghost use mathlib.Core.Path.{_≡_};
 ghost use Prim.Native.Nat.{_+_, _≤_, _<_};
 ghost use lib.ListN.{length};
-ghost use Rattle.table_index.specs.Index.{slots, newestOf, beforeOf, withItem};
+ghost use Rattle.table_index.specs.Index.{slots, slotOf, newestOf, beforeOf, withItem};
 
-// How many slots there are: a power of two, so that a remainder costs nothing.
+// How many slots there are.
 pub const SLOTS: usize = 512;
+
+// The numbers of 32 bits, and that by the golden ratio.
+const WORD: usize = 4294967296;
+
+const GOLDEN: usize = 2654435769;
+
+// The slot of a key, of which 32 bits are looked at.
+pub fn slot_of(key: usize) -> usize
+    ensures { λ r. ⌜ r ≡ slotOf key ⌝ }
+{
+    key % WORD * GOLDEN % WORD / (WORD / SLOTS)
+}
 
 // The last item of a slot, 0 if it has none.
 pub fn newest(index: &[u16], slot: usize) -> usize

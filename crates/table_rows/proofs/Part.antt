@@ -10,12 +10,12 @@ use Rattle.record_places.specs.Place.{byPlace, Lies}
 use Rattle.table_words.specs.Position.{positionOf}
 use Rattle.table_words.specs.Occupancy.{bits, capacity, firstZero}
 use Rattle.table_words.specs.Laws.{position-before, total-within, low-first, next-total}
-use Rattle.table_index.specs.Index.{withItem}
+use Rattle.table_index.specs.Index.{slotOf, withItem}
 use Rattle.table_index.specs.Laws.{item-long}
 use Rattle.table_rows.specs.Table.{taken, rowFor}
 use Rattle.table_rows.specs.declared.Updated.the-variants.{Newer, Older, Full}
 use Rattle.table_rows.specs.Rows.{GoodPart, UpdatesPart}
-use Rattle.table_rows.specs.RowIndex.{slotOf, IndexedPart, rows-still, rows-more}
+use Rattle.table_rows.specs.RowIndex.{IndexedPart, rows-still, rows-more}
 use Rattle.table_rows.proofs.Outcomes.{ends-over, ends-under, ends-new, ends-full}
 
 module _ {image : Bytes} {most : ℕ} {words part : List ℕ} (g : GoodPart image most words part) where

@@ -1,5 +1,5 @@
 -- T-10: the index of a table's rows by their ids. Reading a table by it is reading it row by row.
-use Prim.Native.Nat.{ℕ, _+_, _-_, _%_, _≤_, _<_}
+use Prim.Native.Nat.{ℕ, _+_, _-_, _≤_, _<_}
 use mathlib.Core.Path.{_≡_, refl, sym, ap, _∙_}
 use mathlib.Core.Logic.{_≢_}
 use mathlib.Core.List.{List}
@@ -9,13 +9,9 @@ use lib.ListN.{length, take, getD}
 use lib.Seq.{length-take-le, getD-take}
 use Rattle.table_words.specs.Position.{positionOf}
 use Rattle.table_words.specs.Laws.{position-only, position-within, position-before}
-use Rattle.table_index.specs.Index.{slots, newestOf, withItem, Indexes, Walk}
-use Rattle.table_index.specs.Laws.{index-same, no-items, item-long, more-items, walk-starts, walk-goes}
+use Rattle.table_index.specs.Index.{slots, slotOf, newestOf, withItem, Indexes, Walk}
+use Rattle.table_index.specs.Laws.{slot-within, index-same, no-items, item-long, more-items, walk-starts, walk-goes}
 use Rattle.table_rows.specs.Table.{taken}
-
--- the slot of an id: ids are given out in order, so their last digits are spread
-abbrev pub slotOf : ℕ → ℕ
-slotOf i = i % slots
 
 -- the slot of the row k, from 1
 abbrev pub rowSlot : List ℕ → ℕ → ℕ
@@ -46,7 +42,7 @@ module _ (index ids : List ℕ) (n : ℕ) (x : RowIndex index ids n) (i : ℕ) w
   other-slot j h b d e = d (ap slotOf e)
 
   pub walk-rows : RowWalk ids i n (getD index (slotOf i) 0)
-  walk-rows = walk-starts (rowSlot ids) (Another ids i) index (slotOf i) n (x .indexes) other-slot (omega arith)
+  walk-rows = walk-starts (rowSlot ids) (Another ids i) index (slotOf i) n (x .indexes) other-slot (slot-within i)
 
   pub walk-on : (k : ℕ) → 0 < k → Another ids i k → RowWalk ids i n k → RowWalk ids i n (getD index (slots + k - 1) 0)
   walk-on = walk-goes (rowSlot ids) (Another ids i) index (slotOf i) n (x .indexes) other-slot
@@ -84,7 +80,7 @@ pub rows-more : (index ids ids′ : List ℕ) (n i : ℕ) → RowIndex index ids
 rows-more index ids ids′ n i x room same here absent = record {
   room = omega (arith, room, item-long index (slotOf i) (n + 1));
   indexes = rw last at
-      (more-items (rowSlot ids′) index n room (omega arith) (index-same index n (λ j h b. ap slotOf (same (j - 1) (omega arith))) (x .indexes)));
+      (more-items (rowSlot ids′) index n room (slot-within _) (index-same index n (λ j h b. ap slotOf (same (j - 1) (omega arith))) (x .indexes)));
   apart = λ j k h b. go j k h b (ℕ-discrete k n);
 }
   where

@@ -10,10 +10,10 @@ ghost use Rattle.table_rows.specs.Rows.{GoodPart, UpdatesPart};
 ghost use Rattle.table_rows.specs.RowIndex.{RowIndex, IndexedPart};
 use record_places::id_at;
 use record_places::sequence_at;
-use table_index::SLOTS;
 use table_index::before;
 use table_index::newest;
 use table_index::put;
+use table_index::slot_of;
 use table_words::first_free;
 use table_words::occupy;
 use table_words::position;
@@ -40,7 +40,7 @@ fn row_of(index: &[u16], ids: &[u32], n: usize, id: u32) -> usize
     requires { ⌜ RowIndex (now index) (now ids) n ⌝ }
     ensures { λ r. ⌜ r ≡ positionOf id (take n (now (ids .entry))) ⌝ }
 {
-    let mut k = newest(index, id as usize % SLOTS);
+    let mut k = newest(index, slot_of(id as usize));
     while 0 < k {
         if ids[k - 1] == id {
             return k - 1;
@@ -79,7 +79,7 @@ pub fn update(
         rows[n] = id;
         rows[most + n] = p;
         occupy(&mut *words, n);
-        put(&mut *index, id as usize % SLOTS, n + 1);
+        put(&mut *index, slot_of(id as usize), n + 1);
         return Updated::Newer;
     }
     Updated::Full

@@ -8,7 +8,7 @@ use borrow.Author.Needs.{needs}
 use lib.ListN.{length, take, getD}
 use Rattle.record_places.specs.Place.{byPlace, Lies}
 use Rattle.table_index.specs.Index.{slots, withItem}
-use Rattle.table_index.specs.Laws.{item-long}
+use Rattle.table_index.specs.Laws.{slot-within, item-long}
 use Rattle.table_fill.specs.Gather.{Tables, Gathered}
 use Rattle.table_fill.specs.Laws.{going-start, going-newer, going-older, going-full, going-end}
 use Rattle.table_fill.specs.Parts.{tablesIn, SameLengths, lengths-trans, same-sizes, same-room, Turn}
@@ -116,7 +116,7 @@ item-fits : (n : tie.In-loop Inv-loop μ-loop) (slot : ℕ)
     → (slot < slots) × (((0 < n .before .loop .i + 1) × (slots + (n .before .loop .i + 1) ≤ length (n .before .loop .twins))) × (n .before .loop .i + 1 < 65536))
 item-fits n slot e =
     let x = start (n .before) .pre .1 .1 .1 in (
-      rw e (omega arith),
+      rw e (slot-within _),
       ((omega arith, omega (arith, n .loop-test .taken, x .room, n .before .loop .inv .twins-long)), omega (arith, n .loop-test .taken, x .small)),
     )
 

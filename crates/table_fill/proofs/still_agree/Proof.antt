@@ -7,6 +7,7 @@ use borrow.Author.Needs.{needs}
 use lib.ListN.{take, getD}
 use Rattle.volume.specs.Counting.{allAgree}
 use Rattle.record_places.specs.Place.{byPlace, Lies}
+use Rattle.table_index.specs.Laws.{slot-within}
 use Rattle.table_fill.specs.Agreement.{places-equivalent, disagree-more, agree-more, twin-decides}
 use Rattle.table_fill.specs.Laws.{getD-in}
 use Rattle.table_fill.specs.Twins.{TwinWalk, walk-twins, walk-on, no-twin-agrees}
@@ -38,7 +39,7 @@ twin-slot-requires c κs = c .before .before .before .before .pre .1 .1 .1 .0
 newest-requires : tie.Need-newest-requires Inv-loop μ-loop
 newest-requires c κs =
     let s = c .before .before .before .before .before in
-    (rw (c .twin-slot .ensures) (omega arith), omega (arith, s .pre .1 .1 .0 .room))
+    (rw (c .twin-slot .ensures) (slot-within _), omega (arith, s .pre .1 .1 .0 .room))
 
 loop-holds : tie.Need-loop-holds Inv-loop μ-loop
 loop-holds c =

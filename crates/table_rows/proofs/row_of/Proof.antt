@@ -3,6 +3,7 @@ use Prim.Native.Nat.{_-_, _<_}
 use mathlib.Core.Path.{_≡_, _∙_}
 use native.Mathlib.Omega.{arith}
 use borrow.Author.Needs.{needs}
+use Rattle.table_index.specs.Laws.{slot-within}
 use Rattle.table_rows.specs.RowIndex.{RowWalk, walk-rows, walk-on, walk-finds, walk-ends}
 use Rattle.table_rows.proofs.row_of.Statement.{statement}
 use Rattle.table_rows.proofs.row_of.Tie as tie
@@ -15,15 +16,15 @@ abbrev μ-loop : tie.MeasureT-loop
 
 -- the arguments, from the head of the loop
 abbrev start : tie.At-loop Inv-loop μ-loop → tie.Start Inv-loop μ-loop
-start l = l .before .before .before .before
+start l = l .before .before .before .before .before
 
 newest-requires : tie.Need-newest-requires Inv-loop μ-loop
-newest-requires c κs = (omega arith, omega (arith, c .before .before .pre .1 .room))
+newest-requires c κs = (rw (c .slot-of .ensures) (slot-within _), omega (arith, c .before .before .before .pre .1 .room))
 
 loop-holds : tie.Need-loop-holds Inv-loop μ-loop
 loop-holds c =
-    let s = c .before .before .before in
-    rw (c .newest .ensures) (walk-rows (s .args .index .now) (s .args .ids .now) (s .args .n) (s .pre .1) (s .args .id))
+    let s = c .before .before .before .before in
+    rw (c .newest .ensures, c .before .slot-of .ensures) (walk-rows (s .args .index .now) (s .args .ids .now) (s .args .n) (s .pre .1) (s .args .id))
 
 shared-slice-read-if1 : tie.Need-shared-slice-read-if1 Inv-loop μ-loop
 shared-slice-read-if1 c =
@@ -74,6 +75,7 @@ row-of-spec =
     (tie.spec
     Inv-loop
     μ-loop
+    (λ c κs. search needs)
     newest-requires
     loop-holds
     (λ c. search needs)

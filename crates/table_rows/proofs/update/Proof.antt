@@ -6,6 +6,7 @@ use lib.ListN.{take, length-set}
 use Rattle.record_places.specs.Place.{byPlace}
 use Rattle.table_words.specs.Position.{positionOf}
 use Rattle.table_words.specs.Laws.{low-first}
+use Rattle.table_index.specs.Laws.{slot-within}
 use Rattle.table_rows.specs.Table.{taken}
 use Rattle.table_rows.proofs.Part.{part-long, taken-few, taken-in, spot-lies, over, under, new, full, indexed-over, indexed-new}
 use borrow.Author.Needs.{needs}
@@ -92,21 +93,21 @@ occupy-requires c κs =
 
 put-requires : tie.Need-put-requires
 put-requires c κs =
-    let n = c .before .before .before .before .before in
+    let n = c .before .before .before .before .before .before in
     let x = start (free (n .before .before)) .pre .1 .0 in
-    (omega arith, ((omega arith, omega (arith, n .if3 .taken, x .long)), omega (arith, n .if3 .taken, x .small)))
+    (rw (c .slot-of .ensures) (slot-within _), ((omega arith, omega (arith, n .if3 .taken, x .long)), omega (arith, n .if3 .taken, x .small)))
 
 returns-3 : tie.Need-returns-3
 returns-3 c =
     let u = c .before .before in
-    let o = u .before .before .before .before in
+    let o = u .before .before .before .before .before in
     let n = o .before .before in
     let r = n .before .before in
     let f = free r in
     let s = start f in (
       new (s .pre .0) (s .args .p) (r .row-of .result) (row r) (absent (n .before)) (with-id f .id-at .result) (f .first-free .result)
           (o .occupy .last .0) (with-id f .id-at .ensures) (f .first-free .ensures .0) (n .if3 .taken) (o .occupy .ensures),
-      rw (u .put .ensures)
+      rw (u .put .ensures, u .before .slot-of .ensures)
           (indexed-new (s .pre .0) (s .args .p) (r .row-of .result) (row r) (s .pre .1 .0) (absent (n .before)) (with-id f .id-at .result) (f .first-free .result)
           (o .occupy .last .0) (with-id f .id-at .ensures) (f .first-free .ensures .0) (n .if3 .taken) (o .occupy .ensures)),
     )
@@ -150,6 +151,7 @@ update-spec =
     slice-write-rows-3
     occupy-requires
     (λ c. search needs)
+    (λ c κs. search needs)
     (λ c. search needs)
     put-requires
     (λ c. search needs)
