@@ -2,3 +2,4 @@
 pub mod Area
 pub mod Kinds
 pub mod Laws
+pub mod Magic

@@ -28,11 +28,13 @@ returns c =
 
 loop-again : tie.Need-loop-again Inv-loop μ-loop
 loop-again c =
-    let r = c .before in
+    let r = c .before .before in
     let l = r .before .before .before in
     let area = l .before .before .args .area .now in
     let s = rw (rest-part area (l .loop .at)) at (r .record-size .ensures) in
-    sym (next-passes area (l .loop .at) (r .before .before .loop-test .taken) (sym s ∙ c .if1 .left)) ∙ l .loop .inv
+    c .next-magic .ensures .1
+    ∙ sym (next-passes area (l .loop .at) (r .before .before .loop-test .taken) (sym s ∙ c .before .if1 .left))
+    ∙ l .loop .inv
 
 returns-2 : tie.Need-returns-2 Inv-loop μ-loop
 returns-2 c =
@@ -52,6 +54,7 @@ next-record-spec =
     (λ c κs. search needs)
     returns
     (λ c. search needs)
+    (λ c κs. search needs)
     (λ c. search needs)
     loop-again
     returns-2)

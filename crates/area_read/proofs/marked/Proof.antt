@@ -1,0 +1,15 @@
+-- `area_read::marked` meets its contract.
+use native.Mathlib.Omega.{arith}
+use borrow.Author.Needs.{needs}
+use Rattle.area_read.specs.Magic.{bit-told}
+use Rattle.area_read.proofs.marked.Statement.{statement}
+use Rattle.area_read.proofs.marked.Tie as tie
+
+shared-slice-read-result : tie.Need-shared-slice-read-result
+shared-slice-read-result c = let s = c .before in omega (arith, s .pre .size, s .fits .b .fits)
+
+returns : tie.Need-returns
+returns c = let s = c .before in bit-told (s .args .marks .now) (s .pre) (s .args .b) (s .fits .b .fits)
+
+pub marked-spec : {M : Type 1} → statement M
+marked-spec = tie.close (tie.spec (λ c. search needs) shared-slice-read-result (λ c. search needs) returns)

@@ -1,0 +1,12 @@
+-- `area_read::next_magic` meets its contract: the marks pass the test of all bytes.
+use borrow.Author.Needs.{needs}
+use Rattle.area_read.specs.Magic.{startOf, inMagic, allBelow, bitRight, marks-of}
+use Rattle.area_read.proofs.next_magic.Statement.{statement}
+use Rattle.area_read.proofs.next_magic.Tie as tie
+
+next-marked-requires : tie.Need-next-marked-requires
+unfolding allBelow bitRight inMagic startOf
+next-marked-requires c κs = search marks-of
+
+pub next-magic-spec : {M : Type 1} → statement M
+next-magic-spec = tie.close (tie.spec (λ c. search needs) next-marked-requires (λ c. search needs))
