@@ -2,4 +2,3 @@
 pub mod Area
 pub mod Kinds
 pub mod Laws
-pub mod Magic

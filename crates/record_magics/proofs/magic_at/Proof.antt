@@ -1,13 +1,13 @@
--- `area_read::magic_at` meets its contract.
+-- `record_magics::magic_at` meets its contract.
 use mathlib.Core.Path.{refl, _∙_}
 use borrow.Author.Needs.{needs}
 use borrow.Author.Tests.{eq-eqb, ne-eqb}
 use Rattle.format.specs.Bytes.{le32}
 use Rattle.format.specs.Record.{inode}
 use Rattle.format_laws.specs.Tests.{via}
-use Rattle.area_read.specs.Magic.{magicAt}
-use Rattle.area_read.proofs.magic_at.Statement.{statement}
-use Rattle.area_read.proofs.magic_at.Tie as tie
+use Rattle.record_magics.specs.Magic.{magicAt}
+use Rattle.record_magics.proofs.magic_at.Statement.{statement}
+use Rattle.record_magics.proofs.magic_at.Tie as tie
 
 returns : tie.Need-returns
 unfolding magicAt

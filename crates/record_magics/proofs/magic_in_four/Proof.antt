@@ -1,13 +1,13 @@
--- `area_read::magic_in_four` meets its contract.
+-- `record_magics::magic_in_four` meets its contract.
 use Prim.Native.Nat.{_<_}
 use native.Mathlib.Omega.{arith}
 use borrow.Author.Needs.{needs}
 use borrow.Author.Tests.{ltb-true}
 use Rattle.format_laws.specs.Crc.{Octets}
 use Rattle.format_laws.specs.Tests.{via}
-use Rattle.area_read.specs.Magic.{inMagic, before-start, none-in-four, four-passed}
-use Rattle.area_read.proofs.magic_in_four.Statement.{statement}
-use Rattle.area_read.proofs.magic_in_four.Tie as tie
+use Rattle.record_magics.specs.Magic.{inMagic, before-start, none-in-four, four-passed}
+use Rattle.record_magics.proofs.magic_in_four.Statement.{statement}
+use Rattle.record_magics.proofs.magic_in_four.Tie as tie
 
 -- the bytes of the area
 octets : (k : tie.After-shared-slice-known3) → Octets (k .before .before .before .args .area .now)

@@ -1,10 +1,10 @@
--- `area_read::start_of` meets its contract.
+-- `record_magics::start_of` meets its contract.
 use mathlib.Core.Path.{refl}
 use mathlib.Core.Logic.{⊎-elim, inl, inr}
 use borrow.Author.Tests.{ne-eqb}
-use Rattle.area_read.specs.Magic.{startOf}
-use Rattle.area_read.proofs.start_of.Statement.{statement}
-use Rattle.area_read.proofs.start_of.Tie as tie
+use Rattle.record_magics.specs.Magic.{startOf}
+use Rattle.record_magics.proofs.start_of.Statement.{statement}
+use Rattle.record_magics.proofs.start_of.Tie as tie
 
 returns : tie.Need-returns
 unfolding startOf

@@ -1,8 +1,8 @@
--- `area_read::next_magic` meets its contract: the marks pass the test of all bytes.
+-- `record_magics::next_magic` meets its contract: the marks pass the test of all bytes.
 use borrow.Author.Needs.{needs}
-use Rattle.area_read.specs.Magic.{startOf, inMagic, allBelow, bitRight, marks-of}
-use Rattle.area_read.proofs.next_magic.Statement.{statement}
-use Rattle.area_read.proofs.next_magic.Tie as tie
+use Rattle.record_magics.specs.Magic.{startOf, inMagic, allBelow, bitRight, marks-of}
+use Rattle.record_magics.proofs.next_magic.Statement.{statement}
+use Rattle.record_magics.proofs.next_magic.Tie as tie
 
 next-marked-requires : tie.Need-next-marked-requires
 unfolding allBelow bitRight inMagic startOf

@@ -1,12 +1,12 @@
--- `area_read::erased_fourths` meets its contract.
+-- `record_magics::erased_fourths` meets its contract.
 use Prim.Native.Nat.{_+_}
 use borrow.Author.Needs.{needs}
 use borrow.Author.Tests.{eq-eqb, ne-eqb}
 use Rattle.format.specs.Bytes.{byteAt}
 use Rattle.format.specs.Reading.{ERASED}
-use Rattle.area_read.specs.Magic.{erasedFourths}
-use Rattle.area_read.proofs.erased_fourths.Statement.{statement}
-use Rattle.area_read.proofs.erased_fourths.Tie as tie
+use Rattle.record_magics.specs.Magic.{erasedFourths}
+use Rattle.record_magics.proofs.erased_fourths.Statement.{statement}
+use Rattle.record_magics.proofs.erased_fourths.Tie as tie
 
 returns : tie.Need-returns
 unfolding erasedFourths

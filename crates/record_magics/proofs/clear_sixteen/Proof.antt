@@ -1,10 +1,10 @@
--- `area_read::clear_sixteen` meets its contract.
+-- `record_magics::clear_sixteen` meets its contract.
 use mathlib.Core.Path.{sym}
 use borrow.Author.Needs.{needs}
 use Rattle.format_laws.specs.Tests.{via}
-use Rattle.area_read.specs.Magic.{clearAll, erased-clear}
-use Rattle.area_read.proofs.clear_sixteen.Statement.{statement}
-use Rattle.area_read.proofs.clear_sixteen.Tie as tie
+use Rattle.record_magics.specs.Magic.{clearAll, erased-clear}
+use Rattle.record_magics.proofs.clear_sixteen.Statement.{statement}
+use Rattle.record_magics.proofs.clear_sixteen.Tie as tie
 
 returns : tie.Need-returns
 returns c =

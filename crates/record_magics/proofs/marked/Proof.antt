@@ -1,9 +1,9 @@
--- `area_read::marked` meets its contract.
+-- `record_magics::marked` meets its contract.
 use native.Mathlib.Omega.{arith}
 use borrow.Author.Needs.{needs}
-use Rattle.area_read.specs.Magic.{bit-told}
-use Rattle.area_read.proofs.marked.Statement.{statement}
-use Rattle.area_read.proofs.marked.Tie as tie
+use Rattle.record_magics.specs.Magic.{bit-told}
+use Rattle.record_magics.proofs.marked.Statement.{statement}
+use Rattle.record_magics.proofs.marked.Tie as tie
 
 shared-slice-read-result : tie.Need-shared-slice-read-result
 shared-slice-read-result c = let s = c .before in omega (arith, s .pre .size, s .fits .b .fits)

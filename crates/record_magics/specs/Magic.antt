@@ -17,8 +17,6 @@ use Rattle.format_laws.specs.Crc.{Octets}
 use Rattle.format_laws.specs.Octets.{octets-drop}
 use Rattle.format_laws.specs.Magic.{StartsWith, record-magic}
 use Rattle.format_laws.specs.Record.{and-left, and-right, no-magic, too-short}
-use Rattle.area_read.specs.Area.{nextRecord}
-use Rattle.area_read.specs.Laws.{next-passes}
 
 -- ---- the bytes of the magics: c0 8b 5f 92 of inodes, b9 23 ba 53 of blocks, eight different ones
 
@@ -72,21 +70,36 @@ passed-more area at m n p q = record { none = λ j h. go j h (ltb j m) refl }
         let x : at + m + (j - m) ≡ at + j = omega arith in
         rw x at (q .none (j - m) (omega arith))
 
-pub jumped : (area : Bytes) (at n : ℕ) → at + n ≤ length area → Passed area at n → nextRecord area (at + n) ≡ nextRecord area at
-jumped area at zero h p = rw (add-zero at) refl
-jumped area at (suc n) h p =
-    let x : at + suc n ≡ at + n + 1 = omega arith in
-    rw x
-    (sym (next-passes area (at + n) (omega arith) (p .none n (omega arith)))
-    ∙ jumped area at n (omega arith) (record { none = λ j l. p .none j (omega arith) }))
+-- the search has come from a place to a place, inside the area if it began there, and passed over no record
+pub record Onward (area : Bytes) (from to : ℕ) : Type 0 where
+  pub onward : from ≤ to
+  pub within : from ≤ length area → to ≤ length area
+  pub passed : Passed area from (to - from)
 
--- too near the end for any header
-pub jumped-end : (area : Bytes) (at : ℕ) → at ≤ length area → length area < at + 20 → nextRecord area (length area) ≡ nextRecord area at
-jumped-end area at h l =
-    let x : at + (length area - at) ≡ length area = omega arith in
-    rw x at (jumped area at (length area - at) (omega arith) (record {
-      none = λ j k. too-short (drop (at + j) area) (omega (arith, length-drop (at + j) area));
-    }))
+pub onward-begins : (area : Bytes) (from : ℕ) → Onward area from from
+onward-begins area from =
+    record { onward = omega arith; within = λ h. h; passed = record { none = λ j h. absurd (omega arith) } }
+
+module _ (area : Bytes) (from to : ℕ) (o : Onward area from to) where
+  -- n places more
+  pub onward-more : (n : ℕ) → to + n ≤ length area → Passed area to n → Onward area from (to + n)
+  onward-more n h p =
+      let a = o .onward in
+      let x : from + (to - from) ≡ to = omega arith in
+      let y : to - from + n ≡ to + n - from = omega arith in
+      record {
+        onward = omega arith;
+        within = λ k. h;
+        passed = rw y at (passed-more area from (to - from) n (o .passed) (rw x p));
+      }
+
+  -- to the end, where there is no room for a header
+  pub onward-ends : to ≤ length area → length area < to + 20 → Onward area from (length area)
+  onward-ends h l =
+      let x : to + (length area - to) ≡ length area = omega arith in
+      rw x at (onward-more (length area - to) (omega arith) (record {
+        none = λ j k. too-short (drop (to + j) area) (omega (arith, length-drop (to + j) area));
+      }))
 
 -- ---- a magic at a place
 
