@@ -1,5 +1,5 @@
-// The magics of records: the next place in an area where one stands. Most bytes are in no magic, and each of them tells that of four places in a row
-// none starts a record (T-10).
+// The search for the magics of records (T-10). Their eight bytes are different, so that a byte tells of the four places up to its own: no record starts
+// there, or at one of them at most.
 ghost use mathlib.Core.Path.{_≡_};
 ghost use Prim.Native.Nat.{_+_, _-_, _≤_};
 ghost use lib.ListN.{length};
@@ -51,7 +51,7 @@ fn magic_at(area: &[u8], at: usize) -> bool
     magic == BlockHeader::MAGIC
 }
 
-// Where in the four bytes from `at` on a magic starts, or 4. The last of them leaves only one place for it.
+// Which of the four places from `at` on has a magic, counted from 0, or 4. The byte at the last of them leaves one place at most.
 fn magic_in_four(marks: &[u64], area: &[u8], at: usize) -> usize
     requires { ⌜ Marks (now marks) × (at + 7 ≤ length (now area)) ⌝ }
     ensures within { λ r. ⌜ r ≤ 4 ⌝ }
@@ -66,7 +66,8 @@ fn magic_in_four(marks: &[u64], area: &[u8], at: usize) -> usize
     }
     4
 }
-// Whether the four bytes that tell of the sixteen places from `at` on are erased: the quick way through free space.
+
+// Whether the four bytes that tell of the sixteen places from `at` on, the last of each four, are erased: the quick way through free space.
 fn erased_fourths(area: &[u8], at: usize) -> bool
     requires { ⌜ at + 16 ≤ length (now area) ⌝ }
     ensures { λ r. ⌜ r ≡ erasedFourths (now (area .entry)) at ⌝ }
@@ -83,7 +84,7 @@ fn erased_fourths(area: &[u8], at: usize) -> bool
     area[at + 15] == ERASED
 }
 
-// Whether none of the four bytes that tell of the sixteen places from `at` on is in a magic.
+// Whether none of these four bytes is in a magic.
 fn clear_sixteen(marks: &[u64], area: &[u8], at: usize) -> bool
     requires { ⌜ Marks (now marks) × (at + 16 ≤ length (now area)) ⌝ }
     ensures { λ r. ⌜ r ≡ clearAll (now (area .entry)) at ⌝ }
@@ -113,7 +114,7 @@ fn starts(len: usize) -> usize
     len - (InodeHeader::SIZE - 1)
 }
 
-// A place from `from` on where a magic starts, or the area's end, with no record before it.
+// The place to look at next, from `from` on: no record starts before it. The search stops at a magic, or goes on to the area's end.
 fn next_marked(marks: &[u64], area: &[u8], from: usize) -> usize
     requires { ⌜ Marks (now marks) ⌝ }
     ensures { λ r. ⌜ Onward (now (area .entry)) from r ⌝ }
@@ -137,7 +138,7 @@ fn next_marked(marks: &[u64], area: &[u8], from: usize) -> usize
     at
 }
 
-// The same, with the marks in a local array.
+// The same. A function of its own, which sets up the marks once for each search.
 pub fn next_magic(area: &[u8], from: usize) -> usize
     ensures { λ r. ⌜ Onward (now (area .entry)) from r ⌝ }
 {

@@ -2,7 +2,8 @@
 use mathlib.Core.Path.{sym}
 use borrow.Author.Needs.{needs}
 use Rattle.format_laws.specs.Tests.{via}
-use Rattle.record_magics.specs.Magic.{clearAll, erased-clear}
+use Rattle.record_magics.specs.Magic.{clearAll}
+use Rattle.record_magics.specs.Laws.{erased-clear}
 use Rattle.record_magics.proofs.clear_sixteen.Statement.{statement}
 use Rattle.record_magics.proofs.clear_sixteen.Tie as tie
 

@@ -5,7 +5,8 @@ use borrow.Author.Needs.{needs}
 use borrow.Author.Tests.{ltb-true}
 use Rattle.format_laws.specs.Crc.{Octets}
 use Rattle.format_laws.specs.Tests.{via}
-use Rattle.record_magics.specs.Magic.{inMagic, before-start, none-in-four, four-passed}
+use Rattle.record_magics.specs.Magic.{inMagic}
+use Rattle.record_magics.specs.Laws.{before-start, none-in-four, four-passed}
 use Rattle.record_magics.proofs.magic_in_four.Statement.{statement}
 use Rattle.record_magics.proofs.magic_in_four.Tie as tie
 

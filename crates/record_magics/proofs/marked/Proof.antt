@@ -1,7 +1,7 @@
 -- `record_magics::marked` meets its contract.
 use native.Mathlib.Omega.{arith}
 use borrow.Author.Needs.{needs}
-use Rattle.record_magics.specs.Magic.{bit-told}
+use Rattle.record_magics.specs.Laws.{bit-told}
 use Rattle.record_magics.proofs.marked.Statement.{statement}
 use Rattle.record_magics.proofs.marked.Tie as tie
 

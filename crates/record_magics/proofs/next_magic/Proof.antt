@@ -1,6 +1,7 @@
 -- `record_magics::next_magic` meets its contract: the marks pass the test of all bytes.
 use borrow.Author.Needs.{needs}
-use Rattle.record_magics.specs.Magic.{startOf, inMagic, allBelow, bitRight, marks-of}
+use Rattle.record_magics.specs.Magic.{startOf, inMagic}
+use Rattle.record_magics.specs.Laws.{allBelow, bitRight, marks-of}
 use Rattle.record_magics.proofs.next_magic.Statement.{statement}
 use Rattle.record_magics.proofs.next_magic.Tie as tie
 

@@ -7,7 +7,8 @@ use lib.ListN.{length}
 use Rattle.format.specs.Bytes.{Bytes}
 use Rattle.format_laws.specs.Crc.{Octets}
 use Rattle.format_laws.specs.Tests.{via}
-use Rattle.record_magics.specs.Magic.{sixteen-passed, Onward, onward-begins, onward-more, onward-ends}
+use Rattle.record_magics.specs.Magic.{Onward}
+use Rattle.record_magics.specs.Laws.{sixteen-passed, onward-begins, onward-more, onward-ends}
 use Rattle.record_magics.proofs.next_marked.Statement.{statement}
 use Rattle.record_magics.proofs.next_marked.Tie as tie
 
