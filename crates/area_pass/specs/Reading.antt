@@ -1,5 +1,5 @@
 -- What the reading of an area comes to, and the laws of the loop that reads. Document 01, "How an area is read", and T-08.
-use Prim.Native.Nat.{ℕ, zero, suc, _+_, _-_, _≤_, _<_}
+use Prim.Native.Nat.{ℕ, zero, suc, _+_, _-_, _*_, _^_, _≤_, _<_}
 use mathlib.Core.Path.{_≡_, refl, sym, ap, _∙_}
 use mathlib.Core.Logic.{_≢_}
 use mathlib.Core.Bool.{Bool, true, false, cond, _&&_}
@@ -9,11 +9,14 @@ use native.Mathlib.Numerals.{add-one}
 use lib.ListN.{length, take, drop, length-append, length-drop}
 use lib.Seq.{drop-drop, take-suc, take-all, length-take-le}
 use lib.Dec.{eqb, eqb·suc-suc, eqb·zero-suc}
-use borrow.Author.Tests.{eq-eqb, ne-eqb}
-use Rattle.format.specs.Bytes.{Bytes, byteAt}
+use borrow.Author.Tests.{eq-eqb, ne-eqb, eqb-true, eqb-false}
+use Rattle.format.specs.Bytes.{Bytes, byteAt, le32}
 use Rattle.format.specs.Record.{recordSize}
 use Rattle.format.specs.AreaHeader.{areaHeaderSize}
 use Rattle.format.specs.Reading.{ERASED, parts, Stretch, erasedEnd, freeSize, damagedBytes, damaged, totalSize, firstStretch, areaParts, areaDamage, areaFree}
+use Rattle.format_laws.specs.Crc.{Octets}
+use Rattle.format_laws.specs.Octets.{octet-at}
+use Rattle.format_laws.specs.Record.{and-left, and-right}
 use Rattle.format_laws.specs.Reading.{damaged-taken, damaged-last, free-taken, free-last, erased-end-le, total-append}
 use Rattle.calls.specs.Areas.{largestImage}
 use Rattle.area_read.specs.Area.{nextRecord}
@@ -56,18 +59,82 @@ erased-snoc (a ∷ l) b = go (eqb b ERASED) refl (erased-snoc l b)
         let q : erasedEnd (l ++ (b ∷ [])) ≡ 0 = ih ∙ rw e in
         rw (q, long, eqb·zero-suc (length l), e)
 
-module _ (s : Bytes) (i n : ℕ) (h : i < length s) (so-far : n ≡ erasedEnd (take i s)) where
-  next-byte : erasedEnd (take (i + 1) s) ≡ cond (eqb (byteAt s i) ERASED) (n + 1) 0
-  next-byte = rw (add-one, take-suc s i 0 h, so-far) (erased-snoc (take i s) (byteAt s i))
+-- from i on all bytes of s are erased: they and those at the end of what stands before i are all of the end
+pub record ErasedFrom (s : Bytes) (i : ℕ) : Type 0 where
+  pub within : i ≤ length s
+  pub counted : erasedEnd s ≡ length s - i + erasedEnd (take i s)
 
-  pub erased-more : byteAt s i ≡ ERASED → n + 1 ≡ erasedEnd (take (i + 1) s)
-  erased-more e = sym (next-byte ∙ rw (eq-eqb (byteAt s i) ERASED e))
+pub erased-begins : (s : Bytes) → ErasedFrom s (length s)
+erased-begins s = record { within = omega arith; counted = rw (take-all (length s) s (omega arith)) (omega arith) }
 
-  pub erased-again : (byteAt s i ≡ ERASED → ⊥) → 0 ≡ erasedEnd (take (i + 1) s)
-  erased-again e = sym (next-byte ∙ rw (ne-eqb (byteAt s i) ERASED e))
+pub erased-whole : (s : Bytes) → ErasedFrom s 0 → length s ≡ erasedEnd s
+unfolding erasedEnd
+erased-whole s g = omega (arith, g .counted)
 
-pub erased-counted : (s : Bytes) (i n : ℕ) → length s ≤ i → n ≡ erasedEnd (take i s) → n ≡ erasedEnd s
-erased-counted s i n h e = e ∙ rw (take-all i s h)
+module _ (s : Bytes) (i : ℕ) (g : ErasedFrom s (i + 1)) where
+  last-byte : erasedEnd (take (i + 1) s) ≡ cond (eqb (byteAt s i) ERASED) (erasedEnd (take i s) + 1) 0
+  last-byte = let h = g .within in rw (add-one i, take-suc s i 0 (omega arith)) (erased-snoc (take i s) (byteAt s i))
+
+  pub erased-byte : byteAt s i ≡ ERASED → ErasedFrom s i
+  erased-byte e =
+      let h = g .within in
+      let q : erasedEnd (take (i + 1) s) ≡ erasedEnd (take i s) + 1 = last-byte ∙ rw (eq-eqb (byteAt s i) ERASED e) in
+      record { within = omega arith; counted = omega (arith, g .counted, q) }
+
+  pub erased-stops : (byteAt s i ≡ ERASED → ⊥) → length s - (i + 1) ≡ erasedEnd s
+  erased-stops d =
+      let q : erasedEnd (take (i + 1) s) ≡ 0 = last-byte ∙ rw (ne-eqb (byteAt s i) ERASED d) in
+      omega (arith, g .counted, q)
+
+-- four bytes at once, and sixteen
+
+abbrev pub ERASED-WORD : ℕ
+ERASED-WORD = 0xffffffff
+
+erased-word : (s : Bytes) → Octets s → (i : ℕ) → le32 s i ≡ ERASED-WORD → ErasedFrom s (i + 4) → ErasedFrom s i
+unfolding le32
+erased-word s o i e g =
+    let a = octet-at s o i in
+    let b = octet-at s o (i + 1) in
+    let c = octet-at s o (i + 2) in
+    let d = octet-at s o (i + 3) in
+    let x : i + 4 ≡ i + 3 + 1 = omega arith in
+    let y : i + 3 ≡ i + 2 + 1 = omega arith in
+    let z : i + 2 ≡ i + 1 + 1 = omega arith in
+    let third = erased-byte s (i + 3) (rw x at g) (omega (arith, a, b, c, d, e)) in
+    let second = erased-byte s (i + 2) (rw y at third) (omega (arith, a, b, c, d, e)) in
+    let first = erased-byte s (i + 1) (rw z at second) (omega (arith, a, b, c, d, e)) in
+    erased-byte s i first (omega (arith, a, b, c, d, e))
+
+abbrev pub erasedEight : Bytes → ℕ → Bool
+erasedEight s i = eqb (le32 s i) ERASED-WORD && eqb (le32 s (i + 4)) ERASED-WORD
+
+unfoldable pub erasedSixteen : Bytes → ℕ → Bool
+erasedSixteen s i = erasedEight s i && erasedEight s (i + 8)
+
+erased-eight : (s : Bytes) → Octets s → (i : ℕ) → erasedEight s i ≡ true → ErasedFrom s (i + 8) → ErasedFrom s i
+erased-eight s o i e g =
+    let x : i + 8 ≡ i + 4 + 4 = omega arith in
+    let a = and-left (eqb (le32 s i) ERASED-WORD) (eqb (le32 s (i + 4)) ERASED-WORD) e in
+    let b = and-right (eqb (le32 s i) ERASED-WORD) (eqb (le32 s (i + 4)) ERASED-WORD) e in
+    erased-word s o i (eqb-true _ _ a) (erased-word s o (i + 4) (eqb-true _ _ b) (rw x at g))
+
+pub erased-sixteen : (s : Bytes) → Octets s → (i : ℕ) → erasedSixteen s i ≡ true → ErasedFrom s (i + 16) → ErasedFrom s i
+unfolding erasedSixteen
+erased-sixteen s o i e g =
+    let x : i + 16 ≡ i + 8 + 8 = omega arith in
+    let a = and-left (erasedEight s i) (erasedEight s (i + 8)) e in
+    let b = and-right (erasedEight s i) (erasedEight s (i + 8)) e in
+    erased-eight s o i a (erased-eight s o (i + 8) b (rw x at g))
+
+-- two words as one number
+pub word-pair : (x y : ℕ) → x < 2 ^ 32 → y < 2 ^ 32 → eqb (x + y * 4294967296) 0xffffffffffffffff ≡ (eqb x ERASED-WORD && eqb y ERASED-WORD)
+word-pair x y h k = go (eqb x ERASED-WORD) (eqb y ERASED-WORD) refl refl
+  where
+    go : (a b : Bool) → eqb x ERASED-WORD ≡ a → eqb y ERASED-WORD ≡ b → eqb (x + y * 4294967296) 0xffffffffffffffff ≡ (a && b)
+    go true true p q = eq-eqb (x + y * 4294967296) 0xffffffffffffffff (omega (arith, eqb-true x ERASED-WORD p, eqb-true y ERASED-WORD q))
+    go true false p q = ne-eqb (x + y * 4294967296) 0xffffffffffffffff (λ e. eqb-false y ERASED-WORD q (omega arith))
+    go false b p q = ne-eqb (x + y * 4294967296) 0xffffffffffffffff (λ e. eqb-false x ERASED-WORD p (omega arith))
 
 -- ---- the loop of reading
 

@@ -1,6 +1,6 @@
 // One pass over the file areas: the places in the image of all their records, and what the reading of each area comes to.
 ghost use mathlib.Core.Path.{_≡_};
-ghost use Prim.Native.Nat.{_≤_};
+ghost use Prim.Native.Nat.{_+_, _≤_};
 ghost use lib.ListN.{length, take};
 ghost use Rattle.format.specs.Reading.{erasedEnd};
 ghost use Rattle.calls.specs.Report.{damageIn};
@@ -8,7 +8,7 @@ ghost use Rattle.area_damage.specs.Damage.{damageOf};
 ghost use Rattle.area_list.specs.Described.{described};
 ghost use Rattle.table_rows.specs.Parts.{part};
 ghost use Rattle.area_pass.specs.Listing.{placesIn, Room, Listed};
-ghost use Rattle.area_pass.specs.Reading.{Reads};
+ghost use Rattle.area_pass.specs.Reading.{Reads, ErasedFrom, erasedSixteen};
 ghost use Rattle.area_pass.specs.Rows.{spansAt, Lent, Readings};
 use area_damage::Damage;
 use area_damage::joined;
@@ -16,6 +16,7 @@ use area_damage::no_damage;
 use area_damage::with_stretch;
 use area_read::HEADER_SIZE;
 use area_read::next_record;
+use byte_fields::load32;
 use byte_store::ERASED;
 use calls::MOST_AREAS;
 
@@ -41,22 +42,44 @@ pub struct Listing {
     pub damage: Damage,
 }
 
+// Whether the sixteen bytes from `at` on are erased.
+fn erased_sixteen(s: &[u8], at: usize) -> bool
+    requires { ⌜ at + 16 ≤ length (now s) ⌝ }
+    ensures { λ r. ⌜ r ≡ erasedSixteen (now (s .entry)) at ⌝ }
+{
+    let front = load32(s, at) as u64 + load32(s, at + 4) as u64 * 4294967296;
+    if front != 0xffffffffffffffff {
+        return false;
+    }
+    load32(s, at + 8) as u64 + load32(s, at + 12) as u64 * 4294967296 == 0xffffffffffffffff
+}
+
+// A place from which on `s` is erased, sixteen bytes a turn from its end: fewer than sixteen before it are.
+fn erased_from(s: &[u8]) -> usize
+    ensures { λ r. ⌜ ErasedFrom (now (s .entry)) r ⌝ }
+{
+    let mut i = s.len();
+    while 16 <= i {
+        if erased_sixteen(s, i - 16) {} else {
+            return i;
+        }
+        i -= 16;
+    }
+    i
+}
+
 // How many erased bytes stand at the end of `s`.
 fn erased_end(s: &[u8]) -> usize
     ensures { λ r. ⌜ r ≡ erasedEnd (now (s .entry)) ⌝ }
 {
-    let mut n = 0;
-    let mut i = 0;
-    while i < s.len() {
-        if s[i] == ERASED {
-            n += 1;
-            i += 1;
-        } else {
-            n = 0;
-            i += 1;
+    let mut i = erased_from(s);
+    while 0 < i {
+        if s[i - 1] != ERASED {
+            return s.len() - i;
         }
+        i -= 1;
     }
-    n
+    s.len()
 }
 
 // Puts the places of the records of an area that starts at `base` behind the first `n` of `places`; of its damage, number `stretch` is kept, from 0.

@@ -6,7 +6,7 @@ use mathlib.Core.Bool.{Bool, true, false, cond, _&&_}
 use mathlib.Core.List.{List, [], _∷_, _++_}
 use native.Mathlib.Omega.{arith}
 use native.Mathlib.Numerals.{add-one}
-use native.Mathlib.Nat.{sub-zero}
+use native.Mathlib.Nat.{add-zero, sub-zero}
 use lib.ListN.{length, take, drop, length-append, length-drop, drop-of-length-le}
 use lib.Seq.{drop-cons, drop-drop, take-suc, take-all, length-take-le}
 use lib.Dec.{eqb, eqb·suc-suc, eqb·zero-suc}
@@ -33,6 +33,7 @@ use Rattle.format_laws.specs.Reading.{
   placed-none,
   placed-taken,
 }
+use Rattle.record_magics.specs.Magic.{Passed, Onward}
 use Rattle.area_read.specs.Area.{search, nextRecord}
 use Rattle.area_read.specs.declared.Next.{Next}
 
@@ -54,6 +55,22 @@ next-passes area at h z = let c = drop-cons area at 0 h in rw (add-one, c) (rw (
 pub next-ends : (area : Bytes) (at : ℕ) → length area ≤ at → nextRecord area at ≡ record { at = at; size = 0 }
 unfolding nextRecord search
 next-ends area at h = rw (drop-of-length-le area h)
+
+-- no record starts at the n places from a place on: the next one is the same behind them
+next-passed : (area : Bytes) (at n : ℕ) → at + n ≤ length area → Passed area at n → nextRecord area at ≡ nextRecord area (at + n)
+next-passed area at zero h p = rw (add-zero at)
+next-passed area at (suc n) h p =
+    let x : at + n + 1 ≡ at + suc n = omega arith in
+    next-passed area at n (omega arith) (record { none = λ j l. p .none j (omega arith) })
+    ∙ next-passes area (at + n) (omega arith) (p .none n (omega arith))
+    ∙ ap (nextRecord area) x
+
+pub next-onward : (area : Bytes) (at to : ℕ) → at ≤ length area → Onward area at to → nextRecord area at ≡ nextRecord area to
+next-onward area at to h o =
+    let a = o .onward in
+    let b = o .within h in
+    let x : at + (to - at) ≡ to = omega arith in
+    rw x at (next-passed area at (to - at) (omega arith) (o .passed))
 
 -- ---- what the next record tells of the parts
 

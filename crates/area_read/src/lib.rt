@@ -10,6 +10,7 @@ ghost use Rattle.area_read.specs.Area.{nextRecord};
 ghost use Rattle.area_read.specs.Kinds.{HasId, HasCount, kindOf};
 use area_list::area_end;
 use byte_fields::load32;
+use record_magics::next_magic;
 use record_read::record_size;
 
 // The length of an area's header, and where it holds the area's length, version, collection count, reserved byte and id.
@@ -135,7 +136,7 @@ pub fn next_record(area: &[u8], from: usize) -> Next
         if size != 0 {
             return Next { at, size };
         }
-        at += 1;
+        at = next_magic(area, at + 1);
     }
     Next { at, size: 0 }
 }

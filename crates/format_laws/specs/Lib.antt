@@ -8,5 +8,6 @@ pub mod Clean
 pub mod Encoding
 pub mod Header
 pub mod Octets
+pub mod Magic
 pub mod Tests
 pub mod BlockSize

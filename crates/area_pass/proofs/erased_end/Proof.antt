@@ -1,38 +1,47 @@
 -- `area_pass::erased_end` meets its contract.
-use Prim.Native.Nat.{_≤_, _-_}
-use mathlib.Core.Path.{_≡_, refl}
+use Prim.Native.Nat.{_+_, _-_}
+use mathlib.Core.Path.{_≡_, subst}
 use native.Mathlib.Omega.{arith}
 use borrow.Author.Needs.{needs}
-use lib.ListN.{length, take}
-use Rattle.format.specs.Reading.{erasedEnd}
-use Rattle.area_pass.specs.Reading.{erased-more, erased-again, erased-counted}
+use Rattle.area_pass.specs.Reading.{ErasedFrom, erased-byte, erased-stops, erased-whole}
 use Rattle.area_pass.proofs.erased_end.Statement.{statement}
 use Rattle.area_pass.proofs.erased_end.Tie as tie
 
 abbrev Inv-loop : tie.InvT-loop
-Inv-loop s n₀ i₀ n i = (i ≤ length s) × (n ≤ i) × (n ≡ erasedEnd (take i s))
+Inv-loop s i₀ i = ErasedFrom s i
 
 abbrev μ-loop : tie.MeasureT-loop
-μ-loop s n₀ i₀ n i = length s - i
+μ-loop s i₀ i = i
 
-loop-holds : tie.Need-loop-holds Inv-loop μ-loop
-unfolding erasedEnd
-loop-holds c = (omega arith, omega arith, refl)
+shared-slice-read-if1 : tie.Need-shared-slice-read-if1 Inv-loop μ-loop
+shared-slice-read-if1 c = let w = c .before .before .loop .inv .within in omega (arith, w, c .before .loop-test .taken)
 
-loop-again : tie.Need-loop-again Inv-loop μ-loop
-loop-again c =
-    let l = c .before .before .before in
-    (omega arith, omega arith, erased-more (l .before .args .s .now) (l .loop .i) (l .loop .n) (omega arith) (l .loop .inv .2) (c .if1 .taken))
-
-loop-again-2 : tie.Need-loop-again-2 Inv-loop μ-loop
-loop-again-2 c =
-    let l = c .before .before .before in
-    (omega arith, omega arith, erased-again (l .before .args .s .now) (l .loop .i) (l .loop .n) (omega arith) (l .loop .inv .2) (c .if1 .left))
+-- the place before the one that was reached, and that one by it
+one-back : (t : tie.In-loop Inv-loop μ-loop) → ErasedFrom (t .before .before .before .before .args .s .now) (t .before .loop .i - 1 + 1)
+one-back t =
+    let l = t .before in
+    let x : l .loop .i ≡ l .loop .i - 1 + 1 = omega (arith, t .loop-test .taken) in
+    subst (ErasedFrom (l .before .before .before .args .s .now)) x (l .loop .inv)
 
 returns : tie.Need-returns Inv-loop μ-loop
 returns c =
+    let t = c .before .before in
+    let l = t .before in
+    let x : l .loop .i - 1 + 1 ≡ l .loop .i = omega (arith, t .loop-test .taken) in
+    rw x at (erased-stops (l .before .before .before .args .s .now) (l .loop .i - 1) (one-back t) (c .if1 .taken))
+
+loop-again : tie.Need-loop-again Inv-loop μ-loop
+loop-again c =
+    let t = c .before .before in
+    let l = t .before in
+    erased-byte (l .before .before .before .args .s .now) (l .loop .i - 1) (one-back t) (c .if1 .left)
+
+returns-2 : tie.Need-returns-2 Inv-loop μ-loop
+returns-2 c =
     let l = c .before in
-    erased-counted (l .before .args .s .now) (l .loop .i) (l .loop .n) (c .loop-test .left) (l .loop .inv .2)
+    let s = l .before .before .before .args .s .now in
+    let z : l .loop .i ≡ 0 = omega (arith, c .loop-test .left) in
+    erased-whole s (subst (ErasedFrom s) z (l .loop .inv))
 
 pub erased-end-spec : {M : Type 1} → statement M
 erased-end-spec =
@@ -40,13 +49,13 @@ erased-end-spec =
     (tie.spec
     Inv-loop
     μ-loop
-    loop-holds
+    (λ c κs. search needs)
+    (λ c. c .erased-from .ensures)
     (λ c. search needs)
-    (λ c. search needs)
+    shared-slice-read-if1
+    (λ c. c .before .before .before .loop .inv .within)
+    returns
     (λ c. search needs)
     (λ c. search needs)
     loop-again
-    (λ c. search needs)
-    (λ c. search needs)
-    loop-again-2
-    returns)
+    returns-2)

@@ -1,11 +1,12 @@
 -- `area_read::next_record` meets its contract.
-use Prim.Native.Nat.{_-_}
+use Prim.Native.Nat.{_+_, _-_}
 use mathlib.Core.Path.{_≡_, refl, sym, _∙_}
+use native.Mathlib.Omega.{arith}
 use borrow.Author.Needs.{needs}
 use lib.ListN.{length}
 use Rattle.format_laws.specs.Bytes.{rest-part}
 use Rattle.area_read.specs.Area.{nextRecord}
-use Rattle.area_read.specs.Laws.{next-here, next-passes, next-ends}
+use Rattle.area_read.specs.Laws.{next-here, next-passes, next-onward, next-ends}
 use Rattle.area_read.proofs.next_record.Statement.{statement}
 use Rattle.area_read.proofs.next_record.Tie as tie
 
@@ -28,11 +29,13 @@ returns c =
 
 loop-again : tie.Need-loop-again Inv-loop μ-loop
 loop-again c =
-    let r = c .before in
+    let r = c .before .before in
     let l = r .before .before .before in
     let area = l .before .before .args .area .now in
     let s = rw (rest-part area (l .loop .at)) at (r .record-size .ensures) in
-    sym (next-passes area (l .loop .at) (r .before .before .loop-test .taken) (sym s ∙ c .if1 .left)) ∙ l .loop .inv
+    let h = r .before .before .loop-test .taken in
+    sym (next-passes area (l .loop .at) h (sym s ∙ c .before .if1 .left) ∙ next-onward area (l .loop .at + 1) _ (omega arith) (c .next-magic .ensures))
+    ∙ l .loop .inv
 
 returns-2 : tie.Need-returns-2 Inv-loop μ-loop
 returns-2 c =
@@ -52,6 +55,7 @@ next-record-spec =
     (λ c κs. search needs)
     returns
     (λ c. search needs)
+    (λ c κs. search needs)
     (λ c. search needs)
     loop-again
     returns-2)
