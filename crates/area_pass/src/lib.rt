@@ -54,7 +54,7 @@ fn erased_sixteen(s: &[u8], at: usize) -> bool
     load32(s, at + 8) as u64 + load32(s, at + 12) as u64 * 4294967296 == 0xffffffffffffffff
 }
 
-// A place from which on `s` is erased, sixteen bytes a turn from its end: fewer than sixteen before it are.
+// A place from which on all of `s` is erased, found sixteen bytes a turn from its end.
 fn erased_from(s: &[u8]) -> usize
     ensures { λ r. ⌜ ErasedFrom (now (s .entry)) r ⌝ }
 {

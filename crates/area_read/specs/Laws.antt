@@ -1,38 +1,19 @@
 -- Laws of the next record, which the loops use.
-use Prim.Native.Nat.{ℕ, zero, suc, min, _+_, _-_, _≤_, _<_}
-use mathlib.Core.Path.{_≡_, refl, sym, ap, _∙_}
+use Prim.Native.Nat.{ℕ, zero, suc, _+_, _-_, _≤_, _<_}
+use mathlib.Core.Path.{_≡_, refl, ap, _∙_}
 use mathlib.Core.Logic.{_≢_}
-use mathlib.Core.Bool.{Bool, true, false, cond, _&&_}
-use mathlib.Core.List.{List, [], _∷_, _++_}
+use mathlib.Core.List.{[], _∷_}
 use native.Mathlib.Omega.{arith}
 use native.Mathlib.Numerals.{add-one}
-use native.Mathlib.Nat.{add-zero, sub-zero}
-use lib.ListN.{length, take, drop, length-append, length-drop, drop-of-length-le}
-use lib.Seq.{drop-cons, drop-drop, take-suc, take-all, length-take-le}
-use lib.Dec.{eqb, eqb·suc-suc, eqb·zero-suc}
-use borrow.Author.Tests.{eq-eqb, ne-eqb}
-use Rattle.format.specs.Bytes.{Bytes, byteAt}
+use native.Mathlib.Nat.{add-zero}
+use lib.ListN.{length, take, drop, length-drop, drop-of-length-le}
+use lib.Seq.{drop-cons, drop-drop, length-take-le}
+use Rattle.format.specs.Bytes.{Bytes}
 use Rattle.format.specs.Record.{recordSize}
-use Rattle.format.specs.AreaHeader.{areaHeaderSize}
-use Rattle.format.specs.Reading.{ERASED, taken, parts, Stretch, erasedEnd, freeSize, damagedBytes, damaged, totalSize, areaParts, areaDamage, areaFree, placed}
+use Rattle.format.specs.Reading.{taken, parts, placed}
 use Rattle.format_laws.specs.Record.{record-inside, record-least}
 use Rattle.format_laws.specs.Taken.{recordsFrom, recordAt}
-use Rattle.format_laws.specs.Reading.{
-  passed,
-  parts-none,
-  parts-take,
-  parts-pass,
-  damaged-taken,
-  damaged-last,
-  free-taken,
-  free-last,
-  erased-end-le,
-  total-append,
-  total-damaged,
-  placed-passed,
-  placed-none,
-  placed-taken,
-}
+use Rattle.format_laws.specs.Reading.{passed, parts-none, parts-take, parts-pass, placed-passed, placed-none, placed-taken}
 use Rattle.record_magics.specs.Magic.{Passed, Onward}
 use Rattle.area_read.specs.Area.{search, nextRecord}
 use Rattle.area_read.specs.declared.Next.{Next}

@@ -2,14 +2,13 @@
 use Prim.Native.Nat.{ℕ, zero, suc, _<_}
 use mathlib.Core.Path.{_≡_}
 use mathlib.Core.Logic.{_⊎_, inl, inr, _≢_}
-use mathlib.Core.Bool.{true}
 use mathlib.Core.List.{[]}
 use native.Mathlib.Omega.{arith}
 use Rattle.format.specs.Bytes.{Bytes, byteAt, le32, enc32}
-use Rattle.format.specs.Record.{Kind, inode, block, acceptable, recordSize}
+use Rattle.format.specs.Record.{inode, block, recordSize}
 use Rattle.format_laws.specs.Crc.{Octets}
 use Rattle.format_laws.specs.Octets.{octet-at}
-use Rattle.format_laws.specs.Record.{LawfulKind, inode-lawful, block-lawful, kind-magic, Stands, stands, an-inode, a-block, nothing}
+use Rattle.format_laws.specs.Record.{inode-lawful, block-lawful, kind-magic, Stands, stands, an-inode, a-block, nothing}
 
 -- the first four bytes of t are those of the number m
 pub record StartsWith (t : Bytes) (m : ℕ) : Type 0 where
