@@ -3,6 +3,7 @@ ghost use mathlib.Core.Path.{_≡_};
 ghost use Prim.Native.Nat.{_+_, _≤_};
 ghost use lib.ListN.{length, take};
 ghost use Rattle.format.specs.Reading.{erasedEnd};
+ghost use Rattle.crc_laws.specs.Table.{Tables};
 ghost use Rattle.calls.specs.Report.{damageIn};
 ghost use Rattle.area_damage.specs.Damage.{damageOf};
 ghost use Rattle.area_list.specs.Described.{described};
@@ -83,7 +84,17 @@ fn erased_end(s: &[u8]) -> usize
 }
 
 // Puts the places of the records of an area that starts at `base` behind the first `n` of `places`; of its damage, number `stretch` is kept, from 0.
-pub fn list_area(area: &[u8], base: usize, places: &mut [u16], n: usize, stretch: u32) -> Pass
+// The tables of the check are lent, as they are to `list_areas`.
+pub fn list_area(
+    high: &[u16],
+    low: &[u16],
+    area: &[u8],
+    base: usize,
+    places: &mut [u16],
+    n: usize,
+    stretch: u32,
+) -> Pass
+    requires tables { ⌜ Tables (now high) (now low) ⌝ }
     requires { ⌜ Room (now area) base (now places) n ⌝ }
     ensures listed { λ r. ⌜ Listed (now (area .entry)) base (now (places .entry)) n (r .count) (now (places .exit)) ⌝ }
     ensures read { λ r. ⌜ Reads (now (area .entry)) stretch (r .damage) (r .free) ⌝ }
@@ -92,7 +103,7 @@ pub fn list_area(area: &[u8], base: usize, places: &mut [u16], n: usize, stretch
     let mut at = HEADER_SIZE;
     let mut damage = no_damage();
     loop {
-        let next = next_record(area, at);
+        let next = next_record(high, low, area, at);
         let start = next.at;
         if next.size == 0 {
             let free = erased_end(&area[at..]);
@@ -112,7 +123,15 @@ pub fn list_area(area: &[u8], base: usize, places: &mut [u16], n: usize, stretch
 
 // Puts the places of the records of all the file areas into `places`, and what the writers ask of their readings into their rows; answers how
 // many places there are, and the damage.
-pub fn list_areas(image: &[u8], rows: &mut [u32], files: usize, places: &mut [u16]) -> Listing
+pub fn list_areas(
+    high: &[u16],
+    low: &[u16],
+    image: &[u8],
+    rows: &mut [u32],
+    files: usize,
+    places: &mut [u16],
+) -> Listing
+    requires tables { ⌜ Tables (now high) (now low) ⌝ }
     requires { ⌜ Lent (now image) (now rows) files (now places) ⌝ }
     ensures listed { λ r. ⌜ take (r .count) (now (places .exit)) ≡ placesIn (now (image .entry)) (described (part 0 files (now (rows .entry))) (part spansAt files (now (rows .entry)))) ⌝ }
     ensures within { λ r. ⌜ r .count ≤ length (now (places .exit)) ⌝ }
@@ -126,7 +145,7 @@ pub fn list_areas(image: &[u8], rows: &mut [u32], files: usize, places: &mut [u1
         let offset = rows[i];
         let start = offset as usize;
         let end = start + rows[SPANS + i] as usize;
-        let pass = list_area(&image[start..end], start, &mut *places, k, 0);
+        let pass = list_area(high, low, &image[start..end], start, &mut *places, k, 0);
         let of_area = pass.damage;
         k = pass.count;
         damage = joined(damage, offset, of_area);

@@ -4,6 +4,7 @@ ghost use mathlib.Core.Bool.{true};
 ghost use Prim.Native.Nat.{_+_, _≤_};
 ghost use lib.ListN.{length};
 ghost use Rattle.format.specs.AreaHeader.{areaHeaderSize, magicsRight, validHeader};
+ghost use Rattle.crc_laws.specs.Table.{Tables};
 ghost use Rattle.calls.specs.Areas.{goodArea, areaBytes};
 ghost use Rattle.area_list.specs.Described.{areaOf};
 ghost use Rattle.area_read.specs.Area.{nextRecord};
@@ -126,13 +127,14 @@ pub fn area_kind(image: &[u8], offset: u32, span: u32) -> AreaKind
     AreaKind::File
 }
 
-// The first record that starts at `from` or after it.
-pub fn next_record(area: &[u8], from: usize) -> Next
+// The first record that starts at `from` or after it. The tables of the check are lent.
+pub fn next_record(high: &[u16], low: &[u16], area: &[u8], from: usize) -> Next
+    requires { ⌜ Tables (now high) (now low) ⌝ }
     ensures { λ r. ⌜ r ≡ nextRecord (now (area .entry)) from ⌝ }
 {
     let mut at = from;
     while at < area.len() {
-        let size = record_size(&area[at..]);
+        let size = record_size(high, low, &area[at..]);
         if size != 0 {
             return Next { at, size };
         }

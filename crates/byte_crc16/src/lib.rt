@@ -3,7 +3,7 @@ mod tables;
 
 ghost use mathlib.Core.Path.{_≡_};
 ghost use Rattle.format.specs.Crc.{crcOver, check};
-ghost use Rattle.crc_laws.specs.Table.{Tables};
+ghost use Rattle.crc_laws.specs.Table.{TableOf, Tables, highLater, lowLater};
 use crc16_register::four;
 use crc16_register::one;
 use crc16_register::two;
@@ -43,11 +43,27 @@ fn four_a_turn(high: &[u16], low: &[u16], start: u16, s: &[u8]) -> u16
     two_a_turn(r, &s[i..])
 }
 
+// The table of the register's high byte. Compiled code copies it, so that who checks many records sets it up once and lends it to `check_by`.
+pub fn high_table() -> [u16; 256]
+    ensures { λ t. ⌜ TableOf highLater t ⌝ }
+{
+    HIGH
+}
+
+// The table of its low byte.
+pub fn low_table() -> [u16; 256]
+    ensures { λ t. ⌜ TableOf lowLater t ⌝ }
+{
+    LOW
+}
+
 // The register after the bytes of `s`, by the tables. A function of its own, which copies them when it starts, so that short slices do not.
 fn by_tables(start: u16, s: &[u8]) -> u16
     ensures { λ q. ⌜ q ≡ crcOver start (now (s .entry)) ⌝ }
 {
-    four_a_turn(&HIGH, &LOW, start, s)
+    let high = high_table();
+    let low = low_table();
+    four_a_turn(&high, &low, start, s)
 }
 
 // The register after the bytes of `s`.
@@ -65,4 +81,12 @@ pub fn check(front: &[u8], body: &[u8]) -> u16
     ensures { λ q. ⌜ q ≡ check (now (front .entry)) (now (body .entry)) ⌝ }
 {
     over(over(0, front), body)
+}
+
+// The same check by lent tables, which nobody copies: four bytes a turn in slices of every length.
+pub fn check_by(high: &[u16], low: &[u16], front: &[u8], body: &[u8]) -> u16
+    requires { ⌜ Tables (now high) (now low) ⌝ }
+    ensures { λ q. ⌜ q ≡ check (now (front .entry)) (now (body .entry)) ⌝ }
+{
+    four_a_turn(high, low, four_a_turn(high, low, 0, front), body)
 }

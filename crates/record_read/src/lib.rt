@@ -20,8 +20,9 @@ ghost use Rattle.format.specs.Record.{
   declaredSize,
   recordSize,
 };
+ghost use Rattle.crc_laws.specs.Table.{Tables};
 ghost use Rattle.record_read.specs.Headers.{inodeHeader, blockHeader};
-use byte_crc16::check;
+use byte_crc16::check_by;
 use byte_fields::load16;
 use byte_fields::load32;
 use byte_fields::wide;
@@ -201,11 +202,12 @@ pub fn name_good(s: &[u8]) -> bool
 }
 
 // Whether the check field at `offset`, the last of a header of `size` bytes, is right for the record `b`.
-fn check_right(b: &[u8], offset: usize, size: usize) -> bool
+fn check_right(high: &[u16], low: &[u16], b: &[u8], offset: usize, size: usize) -> bool
+    requires tables { ⌜ Tables (now high) (now low) ⌝ }
     requires { ⌜ (offset + 2 ≤ length (now b)) × (size ≤ length (now b)) ⌝ }
     ensures { λ r. ⌜ r ≡ eqb (le16 (now (b .entry)) offset) (check (take offset (now (b .entry))) (drop size (now (b .entry)))) ⌝ }
 {
-    load16(b, offset) == check(&b[..offset], &b[size..]) as u32
+    load16(b, offset) == check_by(high, low, &b[..offset], &b[size..]) as u32
 }
 
 // The rules of an inode: of its reserved byte, of its header's fields, and of its name.
@@ -232,21 +234,30 @@ fn block_rules(b: &[u8]) -> bool
 
 // The size of the record whose bytes are `b`, with a header of `size` bytes and the check field at `offset`; 0 if its rules, which `lawful` tells, or
 // its check are broken.
-fn right_size(b: &[u8], lawful: bool, offset: usize, size: usize) -> usize
+fn right_size(
+    high: &[u16],
+    low: &[u16],
+    b: &[u8],
+    lawful: bool,
+    offset: usize,
+    size: usize,
+) -> usize
+    requires tables { ⌜ Tables (now high) (now low) ⌝ }
     requires { ⌜ (offset + 2 ≤ length (now b)) × (size ≤ length (now b)) ⌝ }
     ensures { λ r. ⌜ r ≡ cond (lawful && eqb (le16 (now (b .entry)) offset) (check (take offset (now (b .entry))) (drop size (now (b .entry))))) (length (now (b .entry))) 0 ⌝ }
 {
     if lawful {} else {
         return 0;
     }
-    if check_right(b, offset, size) {
+    if check_right(high, low, b, offset, size) {
         return b.len();
     }
     0
 }
 
 // The size of the inode at the front of `t`, which has the magic of one; 0 if it is not acceptable.
-fn inode_size(t: &[u8]) -> usize
+fn inode_size(high: &[u16], low: &[u16], t: &[u8]) -> usize
+    requires tables { ⌜ Tables (now high) (now low) ⌝ }
     requires { ⌜ (20 ≤ length (now t)) × (le32 (now t) 0 ≡ inode .magic) ⌝ }
     ensures { λ r. ⌜ r ≡ recordSize (now (t .entry)) ⌝ }
 {
@@ -256,6 +267,8 @@ fn inode_size(t: &[u8]) -> usize
     }
     let lawful = inode_rules(&t[..end]);
     right_size(
+        high,
+        low,
         &t[..end],
         lawful,
         InodeHeader::CHECK_OFFSET,
@@ -264,7 +277,8 @@ fn inode_size(t: &[u8]) -> usize
 }
 
 // The same for a block.
-fn block_size(t: &[u8]) -> usize
+fn block_size(high: &[u16], low: &[u16], t: &[u8]) -> usize
+    requires tables { ⌜ Tables (now high) (now low) ⌝ }
     requires { ⌜ (24 ≤ length (now t)) × (le32 (now t) 0 ≡ block .magic) ⌝ }
     ensures { λ r. ⌜ r ≡ recordSize (now (t .entry)) ⌝ }
 {
@@ -274,6 +288,8 @@ fn block_size(t: &[u8]) -> usize
     }
     let lawful = block_rules(&t[..end]);
     right_size(
+        high,
+        low,
         &t[..end],
         lawful,
         BlockHeader::CHECK_OFFSET,
@@ -281,8 +297,9 @@ fn block_size(t: &[u8]) -> usize
     )
 }
 
-// The size of the acceptable record at the front of `t`, 0 where there is none.
-pub fn record_size(t: &[u8]) -> usize
+// The size of the acceptable record at the front of `t`, 0 where there is none. The tables of the check are lent.
+pub fn record_size(high: &[u16], low: &[u16], t: &[u8]) -> usize
+    requires { ⌜ Tables (now high) (now low) ⌝ }
     ensures { λ r. ⌜ r ≡ recordSize (now (t .entry)) ⌝ }
 {
     if t.len() < InodeHeader::SIZE {
@@ -290,7 +307,7 @@ pub fn record_size(t: &[u8]) -> usize
     }
     let magic = load32(t, 0);
     if magic == InodeHeader::MAGIC {
-        return inode_size(t);
+        return inode_size(high, low, t);
     }
     if magic != BlockHeader::MAGIC {
         return 0;
@@ -298,5 +315,5 @@ pub fn record_size(t: &[u8]) -> usize
     if t.len() < BlockHeader::SIZE {
         return 0;
     }
-    block_size(t)
+    block_size(high, low, t)
 }

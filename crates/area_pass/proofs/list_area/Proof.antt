@@ -23,14 +23,14 @@ record Both (area : List ℕ) (base : ℕ) (places₀ : List ℕ) (n stretch : �
   reading : Read area stretch at damage
 
 abbrev Inv-loop : tie.InvT-loop
-Inv-loop area base places₀ n stretch k₀ at₀ damage₀ places k at damage = Both area base places₀ n stretch places k at damage
+Inv-loop high low area base places₀ n stretch k₀ at₀ damage₀ places k at damage = Both area base places₀ n stretch places k at damage
 
 abbrev μ-loop : tie.MeasureT-loop
-μ-loop area base places₀ n stretch k₀ at₀ damage₀ places k at damage = length area - at
+μ-loop high low area base places₀ n stretch k₀ at₀ damage₀ places k at damage = length area - at
 
 -- the arguments, from the head of the loop
 abbrev start : tie.At-loop Inv-loop μ-loop → tie.Start Inv-loop μ-loop
-start l = l .before .before .before .before
+start l = l .before .before .before .before .before .before
 
 -- what the next record tells
 next : (c : tie.After-next-record Inv-loop μ-loop) → Nexts (start (c .before) .args .area .now) (c .before .loop .at) (c .next-record .result)
@@ -44,7 +44,7 @@ room c =
     let n = c .before .before in
     let l = n .before in
     let s = start l in
-    has-room (s .args .area .now) (s .args .base) (s .args .places .now) (s .args .n) (l .loop .places) (l .loop .k) (l .loop .at) (s .pre) (l .loop .inv .listing)
+    has-room (s .args .area .now) (s .args .base) (s .args .places .now) (s .args .n) (l .loop .places) (l .loop .k) (l .loop .at) (s .pre .1) (l .loop .inv .listing)
     (n .next-record .result) (next n) (c .if1 .left)
 
 abbrev at-next : tie.After-erased-end Inv-loop μ-loop → tie.After-next-record Inv-loop μ-loop
@@ -75,23 +75,23 @@ turn c =
       inside = next n .room;
       least = next n .least (c .if1 .left);
       room = room c;
-      end = start l .pre .inside;
+      end = start l .pre .1 .inside;
     }
 
 loop-holds : tie.Need-loop-holds Inv-loop μ-loop
 loop-holds c =
-    let s = c .before .before .before in
+    let s = c .before .before .before .before .before in
     record {
-      listing = listing-begins (s .args .area .now) (s .args .base) (s .args .places .now) (s .args .n) (s .pre);
-      reading = read-begins (s .args .area .now) (s .args .stretch) (c .no-damage .result) (s .pre .header) (c .no-damage .ensures (s .args .stretch));
+      listing = listing-begins (s .args .area .now) (s .args .base) (s .args .places .now) (s .args .n) (s .pre .1);
+      reading = read-begins (s .args .area .now) (s .args .stretch) (c .no-damage .result) (s .pre .1 .header) (c .no-damage .ensures (s .args .stretch));
     }
 
 with-stretch-requires : tie.Need-with-stretch-requires Inv-loop μ-loop
 with-stretch-requires c κs =
     let l = at-next c .before in
     let s = start l in
-    fewer (s .args .area .now) (s .args .stretch) (l .loop .at) (l .loop .damage) (l .loop .inv .reading) (omega (arith, s .pre .inside)) _ _
-    (omega (arith, fits c, l .loop .inv .listing .within, s .pre .inside))
+    fewer (s .args .area .now) (s .args .stretch) (l .loop .at) (l .loop .damage) (l .loop .inv .reading) (omega (arith, s .pre .1 .inside)) _ _
+    (omega (arith, fits c, l .loop .inv .listing .within, s .pre .1 .inside))
 
 returns : tie.Need-returns Inv-loop μ-loop
 returns c =
@@ -100,7 +100,7 @@ returns c =
     let n = at-next e in
     let l = n .before in
     let s = start l in (
-      listing-ends (s .args .area .now) (s .args .base) (s .args .places .now) (s .args .n) (l .loop .places) (l .loop .k) (l .loop .at) (s .pre) (l .loop .inv .listing)
+      listing-ends (s .args .area .now) (s .args .base) (s .args .places .now) (s .args .n) (l .loop .places) (l .loop .k) (l .loop .at) (s .pre .1) (l .loop .inv .listing)
           (n .next-record .result) (next n) (t .if1 .taken),
       read-ends (s .args .area .now) (s .args .stretch) (l .loop .at) (l .loop .damage) (l .loop .inv .reading)
           (n .next-record .result) (n .next-record .ensures) (t .if1 .taken) (e .erased-end .result) (counted e) (fits e) (c .with-stretch .result) (λ m q. stretch-behind _ _ _ _ m q _ (c .with-stretch .ensures)),
@@ -121,7 +121,7 @@ loop-again c =
     let l = n .before in
     let s = start l in
     record {
-      listing = listing-on (s .args .area .now) (s .args .base) (s .args .places .now) (s .args .n) (l .loop .places) (l .loop .k) (l .loop .at) (s .pre) (l .loop .inv .listing)
+      listing = listing-on (s .args .area .now) (s .args .base) (s .args .places .now) (s .args .n) (l .loop .places) (l .loop .k) (l .loop .at) (s .pre .1) (l .loop .inv .listing)
           (n .next-record .result) (next n) (e .if1 .left);
       reading = read-on (s .args .area .now) (s .args .stretch) (l .loop .at) (l .loop .damage) (l .loop .inv .reading)
           (n .next-record .result) (n .next-record .ensures) (e .if1 .left) (o .with-stretch2 .result) (λ m q. stretch-behind _ _ _ _ m q _ (o .with-stretch2 .ensures));

@@ -16,14 +16,14 @@ use Rattle.area_pass.proofs.list_areas.Statement.{statement}
 use Rattle.area_pass.proofs.list_areas.Tie as tie
 
 abbrev Inv-loop : tie.InvT-loop
-Inv-loop image rows₀ files places₀ k₀ damage₀ i₀ rows places k damage i = Going image rows₀ files places₀ rows places k damage i
+Inv-loop high low image rows₀ files places₀ k₀ damage₀ i₀ rows places k damage i = Going image rows₀ files places₀ rows places k damage i
 
 abbrev μ-loop : tie.MeasureT-loop
-μ-loop image rows₀ files places₀ k₀ damage₀ i₀ rows places k damage i = files - i
+μ-loop high low image rows₀ files places₀ k₀ damage₀ i₀ rows places k damage i = files - i
 
 -- the arguments, from the head of the loop
 abbrev start : tie.At-loop Inv-loop μ-loop → tie.Start Inv-loop μ-loop
-start l = l .before .before .before .before .before
+start l = l .before .before .before .before .before .before .before
 
 -- the area of a turn lies in the image, and its row in the rows
 record Turn (image rows : List ℕ) (i : ℕ) : Type 0 where
@@ -37,10 +37,10 @@ turn c =
     let l = c .before in
     let s = start l in
     record {
-      few = omega (arith, c .loop-test .taken, s .pre .few);
-      long = rows-long _ _ _ _ (l .loop .rows) (l .loop .places) (l .loop .k) (l .loop .damage) (l .loop .i) (s .pre) (l .loop .inv) (c .loop-test .taken);
-      lies = inside _ _ _ _ (l .loop .rows) (l .loop .places) (l .loop .k) (l .loop .damage) (l .loop .i) (s .pre) (l .loop .inv) (c .loop-test .taken);
-      size = small _ _ _ _ (l .loop .rows) (l .loop .places) (l .loop .k) (l .loop .damage) (l .loop .i) (s .pre) (l .loop .inv) (c .loop-test .taken);
+      few = omega (arith, c .loop-test .taken, s .pre .1 .few);
+      long = rows-long _ _ _ _ (l .loop .rows) (l .loop .places) (l .loop .k) (l .loop .damage) (l .loop .i) (s .pre .1) (l .loop .inv) (c .loop-test .taken);
+      lies = inside _ _ _ _ (l .loop .rows) (l .loop .places) (l .loop .k) (l .loop .damage) (l .loop .i) (s .pre .1) (l .loop .inv) (c .loop-test .taken);
+      size = small _ _ _ _ (l .loop .rows) (l .loop .places) (l .loop .k) (l .loop .damage) (l .loop .i) (s .pre .1) (l .loop .inv) (c .loop-test .taken);
     }
 
 abbrev at-turn : tie.After-list-area Inv-loop μ-loop → tie.In-loop Inv-loop μ-loop
@@ -68,21 +68,21 @@ free-small d =
 
 loop-holds : tie.Need-loop-holds Inv-loop μ-loop
 loop-holds c =
-    let s = c .before .before .before .before in
+    let s = c .before .before .before .before .before .before in
     going-begins (s .args .image .now) (s .args .rows .now) (s .args .files) (s .args .places .now) (c .no-damage .result) (c .no-damage .ensures)
 
 list-area-requires : tie.Need-list-area-requires Inv-loop μ-loop
 list-area-requires c κs =
     let n = c .before .before .before .before in
     let l = n .before in
-    rw add-sub-cancel-left (room _ _ _ _ (l .loop .rows) (l .loop .places) (l .loop .k) (l .loop .damage) (l .loop .i) (start l .pre) (l .loop .inv) (n .loop-test .taken))
+    (start l .pre .0, rw add-sub-cancel-left (room _ _ _ _ (l .loop .rows) (l .loop .places) (l .loop .k) (l .loop .damage) (l .loop .i) (start l .pre .1) (l .loop .inv) (n .loop-test .taken)))
 
 joined-requires : tie.Need-joined-requires Inv-loop μ-loop
 joined-requires c κs =
     let d = at-list c in
     let n = at-turn d in
     let l = n .before in
-    summable _ _ _ _ (l .loop .rows) (l .loop .places) (l .loop .k) (l .loop .damage) (l .loop .i) (start l .pre) (l .loop .inv) (n .loop-test .taken)
+    summable _ _ _ _ (l .loop .rows) (l .loop .places) (l .loop .k) (l .loop .damage) (l .loop .i) (start l .pre .1) (l .loop .inv) (n .loop-test .taken)
     (d .list-area .result .damage) (d .list-area .result .free) (reads d)
 
 slice-write-rows-2 : tie.Need-slice-write-rows-2 Inv-loop μ-loop
@@ -97,9 +97,9 @@ loop-again c =
     let d = at-list (j .before) in
     let n = at-turn d in
     let l = n .before in
-    going-on _ _ _ _ (l .loop .rows) (l .loop .places) (l .loop .k) (l .loop .damage) (l .loop .i) (start l .pre) (l .loop .inv) (n .loop-test .taken)
-    (d .list-area .last .1 .1 .0) (d .list-area .result .count) (d .list-area .result .damage) (d .list-area .result .free) (j .joined .result)
-    (d .list-area .kept .1 .1 .0) (rw add-sub-cancel-left at (d .list-area .ensures .0)) (reads d) (joined-behind _ _ _ _ (j .joined .ensures))
+    going-on _ _ _ _ (l .loop .rows) (l .loop .places) (l .loop .k) (l .loop .damage) (l .loop .i) (start l .pre .1) (l .loop .inv) (n .loop-test .taken)
+    (d .list-area .last .1 .1 .1 .1 .0) (d .list-area .result .count) (d .list-area .result .damage) (d .list-area .result .free) (j .joined .result)
+    (d .list-area .kept .1 .1 .1 .1 .0) (rw add-sub-cancel-left at (d .list-area .ensures .0)) (reads d) (joined-behind _ _ _ _ (j .joined .ensures))
 
 returns : tie.Need-returns Inv-loop μ-loop
 returns c =
@@ -107,12 +107,12 @@ returns c =
     let s = start l in
     let e : l .loop .i ≡ s .args .files = omega (arith, c .loop-test .left, l .loop .inv .through .within, length-take (s .args .files) (s .args .rows .now)) in (
       through-ends (s .args .image .now) (part 0 (s .args .files) (s .args .rows .now)) (part spansAt (s .args .files) (s .args .rows .now)) (s .args .places .now)
-          (l .loop .places) (l .loop .k) (l .loop .i) (s .pre .files-are) (l .loop .inv .through) (omega (arith, c .loop-test .left, length-take (s .args .files) (s .args .rows .now))),
+          (l .loop .places) (l .loop .k) (l .loop .i) (s .pre .1 .files-are) (l .loop .inv .through) (omega (arith, c .loop-test .left, length-take (s .args .files) (s .args .rows .now))),
       (
         l .loop .inv .through .fits,
         (
           rw e at (l .loop .inv .readings),
-          damage-whole _ _ _ _ (l .loop .rows) (l .loop .places) (l .loop .k) (l .loop .damage) (l .loop .i) (s .pre) (l .loop .inv) (c .loop-test .left),
+          damage-whole _ _ _ _ (l .loop .rows) (l .loop .places) (l .loop .k) (l .loop .damage) (l .loop .i) (s .pre .1) (l .loop .inv) (c .loop-test .left),
         ),
       ),
     )

@@ -10,12 +10,15 @@ use Rattle.record_read.proofs.inode_size.Tie as tie
 
 -- the arguments, from where the length was read
 abbrev start : tie.After-wide → tie.Start
-start w = w .before .before .before
+start w = w .before .before .before .before .before
 
 returns : tie.Need-returns
 returns c =
     let s = start (c .before) in
-    no-room inode inode-lawful (s .args .t .now) _ (s .pre .1) (omega arith) (only-inode (s .args .t .now) (s .pre .1)) (c .if1 .taken)
+    no-room inode inode-lawful (s .args .t .now) _ (s .pre .1 .1) (omega arith) (only-inode (s .args .t .now) (s .pre .1 .1)) (c .if1 .taken)
+
+right-size-requires : tie.Need-right-size-requires
+right-size-requires c κs = (start (c .before .before .before .before) .pre .0, simp length-take (omega arith))
 
 returns-2 : tie.Need-returns-2
 unfolding checkRight
@@ -23,7 +26,7 @@ returns-2 c =
     let r = c .before .before in
     let x = r .before .before in
     let s = start (x .before) in
-    size-decided inode inode-lawful (s .args .t .now) _ (s .pre .1) (omega arith) (only-inode (s .args .t .now) (s .pre .1)) (x .if1 .left)
+    size-decided inode inode-lawful (s .args .t .now) _ (s .pre .1 .1) (omega arith) (only-inode (s .args .t .now) (s .pre .1 .1)) (x .if1 .left)
     (r .inode-rules .result) (r .inode-rules .ensures) _ (c .right-size .ensures)
 
 pub inode-size-spec : {M : Type 1} → statement M
@@ -38,5 +41,5 @@ inode-size-spec =
     (λ c. simp length-take (omega arith))
     (λ c κs. simp length-take (omega arith))
     (λ c. simp length-take (omega arith))
-    (λ c κs. simp length-take (omega arith))
+    right-size-requires
     returns-2)

@@ -9,19 +9,19 @@ use Rattle.record_read.proofs.record_size.Statement.{statement}
 use Rattle.record_read.proofs.record_size.Tie as tie
 
 returns : tie.Need-returns
-returns c = sym (too-short (c .before .before .args .t .now) (c .if1 .taken))
+returns c = sym (too-short (c .before .before .before .before .args .t .now) (c .if1 .taken))
 
 returns-3 : tie.Need-returns-3
 returns-3 c =
     let e = c .before in
     let l = e .before in
-    sym (no-magic (l .before .before .before .args .t .now) (λ m. e .if2 .left (l .load32 .ensures ∙ m)) (λ m. c .if3 .taken (l .load32 .ensures ∙ m)))
+    sym (no-magic (l .before .before .before .before .before .args .t .now) (λ m. e .if2 .left (l .load32 .ensures ∙ m)) (λ m. c .if3 .taken (l .load32 .ensures ∙ m)))
 
 returns-4 : tie.Need-returns-4
 returns-4 c =
     let e = c .before in
     let l = e .before .before in
-    let t = l .before .before .before .args .t .now in
+    let t = l .before .before .before .before .before .args .t .now in
     let m = via (l .load32 .ensures) (e .if3 .left) in
     sym (only-block t m ∙ rw (kind-short block t (omega arith)))
 
