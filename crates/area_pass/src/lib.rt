@@ -1,24 +1,23 @@
 // One pass over the file areas: the places in the image of all their records, and what the reading of each area comes to.
 ghost use mathlib.Core.Path.{_≡_};
-ghost use Prim.Native.Nat.{_+_, _≤_};
+ghost use Prim.Native.Nat.{_≤_};
 ghost use lib.ListN.{length, take};
-ghost use Rattle.format.specs.Reading.{erasedEnd};
 ghost use Rattle.crc_laws.specs.Table.{Tables};
 ghost use Rattle.calls.specs.Report.{damageIn};
 ghost use Rattle.area_damage.specs.Damage.{damageOf};
 ghost use Rattle.area_list.specs.Described.{described};
 ghost use Rattle.table_rows.specs.Parts.{part};
 ghost use Rattle.area_pass.specs.Listing.{placesIn, Room, Listed};
-ghost use Rattle.area_pass.specs.Reading.{Reads, ErasedFrom, erasedSixteen};
+ghost use Rattle.area_pass.specs.Reading.{Reads};
 ghost use Rattle.area_pass.specs.Rows.{spansAt, Lent, Readings};
 use area_damage::Damage;
 use area_damage::joined;
 use area_damage::no_damage;
 use area_damage::with_stretch;
+use area_erased::erased_end;
+use area_erased::later;
+use area_erased::next_written;
 use area_read::HEADER_SIZE;
-use area_read::next_record;
-use byte_fields::load32;
-use byte_store::ERASED;
 use calls::MOST_AREAS;
 
 // The rows of the file areas in columns: starts first, then spans, stretches of damage, and where free space starts.
@@ -43,46 +42,6 @@ pub struct Listing {
     pub damage: Damage,
 }
 
-// Whether the sixteen bytes from `at` on are erased.
-fn erased_sixteen(s: &[u8], at: usize) -> bool
-    requires { ⌜ at + 16 ≤ length (now s) ⌝ }
-    ensures { λ r. ⌜ r ≡ erasedSixteen (now (s .entry)) at ⌝ }
-{
-    let front = load32(s, at) as u64 + load32(s, at + 4) as u64 * 4294967296;
-    if front != 0xffffffffffffffff {
-        return false;
-    }
-    load32(s, at + 8) as u64 + load32(s, at + 12) as u64 * 4294967296 == 0xffffffffffffffff
-}
-
-// A place from which on all of `s` is erased, found sixteen bytes a turn from its end.
-fn erased_from(s: &[u8]) -> usize
-    ensures { λ r. ⌜ ErasedFrom (now (s .entry)) r ⌝ }
-{
-    let mut i = s.len();
-    while 16 <= i {
-        if erased_sixteen(s, i - 16) {} else {
-            return i;
-        }
-        i -= 16;
-    }
-    i
-}
-
-// How many erased bytes stand at the end of `s`.
-fn erased_end(s: &[u8]) -> usize
-    ensures { λ r. ⌜ r ≡ erasedEnd (now (s .entry)) ⌝ }
-{
-    let mut i = erased_from(s);
-    while 0 < i {
-        if s[i - 1] != ERASED {
-            return s.len() - i;
-        }
-        i -= 1;
-    }
-    s.len()
-}
-
 // Puts the places of the records of an area that starts at `base` behind the first `n` of `places`; of its damage, number `stretch` is kept, from 0.
 // The tables of the check are lent, as they are to `list_areas`.
 pub fn list_area(
@@ -99,19 +58,19 @@ pub fn list_area(
     ensures listed { λ r. ⌜ Listed (now (area .entry)) base (now (places .entry)) n (r .count) (now (places .exit)) ⌝ }
     ensures read { λ r. ⌜ Reads (now (area .entry)) stretch (r .damage) (r .free) ⌝ }
 {
+    let written = area.len() - erased_end(&area[HEADER_SIZE..]);
     let mut k = n;
     let mut at = HEADER_SIZE;
     let mut damage = no_damage();
     loop {
-        let next = next_record(high, low, area, at);
+        let next = next_written(high, low, area, at, written);
         let start = next.at;
         if next.size == 0 {
-            let free = erased_end(&area[at..]);
-            let left = area.len() - at - free;
+            let free = later(at, written);
             return Pass {
                 count: k,
-                damage: with_stretch(damage, stretch, at, left),
-                free: area.len() - free,
+                damage: with_stretch(damage, stretch, at, free - at),
+                free,
             };
         }
         damage = with_stretch(damage, stretch, at, start - at);

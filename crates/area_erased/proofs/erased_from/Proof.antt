@@ -1,13 +1,13 @@
--- `area_pass::erased_from` meets its contract.
+-- `area_erased::erased_from` meets its contract.
 use Prim.Native.Nat.{_+_, _-_}
 use mathlib.Core.Path.{_≡_, subst}
 use native.Mathlib.Omega.{arith}
 use borrow.Author.Needs.{needs}
 use Rattle.format_laws.specs.Crc.{Octets}
 use Rattle.format_laws.specs.Tests.{via}
-use Rattle.area_pass.specs.Reading.{ErasedFrom, erased-begins, erased-sixteen}
-use Rattle.area_pass.proofs.erased_from.Statement.{statement}
-use Rattle.area_pass.proofs.erased_from.Tie as tie
+use Rattle.area_erased.specs.Erased.{ErasedFrom, erased-begins, erased-sixteen}
+use Rattle.area_erased.proofs.erased_from.Statement.{statement}
+use Rattle.area_erased.proofs.erased_from.Tie as tie
 
 abbrev Inv-loop : tie.InvT-loop
 Inv-loop s i₀ i = ErasedFrom s i

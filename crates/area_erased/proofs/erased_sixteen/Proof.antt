@@ -1,4 +1,4 @@
--- `area_pass::erased_sixteen` meets its contract.
+-- `area_erased::erased_sixteen` meets its contract.
 use Prim.Native.Nat.{_+_, _*_}
 use mathlib.Core.Path.{_≡_, _∙_}
 use native.Mathlib.Omega.{arith}
@@ -6,9 +6,9 @@ use borrow.Author.Needs.{needs}
 use borrow.Author.Tests.{eq-eqb, ne-eqb}
 use lib.Dec.{eqb}
 use Rattle.format_laws.specs.Tests.{via}
-use Rattle.area_pass.specs.Reading.{erasedEight, erasedSixteen, word-pair}
-use Rattle.area_pass.proofs.erased_sixteen.Statement.{statement}
-use Rattle.area_pass.proofs.erased_sixteen.Tie as tie
+use Rattle.area_erased.specs.Erased.{erasedEight, erasedSixteen, word-pair}
+use Rattle.area_erased.proofs.erased_sixteen.Statement.{statement}
+use Rattle.area_erased.proofs.erased_sixteen.Tie as tie
 
 -- the first eight bytes
 front : (w : tie.After-load322) → let s = w .before .before .before in

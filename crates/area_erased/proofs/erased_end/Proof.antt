@@ -1,11 +1,11 @@
--- `area_pass::erased_end` meets its contract.
+-- `area_erased::erased_end` meets its contract.
 use Prim.Native.Nat.{_+_, _-_}
 use mathlib.Core.Path.{_≡_, subst}
 use native.Mathlib.Omega.{arith}
 use borrow.Author.Needs.{needs}
-use Rattle.area_pass.specs.Reading.{ErasedFrom, erased-byte, erased-stops, erased-whole}
-use Rattle.area_pass.proofs.erased_end.Statement.{statement}
-use Rattle.area_pass.proofs.erased_end.Tie as tie
+use Rattle.area_erased.specs.Erased.{ErasedFrom, erased-byte, erased-stops, erased-whole}
+use Rattle.area_erased.proofs.erased_end.Statement.{statement}
+use Rattle.area_erased.proofs.erased_end.Tie as tie
 
 abbrev Inv-loop : tie.InvT-loop
 Inv-loop s i₀ i = ErasedFrom s i

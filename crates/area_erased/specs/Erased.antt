@@ -1,0 +1,210 @@
+-- Where the erased end of some bytes begins, sought from behind; and that nothing starts there.
+use Prim.Native.Nat.{ℕ, zero, suc, _+_, _-_, _*_, _^_, _≤_, _<_}
+use mathlib.Core.Path.{_≡_, refl, sym, _∙_}
+use mathlib.Core.Logic.{_⊎_, inl, inr}
+use mathlib.Core.Bool.{Bool, true, false, cond, _&&_}
+use mathlib.Core.List.{List, [], _∷_, _++_}
+use native.Mathlib.Omega.{arith}
+use native.Mathlib.Numerals.{add-one}
+use lib.ListN.{length, take, drop, length-append, length-drop}
+use lib.Seq.{drop-drop, take-suc, take-all}
+use lib.Dec.{eqb, ltb, eqb·suc-suc, eqb·zero-suc}
+use borrow.Author.Tests.{eq-eqb, ne-eqb, eqb-true, eqb-false, ltb-true, ltb-false, le-ltb}
+use Rattle.format.specs.Bytes.{Bytes, byteAt, le32}
+use Rattle.format.specs.Record.{recordSize}
+use Rattle.format.specs.Reading.{ERASED, erasedEnd}
+use Rattle.format_laws.specs.Crc.{Octets}
+use Rattle.format_laws.specs.Octets.{octet-at}
+use Rattle.format_laws.specs.Record.{and-left, and-right, record-blank}
+use Rattle.format_laws.specs.Reading.{erased-end-le}
+use Rattle.area_read.specs.Area.{search, nextRecord}
+
+-- ---- the erased end, byte by byte
+
+erased-snoc : (l : Bytes) (b : ℕ) → erasedEnd (l ++ (b ∷ [])) ≡ cond (eqb b ERASED) (erasedEnd l + 1) 0
+unfolding erasedEnd
+erased-snoc [] b = refl
+erased-snoc (a ∷ l) b = go (eqb b ERASED) refl (erased-snoc l b)
+  where
+    long : length (l ++ (b ∷ [])) ≡ suc (length l)
+    long = omega (arith, length-append l (b ∷ []))
+
+    pick : (t : Bool) → cond t (suc (suc (erasedEnd l))) (suc (erasedEnd l)) ≡ cond t (suc (erasedEnd l)) (erasedEnd l) + 1
+    pick true = omega arith
+    pick false = omega arith
+
+    go : (t : Bool) → eqb b ERASED ≡ t → erasedEnd (l ++ (b ∷ [])) ≡ cond (eqb b ERASED) (erasedEnd l + 1) 0
+        → cond (eqb (erasedEnd (l ++ (b ∷ []))) (length (l ++ (b ∷ []))) && eqb a ERASED) (suc (erasedEnd (l ++ (b ∷ [])))) (erasedEnd (l ++ (b ∷ [])))
+        ≡ cond (eqb b ERASED) (cond (eqb (erasedEnd l) (length l) && eqb a ERASED) (suc (erasedEnd l)) (erasedEnd l) + 1) 0
+    go true e ih =
+        let q : erasedEnd (l ++ (b ∷ [])) ≡ suc (erasedEnd l) = ih ∙ rw e (omega arith) in
+        rw (q, long, eqb·suc-suc (erasedEnd l) (length l), e) (pick (eqb (erasedEnd l) (length l) && eqb a ERASED))
+    go false e ih =
+        let q : erasedEnd (l ++ (b ∷ [])) ≡ 0 = ih ∙ rw e in
+        rw (q, long, eqb·zero-suc (length l), e)
+
+-- from i on all bytes of s are erased: they and those at the end of what stands before i are all of the end
+pub record ErasedFrom (s : Bytes) (i : ℕ) : Type 0 where
+  pub within : i ≤ length s
+  pub counted : erasedEnd s ≡ length s - i + erasedEnd (take i s)
+
+pub erased-begins : (s : Bytes) → ErasedFrom s (length s)
+erased-begins s = record { within = omega arith; counted = rw (take-all (length s) s (omega arith)) (omega arith) }
+
+pub erased-whole : (s : Bytes) → ErasedFrom s 0 → length s ≡ erasedEnd s
+unfolding erasedEnd
+erased-whole s g = omega (arith, g .counted)
+
+module _ (s : Bytes) (i : ℕ) (g : ErasedFrom s (i + 1)) where
+  last-byte : erasedEnd (take (i + 1) s) ≡ cond (eqb (byteAt s i) ERASED) (erasedEnd (take i s) + 1) 0
+  last-byte = let h = g .within in rw (add-one i, take-suc s i 0 (omega arith)) (erased-snoc (take i s) (byteAt s i))
+
+  pub erased-byte : byteAt s i ≡ ERASED → ErasedFrom s i
+  erased-byte e =
+      let h = g .within in
+      let q : erasedEnd (take (i + 1) s) ≡ erasedEnd (take i s) + 1 = last-byte ∙ rw (eq-eqb (byteAt s i) ERASED e) in
+      record { within = omega arith; counted = omega (arith, g .counted, q) }
+
+  pub erased-stops : (byteAt s i ≡ ERASED → ⊥) → length s - (i + 1) ≡ erasedEnd s
+  erased-stops d =
+      let q : erasedEnd (take (i + 1) s) ≡ 0 = last-byte ∙ rw (ne-eqb (byteAt s i) ERASED d) in
+      omega (arith, g .counted, q)
+
+-- four bytes at once, and sixteen
+
+abbrev pub ERASED-WORD : ℕ
+ERASED-WORD = 0xffffffff
+
+erased-word : (s : Bytes) → Octets s → (i : ℕ) → le32 s i ≡ ERASED-WORD → ErasedFrom s (i + 4) → ErasedFrom s i
+unfolding le32
+erased-word s o i e g =
+    let a = octet-at s o i in
+    let b = octet-at s o (i + 1) in
+    let c = octet-at s o (i + 2) in
+    let d = octet-at s o (i + 3) in
+    let x : i + 4 ≡ i + 3 + 1 = omega arith in
+    let y : i + 3 ≡ i + 2 + 1 = omega arith in
+    let z : i + 2 ≡ i + 1 + 1 = omega arith in
+    let third = erased-byte s (i + 3) (rw x at g) (omega (arith, a, b, c, d, e)) in
+    let second = erased-byte s (i + 2) (rw y at third) (omega (arith, a, b, c, d, e)) in
+    let first = erased-byte s (i + 1) (rw z at second) (omega (arith, a, b, c, d, e)) in
+    erased-byte s i first (omega (arith, a, b, c, d, e))
+
+abbrev pub erasedEight : Bytes → ℕ → Bool
+erasedEight s i = eqb (le32 s i) ERASED-WORD && eqb (le32 s (i + 4)) ERASED-WORD
+
+unfoldable pub erasedSixteen : Bytes → ℕ → Bool
+erasedSixteen s i = erasedEight s i && erasedEight s (i + 8)
+
+erased-eight : (s : Bytes) → Octets s → (i : ℕ) → erasedEight s i ≡ true → ErasedFrom s (i + 8) → ErasedFrom s i
+erased-eight s o i e g =
+    let x : i + 8 ≡ i + 4 + 4 = omega arith in
+    let a = and-left (eqb (le32 s i) ERASED-WORD) (eqb (le32 s (i + 4)) ERASED-WORD) e in
+    let b = and-right (eqb (le32 s i) ERASED-WORD) (eqb (le32 s (i + 4)) ERASED-WORD) e in
+    erased-word s o i (eqb-true _ _ a) (erased-word s o (i + 4) (eqb-true _ _ b) (rw x at g))
+
+pub erased-sixteen : (s : Bytes) → Octets s → (i : ℕ) → erasedSixteen s i ≡ true → ErasedFrom s (i + 16) → ErasedFrom s i
+unfolding erasedSixteen
+erased-sixteen s o i e g =
+    let x : i + 16 ≡ i + 8 + 8 = omega arith in
+    let a = and-left (erasedEight s i) (erasedEight s (i + 8)) e in
+    let b = and-right (erasedEight s i) (erasedEight s (i + 8)) e in
+    erased-eight s o i a (erased-eight s o (i + 8) b (rw x at g))
+
+-- two words as one number
+pub word-pair : (x y : ℕ) → x < 2 ^ 32 → y < 2 ^ 32 → eqb (x + y * 4294967296) 0xffffffffffffffff ≡ (eqb x ERASED-WORD && eqb y ERASED-WORD)
+word-pair x y h k = go (eqb x ERASED-WORD) (eqb y ERASED-WORD) refl refl
+  where
+    go : (a b : Bool) → eqb x ERASED-WORD ≡ a → eqb y ERASED-WORD ≡ b → eqb (x + y * 4294967296) 0xffffffffffffffff ≡ (a && b)
+    go true true p q = eq-eqb (x + y * 4294967296) 0xffffffffffffffff (omega (arith, eqb-true x ERASED-WORD p, eqb-true y ERASED-WORD q))
+    go true false p q = ne-eqb (x + y * 4294967296) 0xffffffffffffffff (λ e. eqb-false y ERASED-WORD q (omega arith))
+    go false b p q = ne-eqb (x + y * 4294967296) 0xffffffffffffffff (λ e. eqb-false x ERASED-WORD p (omega arith))
+
+-- ---- the end of what is written
+
+-- one byte more in front: the end grows only where all the others are erased
+erased-cons : (b : ℕ) (l : Bytes) → (erasedEnd (b ∷ l) ≡ erasedEnd l) ⊎ ((erasedEnd l ≡ length l) × (b ≡ ERASED) × (erasedEnd (b ∷ l) ≡ suc (erasedEnd l)))
+unfolding erasedEnd
+erased-cons b l = go (eqb (erasedEnd l) (length l)) (eqb b ERASED) refl refl
+  where
+    go : (x y : Bool) → eqb (erasedEnd l) (length l) ≡ x → eqb b ERASED ≡ y
+        → (cond (x && y) (suc (erasedEnd l)) (erasedEnd l) ≡ erasedEnd l)
+        ⊎ ((erasedEnd l ≡ length l) × (b ≡ ERASED) × (cond (x && y) (suc (erasedEnd l)) (erasedEnd l) ≡ suc (erasedEnd l)))
+    go true true p q = inr (eqb-true _ _ p, eqb-true b ERASED q, refl)
+    go true false p q = inl refl
+    go false y p q = inl refl
+
+-- the end of the bytes behind a place: as much of the whole end as lies there
+pub record Rest (k : ℕ) (s : Bytes) : Type 0 where
+  pub whole : erasedEnd s ≤ length s - k → erasedEnd (drop k s) ≡ erasedEnd s
+  pub all : length s - k ≤ erasedEnd s → erasedEnd (drop k s) ≡ length s - k
+
+pub erased-rest : (k : ℕ) (s : Bytes) → k ≤ length s → Rest k s
+erased-rest zero s h = record { whole = λ e. refl; all = λ e. omega (arith, erased-end-le s) }
+erased-rest (suc k) [] h = absurd (omega arith)
+erased-rest (suc k) (b ∷ l) h = go (erased-cons b l) (erased-rest k l (omega arith))
+  where
+    go : (erasedEnd (b ∷ l) ≡ erasedEnd l) ⊎ ((erasedEnd l ≡ length l) × (b ≡ ERASED) × (erasedEnd (b ∷ l) ≡ suc (erasedEnd l))) → Rest k l → Rest (suc k) (b ∷ l)
+    go (inl e) r = record {
+      whole = λ q. r .whole (omega (arith, e)) ∙ sym e;
+      all = λ q. r .all (omega (arith, e)) ∙ omega arith;
+    }
+    go (inr (f, d, e)) r = record {
+      whole = λ q. absurd (omega (arith, e, f));
+      all = λ q. r .all (omega (arith, e, f)) ∙ omega arith;
+    }
+
+-- what is erased to the end has no record
+all-erased : (t : Bytes) (p : ℕ) → erasedEnd t ≡ length t → search t p ≡ record { at = p + length t; size = 0 }
+unfolding search
+all-erased [] p e = let z : p + 0 ≡ p = omega arith in rw z
+all-erased (b ∷ l) p e = go (erased-cons b l) (all-erased l (suc p))
+  where
+    go : (erasedEnd (b ∷ l) ≡ erasedEnd l) ⊎ ((erasedEnd l ≡ length l) × (b ≡ ERASED) × (erasedEnd (b ∷ l) ≡ suc (erasedEnd l)))
+        → (erasedEnd l ≡ length l → search l (suc p) ≡ record { at = suc p + length l; size = 0 })
+        → search (b ∷ l) p ≡ record { at = p + suc (length l); size = 0 }
+    go (inl q) ih = absurd (omega (arith, e, q, erased-end-le l))
+    go (inr (f, d, q)) ih =
+        let z : p + suc (length l) ≡ suc p + length l = omega arith in
+        rw (search, record-blank (b ∷ l) (inr d), z) (ih f)
+
+-- the later of two places
+abbrev pub laterOf : ℕ → ℕ → ℕ
+laterOf a b = cond (ltb a b) b a
+
+-- What is written of an area, looked at from `from` on, ends at `written`.
+pub record WrittenTo (area : Bytes) (from written : ℕ) : Type 0 where
+  pub within : from ≤ length area
+  pub ends : erasedEnd (drop from area) ≡ length area - laterOf from written
+
+-- it is so from every place, with the end that was counted from one before
+pub written-to : (area : Bytes) (a from n : ℕ) → a ≤ from → from ≤ length area → n ≡ erasedEnd (drop a area) → WrittenTo area from (length area - n)
+written-to area a from n h g e = record {
+  within = g;
+  ends = rw (← moved) (go (ltb from (length area - n)) refl);
+}
+  where
+    moved : drop (from - a) (drop a area) ≡ drop from area
+    moved = let z : a + (from - a) ≡ from = omega arith in drop-drop (from - a) a area ∙ rw z
+
+    long : length (drop a area) ≡ length area - a
+    long = length-drop a area
+
+    rest : Rest (from - a) (drop a area)
+    rest = erased-rest (from - a) (drop a area) (omega (arith, long))
+
+    few : n ≤ length area - a
+    few = omega (arith, e, erased-end-le (drop a area), long)
+
+    go : (t : Bool) → ltb from (length area - n) ≡ t → erasedEnd (drop (from - a) (drop a area)) ≡ length area - cond t (length area - n) from
+    go true q = let l = ltb-true from (length area - n) q in rest .whole (omega (arith, e, long)) ∙ omega (arith, e, few)
+    go false q = let l = ltb-false from (length area - n) q in rest .all (omega (arith, e, long)) ∙ omega (arith, long)
+
+-- nothing starts behind it
+pub nothing-written : (area : Bytes) (from written : ℕ) → WrittenTo area from written → written ≤ from → nextRecord area from ≡ record { at = length area; size = 0 }
+unfolding nextRecord
+nothing-written area from written w h =
+    let x : laterOf from written ≡ from = rw (le-ltb from written h) in
+    let long : length (drop from area) ≡ length area - from = length-drop from area in
+    let y : from + length (drop from area) ≡ length area = omega (arith, long, w .within) in
+    rw y at (all-erased (drop from area) from (omega (arith, w .ends, x, long)))

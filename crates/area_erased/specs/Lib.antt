@@ -1,0 +1,2 @@
+-- The erased end of an area: definitions and laws.
+pub mod Erased

@@ -1,0 +1,74 @@
+// The erased end of an area: where what is written ends.
+ghost use mathlib.Core.Path.{_≡_};
+ghost use Prim.Native.Nat.{_+_, _≤_};
+ghost use lib.ListN.{length};
+ghost use Rattle.format.specs.Reading.{erasedEnd};
+ghost use Rattle.crc_laws.specs.Table.{Tables};
+ghost use Rattle.area_read.specs.Area.{nextRecord};
+ghost use Rattle.area_erased.specs.Erased.{erasedSixteen, ErasedFrom, laterOf, WrittenTo};
+use area_read::Next;
+use area_read::next_record;
+use byte_fields::load32;
+use byte_store::ERASED;
+
+// Whether the sixteen bytes from `at` on are erased.
+fn erased_sixteen(s: &[u8], at: usize) -> bool
+    requires { ⌜ at + 16 ≤ length (now s) ⌝ }
+    ensures { λ r. ⌜ r ≡ erasedSixteen (now (s .entry)) at ⌝ }
+{
+    let front = load32(s, at) as u64 + load32(s, at + 4) as u64 * 4294967296;
+    if front != 0xffffffffffffffff {
+        return false;
+    }
+    load32(s, at + 8) as u64 + load32(s, at + 12) as u64 * 4294967296 == 0xffffffffffffffff
+}
+
+// A place from which on all of `s` is erased, found sixteen bytes a turn from its end.
+fn erased_from(s: &[u8]) -> usize
+    ensures { λ r. ⌜ ErasedFrom (now (s .entry)) r ⌝ }
+{
+    let mut i = s.len();
+    while 16 <= i {
+        if erased_sixteen(s, i - 16) {} else {
+            return i;
+        }
+        i -= 16;
+    }
+    i
+}
+
+// How many erased bytes stand at the end of `s`.
+pub fn erased_end(s: &[u8]) -> usize
+    ensures { λ r. ⌜ r ≡ erasedEnd (now (s .entry)) ⌝ }
+{
+    let mut i = erased_from(s);
+    while 0 < i {
+        if s[i - 1] != ERASED {
+            return s.len() - i;
+        }
+        i -= 1;
+    }
+    s.len()
+}
+
+// The later of two places.
+pub fn later(a: usize, b: usize) -> usize
+    ensures { λ r. ⌜ r ≡ laterOf a b ⌝ }
+{
+    if a < b { b } else { a }
+}
+
+// The first record that starts at `from` or after it. What is written of the area ends at `written`, so nothing is looked at behind that.
+pub fn next_written(high: &[u16], low: &[u16], area: &[u8], from: usize, written: usize) -> Next
+    requires tables { ⌜ Tables (now high) (now low) ⌝ }
+    requires { ⌜ WrittenTo (now area) from written ⌝ }
+    ensures { λ r. ⌜ r ≡ nextRecord (now (area .entry)) from ⌝ }
+{
+    if written <= from {
+        return Next {
+            at: area.len(),
+            size: 0,
+        };
+    }
+    next_record(high, low, area, from)
+}
