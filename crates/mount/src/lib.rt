@@ -6,6 +6,8 @@ ghost use Rattle.mount.specs.Filling.{Ready, Fills};
 use area_damage::Damage;
 use area_kinds::check_areas;
 use area_pass::list_areas;
+use byte_crc16::high_table;
+use byte_crc16::low_table;
 use calls::Descriptor;
 use calls::MOST_BLOCKS;
 use calls::MOST_INODES;
@@ -110,7 +112,9 @@ pub fn mount(image: &[u8], areas: &[u32], tables: &mut [u32], places: &mut [u16]
     if found.number != 0 {
         return refused(found.number);
     }
-    let listing = list_areas(image, &mut *tables, files, &mut *places);
+    let high = high_table();
+    let low = low_table();
+    let listing = list_areas(&high, &low, image, &mut *tables, files, &mut *places);
     let records = listing.count;
     let filled = fill_tables(image, &*places, records, &mut tables[INODE_IDS..TABLES]);
     if filled.number != 0 {
