@@ -172,6 +172,13 @@ all-erased (b ∷ l) p e = go (erased-cons b l) (all-erased l (suc p))
 abbrev pub laterOf : ℕ → ℕ → ℕ
 laterOf a b = cond (ltb a b) b a
 
+pub later-between : (a b n : ℕ) → a ≤ n → b ≤ n → (a ≤ laterOf a b) × (laterOf a b ≤ n)
+later-between a b n h g = go (ltb a b) refl
+  where
+    go : (t : Bool) → ltb a b ≡ t → (a ≤ cond t b a) × (cond t b a ≤ n)
+    go true e = (omega (arith, ltb-true a b e), g)
+    go false e = (omega arith, h)
+
 -- What is written of an area, looked at from `from` on, ends at `written`.
 pub record WrittenTo (area : Bytes) (from written : ℕ) : Type 0 where
   pub within : from ≤ length area

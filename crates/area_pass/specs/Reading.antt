@@ -147,25 +147,22 @@ module _ (area : Bytes) (k at : ℕ) (d : Damage) (g : Read area k at d) (f : Ne
       free-left = sym (ap freeSize (seen .some z) ∙ free-taken (take (seen .gap) (drop at area)) _ _ ∙ rw onward) ∙ g .free-left;
     }
 
-  pub read-ends : f .size ≡ 0 → (free : ℕ) → free ≡ erasedEnd (drop at area) → free ≤ length area - at → (d′ : Damage)
-      → ((l : List Stretch) → d ≡ damageOf k l → d′ ≡ damageOf k (l ++ damagedBytes at (length area - at - free))) → Reads area k d′ (length area - free)
+  pub read-ends : f .size ≡ 0 → (free : ℕ) → at ≤ free → free ≤ length area → erasedEnd (drop at area) ≡ length area - free → (d′ : Damage)
+      → ((l : List Stretch) → d ≡ damageOf k l → d′ ≡ damageOf k (l ++ damagedBytes at (free - at))) → Reads area k d′ free
   unfolding areaFree damageOf
-  read-ends z free q fits d′ h =
+  read-ends z free behind inside q d′ h =
       let p = seen .none z .1 in
-      let m : damaged at (parts recordSize (drop at area) 0) ≡ damagedBytes at (length area - at - free) =
-      ap (damaged at) p ∙ damaged-last at (drop at area) ∙ rw (length-drop at area, q) in
-      let b = before-more at (length area) (g .so-far) (length area - at - free) (omega (arith, g .within)) (g .before) in
+      let y : length (drop at area) - erasedEnd (drop at area) ≡ free - at = omega (arith, length-drop at area, q) in
+      let m : damaged at (parts recordSize (drop at area) 0) ≡ damagedBytes at (free - at) = ap (damaged at) p ∙ damaged-last at (drop at area) ∙ rw y in
+      let b = before-more at (length area) (g .so-far) (free - at) (omega arith) (g .before) in
       let x = h (g .so-far) (g .is) in
-      let c : free ≡ freeSize (areaParts recordSize area) = q ∙ sym (free-last (drop at area)) ∙ ap freeSize (sym p) ∙ g .free-left in
+      let c : length area - free ≡ freeSize (areaParts recordSize area) = sym q ∙ sym (free-last (drop at area)) ∙ ap freeSize (sym p) ∙ g .free-left in
       record {
         damage = x ∙ ap (damageOf k) (ap (λ (l : List Stretch). g .so-far ++ l) (sym m) ∙ g .left);
-        free-is = ap (λ (n : ℕ). length area - n) c;
-        free-bytes = omega (arith, c);
+        free-is = omega (arith, c);
+        free-bytes = c;
         stretches-few = omega (arith, b .few, ap (λ (y : Damage). y .stretches) x);
         skipped-few = omega (arith, b .short, ap (λ (y : Damage). y .skipped) x);
         offset-inside = omega (arith, b .each k, ap (λ (y : Damage). y .offset) x);
-        free-inside = omega arith;
+        free-inside = inside;
       }
-
-pub erased-fits : (area : Bytes) (at free : ℕ) → free ≡ erasedEnd (drop at area) → free ≤ length area - at
-erased-fits area at free e = omega (arith, erased-end-le (drop at area), length-drop at area)
