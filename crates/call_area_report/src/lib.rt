@@ -16,6 +16,8 @@ use area_read::AreaKind;
 use area_read::area_count;
 use area_read::area_id;
 use area_read::area_kind;
+use byte_crc16::high_table;
+use byte_crc16::low_table;
 use byte_fields::wide;
 use calls::AREA_FILE;
 use calls::AREA_PASSED_OVER;
@@ -96,7 +98,9 @@ pub fn report_area(
     let header = header_of(image, offset, span);
     let start = offset as usize;
     let end = area_end(offset, span);
-    let pass = list_area(&image[start..end], 0, &mut *places, 0, stretch);
+    let high = high_table();
+    let low = low_table();
+    let pass = list_area(&high, &low, &image[start..end], 0, &mut *places, 0, stretch);
     let damage = pass.damage;
     AreaReport {
         number: 0,

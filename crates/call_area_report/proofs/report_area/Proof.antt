@@ -40,8 +40,14 @@ few e = omega (arith, counted e .count-good-areas .ensures .few, e .if1 .left)
 abbrev at-end : tie.After-area-end → tie.Else1
 at-end c = c .before .before .before .before
 
+abbrev at-low : tie.After-low → tie.After-low-table
+at-low w = w .before .before
+
+abbrev at-tables : tie.After-low-table → tie.After-area-end
+at-tables t = t .before .before
+
 abbrev at-list : tie.After-list-area → tie.After-area-end
-at-list d = d .before .before .before
+at-list d = at-tables (at-low (d .before .before .before))
 
 lies : (e : tie.Else1) → AreaFits (length (start (counted e) .args .image .now)) (here e)
 lies e = area-fits _ _ _ _ (counted e .count-good-areas .ensures) (e .if1 .left)
@@ -61,10 +67,10 @@ bytes c =
     ap (λ (n : ℕ). take n (drop (here e .offset) (start (counted e) .args .image .now))) n
 
 listed : (d : tie.After-list-area) → let e = at-end (at-list d) in
-    Listed (areaBytes (start (counted e) .args .image .now) (here e)) 0 (start (counted e) .args .places .now) 0 (d .list-area .result .count) (d .list-area .last .1 .1 .0)
+    Listed (areaBytes (start (counted e) .args .image .now) (here e)) 0 (start (counted e) .args .places .now) 0 (d .list-area .result .count) (d .list-area .last .1 .1 .1 .1 .0)
 listed d =
     let e = at-end (at-list d) in
-    subst (λ (x : List ℕ). Listed x 0 (start (counted e) .args .places .now) 0 (d .list-area .result .count) (d .list-area .last .1 .1 .0)) (bytes (at-list d)) (d .list-area .ensures .0)
+    subst (λ (x : List ℕ). Listed x 0 (start (counted e) .args .places .now) 0 (d .list-area .result .count) (d .list-area .last .1 .1 .1 .1 .0)) (bytes (at-list d)) (d .list-area .ensures .0)
 
 reads : (d : tie.After-list-area) → let e = at-end (at-list d) in
     Reads (areaBytes (start (counted e) .args .image .now) (here e)) (start (counted e) .args .stretch) (d .list-area .result .damage) (d .list-area .result .free)
@@ -76,7 +82,7 @@ records : (d : tie.After-list-area) → let e = at-end (at-list d) in
     (d .list-area .result .count ≡ length (areaRecords recordSize (areaBytes (start (counted e) .args .image .now) (here e)))) × (d .list-area .result .count ≤ mostRecords)
 records d =
     let e = at-end (at-list d) in
-    records-counted _ _ _ _ (small e) (start (counted e) .pre) (d .list-area .kept .1 .1 .0) (listed d)
+    records-counted _ _ _ _ (small e) (start (counted e) .pre) (d .list-area .kept .1 .1 .1 .1 .0) (listed d)
 
 returns : tie.Need-returns
 returns c =
@@ -86,13 +92,16 @@ returns c =
 
 list-area-requires : tie.Need-list-area-requires
 list-area-requires c κs =
-    let x = c .before .before in
-    let e = at-end x in
-    subst (λ (b : List ℕ). Room b 0 (start (counted e) .args .places .now) 0) (sym (bytes x)) (record {
-      header = omega (arith, lies e .long, area-long _ _ _ _ (counted e .count-good-areas .ensures) (e .if1 .left));
-      inside = omega (arith, small e);
-      room = omega (arith, small e, start (counted e) .pre);
-    })
+    let t = at-low (c .before .before) in
+    let x = at-tables t in
+    let e = at-end x in (
+      record { of-high = t .before .high-table .ensures; of-low = t .low-table .ensures },
+      subst (λ (b : List ℕ). Room b 0 (start (counted e) .args .places .now) 0) (sym (bytes x)) (record {
+        header = omega (arith, lies e .long, area-long _ _ _ _ (counted e .count-good-areas .ensures) (e .if1 .left));
+        inside = omega (arith, small e);
+        room = omega (arith, small e, start (counted e) .pre);
+      }),
+    )
 
 returns-2 : tie.Need-returns-2
 returns-2 c =
@@ -119,12 +128,16 @@ report-area-spec =
     (λ c κs. let e = c .before .before in area-good _ _ _ _ (counted e .count-good-areas .ensures) (e .if1 .left))
     (λ c. let e = c .before .before .before in omega (arith, lies e .inside, image-small e))
     (λ c κs. search needs)
-    (λ c. omega (arith, c .area-end .ensures))
+    (λ c κs. search needs)
+    (λ c κs. search needs)
     (λ c. search needs)
-    (λ c. omega (arith, c .area-end .ensures, lies (at-end c) .inside))
+    (λ c. search needs)
+    (λ c. omega (arith, at-tables (at-low c) .area-end .ensures))
+    (λ c. search needs)
+    (λ c. let x = at-tables (at-low c) in omega (arith, x .area-end .ensures, lies (at-end x) .inside))
     list-area-requires
     (λ c. omega (arith, records (c .before .before .before .before) .1))
     (λ c. let d = c .before .before .before .before .before in omega (arith, reads d .free-inside, small (at-end (at-list d))))
     (λ c. let d = c .before .before .before .before .before in let e = at-end (at-list d) in omega (arith, reads d .free-inside, area-long _ _ _ _ (counted e .count-good-areas .ensures) (e .if1 .left)))
-    (λ c. c .before .before .before .before .before .list-area .kept .1 .1 .0)
+    (λ c. c .before .before .before .before .before .list-area .kept .1 .1 .1 .1 .0)
     returns-2)
