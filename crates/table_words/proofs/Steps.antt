@@ -1,15 +1,39 @@
 -- One turn of each loop, and the store of one word, as laws of lists.
 use mathlib.Core.List.{List, [], _∷_, _++_}
-use mathlib.Core.Path.{_≡_, ap}
+use mathlib.Core.Path.{_≡_, refl, ap}
+use mathlib.Core.Logic.{_≢_}
+use mathlib.Core.Bool.{Bool, true, false, _||_}
+use lib.Dec.{eqb}
+use borrow.Author.Tests.{eqb-false}
 use Prim.Native.Nat.{ℕ, zero, suc, _+_, _*_, _≤_, _<_}
 use native.Mathlib.Nat.{suc-add}
 use native.Mathlib.Numerals.{add-one}
 use native.Mathlib.Omega.{arith}
 use lib.ListN.{length, set, getD, take, drop, drop-of-length-le}
 use lib.Seq.{drop-cons, getD-take, length-take-le, set-append-left}
-use Rattle.table_words.specs.Position.{positionOf}
+use Rattle.table_words.specs.Position.{positionOf, Before, inFour}
 use Rattle.table_words.specs.Occupancy.{digits, bits, firstZero, total}
 use Rattle.table_words.specs.Laws.{position-hit, position-miss, position-left, position-right, total-append, length-digits}
+
+-- ---- four numbers, none of which is x
+
+or-false : (a b : Bool) → (a || b) ≡ false → (a ≡ false) × (b ≡ false)
+or-false true b e = let z : _≡_ {A = ℕ} 0 1 = cc in absurd (omega arith)
+or-false false b e = (refl, e)
+
+record NoneOfFour (l : List ℕ) (i x : ℕ) : Type 0 where
+  first : getD l i 0 ≢ x
+  second : getD l (i + 1) 0 ≢ x
+  third : getD l (i + 2) 0 ≢ x
+  fourth : getD l (i + 3) 0 ≢ x
+
+none-of-four : (l : List ℕ) (i x : ℕ) → inFour l i x ≡ false → NoneOfFour l i x
+unfolding inFour
+none-of-four l i x e =
+    let c = or-false ((eqb (getD l i 0) x || eqb (getD l (i + 1) 0) x) || eqb (getD l (i + 2) 0) x) (eqb (getD l (i + 3) 0) x) e in
+    let b = or-false (eqb (getD l i 0) x || eqb (getD l (i + 1) 0) x) (eqb (getD l (i + 2) 0) x) (c .0) in
+    let a = or-false (eqb (getD l i 0) x) (eqb (getD l (i + 1) 0) x) (b .0) in
+    record { first = eqb-false _ _ (a .0); second = eqb-false _ _ (a .1); third = eqb-false _ _ (b .1); fourth = eqb-false _ _ (c .1) }
 
 -- ---- the search of the first n of a list's numbers, at i
 
@@ -26,6 +50,33 @@ module _ (x n i : ℕ) (l : List ℕ) (within : n ≤ length l) where
   pub search-end : n ≤ i → positionOf x (drop i (take n l)) ≡ 0
   unfolding positionOf
   search-end h = rw (drop-of-length-le (take n l) {i = i} (rw (length-take-le n l within) h))
+
+-- x is not among the first none; one number more is not x, four more, and eight more
+pub before-none : (x : ℕ) (l : List ℕ) → Before x l 0
+before-none x l = record { within = omega arith; rest = omega arith }
+
+module _ (x n : ℕ) (l : List ℕ) (within : n ≤ length l) where
+  before-one : (i : ℕ) → i < n → getD l i 0 ≢ x → Before x (take n l) i → Before x (take n l) (i + 1)
+  before-one i h d b = record {
+    within = omega (arith, length-take-le n l within);
+    rest = omega (arith, b .rest, search-miss x n i l within h d);
+  }
+
+  before-four : (i : ℕ) → i + 4 ≤ n → inFour l i x ≡ false → Before x (take n l) i → Before x (take n l) (i + 4)
+  before-four i h e b =
+      let d = none-of-four l i x e in
+      let p : i + 1 + 1 ≡ i + 2 = omega arith in
+      let q : i + 2 + 1 ≡ i + 3 = omega arith in
+      let r : i + 3 + 1 ≡ i + 4 = omega arith in
+      rw r at (before-one (i + 3) (omega arith) (d .fourth)
+      (rw q at (before-one (i + 2) (omega arith) (d .third)
+      (rw p at (before-one (i + 1) (omega arith) (d .second) (before-one i (omega arith) (d .first) b))))))
+
+  pub before-eight : (i : ℕ) → i + 8 ≤ n → (inFour l i x || inFour l (i + 4) x) ≡ false → Before x (take n l) i → Before x (take n l) (i + 8)
+  before-eight i h e b =
+      let d = or-false (inFour l i x) (inFour l (i + 4) x) e in
+      let p : i + 4 + 4 ≡ i + 8 = omega arith in
+      rw p at (before-four (i + 4) (omega arith) (d .1) (before-four i (omega arith) (d .0) b))
 
 -- ---- the words from i on
 

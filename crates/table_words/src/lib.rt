@@ -1,9 +1,9 @@
 // Which places of a table are taken, one bit to a place in lent words, and where an id stands among a table's ids.
 // The claims are made over the list of all places, so they are the same for any number of words up to `mostWords`.
 ghost use mathlib.Core.Path.{_≡_};
-ghost use Prim.Native.Nat.{_<_, _≤_};
+ghost use Prim.Native.Nat.{_+_, _<_, _≤_};
 ghost use lib.ListN.{length, set, take};
-ghost use Rattle.table_words.specs.Position.{positionOf};
+ghost use Rattle.table_words.specs.Position.{positionOf, inFour, Before};
 ghost use Rattle.table_words.specs.Occupancy.{digits, bits, capacity, mostWords, firstZero, total};
 
 // The places of one word, a bit each: 1 for a taken place.
@@ -50,13 +50,36 @@ pub fn occupy(words: &mut [u64], place: usize)
     words[i] = with_place(words[i], place % BITS);
 }
 
+// Whether `id` stands among the four ids from `at` on. No test waits for another, so that compiled code makes them together.
+fn in_four(ids: &[u32], at: usize, id: u32) -> bool
+    requires { ⌜ at + 4 ≤ length (now ids) ⌝ }
+    ensures { λ r. ⌜ r ≡ inFour (now (ids .entry)) at id ⌝ }
+{
+    (ids[at] == id) | (ids[at + 1] == id) | (ids[at + 2] == id) | (ids[at + 3] == id)
+}
+
+// How many of the first `n` ids, by eights, are before the first eight with `id`.
+fn eights_without(ids: &[u32], n: usize, id: u32) -> usize
+    requires { ⌜ n ≤ length (now ids) ⌝ }
+    ensures { λ r. ⌜ Before id (take n (now (ids .entry))) r ⌝ }
+{
+    let mut i = 0;
+    while i + 8 <= n {
+        if in_four(ids, i, id) | in_four(ids, i + 4, id) {
+            return i;
+        }
+        i += 8;
+    }
+    i
+}
+
 // Where `id` first stands among the first `n` of `ids`, or `n` where it does not.
 pub fn position(ids: &[u32], n: usize, id: u32) -> usize
     requires { ⌜ n ≤ length (now ids) ⌝ }
     ensures first { λ r. ⌜ r ≡ positionOf id (take n (now (ids .entry))) ⌝ }
     ensures within { λ r. ⌜ r ≤ n ⌝ }
 {
-    let mut i = 0;
+    let mut i = eights_without(ids, n, id);
     while i < n {
         if ids[i] == id {
             return i;

@@ -3,6 +3,7 @@ use Prim.Native.Nat.{_+_, _-_, _≤_}
 use mathlib.Core.Path.{_≡_}
 use native.Mathlib.Omega.{arith}
 use lib.ListN.{take, drop}
+use lib.Seq.{length-take-le}
 use borrow.Author.Needs.{needs}
 use Rattle.table_words.specs.Position.{positionOf}
 use Rattle.table_words.proofs.Steps.{search-hit, search-miss, search-end}
@@ -15,22 +16,30 @@ Inv-loop ids n id i₀ i = (i ≤ n) × (positionOf id (take n ids) ≡ i + posi
 abbrev μ-loop : tie.MeasureT-loop
 μ-loop ids n id i₀ i = n - i
 
+loop-holds : tie.Need-loop-holds Inv-loop μ-loop
+loop-holds c =
+    let s = c .before .before in
+    (omega (arith, c .eights-without .ensures .within, length-take-le (s .args .n) (s .args .ids .now) (s .pre)), c .eights-without .ensures .rest)
+
 returns : tie.Need-returns Inv-loop μ-loop
 returns c =
     let at = c .before .before .before in
-    let a = at .before .args in
+    let s = at .before .before .before in
+    let a = s .args in
     let e = search-hit (a .id) (a .n) (at .loop .i) (a .ids .now) (omega arith) (omega arith) (c .if1 .taken) in
     (omega arith, omega arith)
 
 loop-again : tie.Need-loop-again Inv-loop μ-loop
 loop-again c =
     let at = c .before .before .before in
-    let a = at .before .args in
+    let s = at .before .before .before in
+    let a = s .args in
     omega (arith, search-miss (a .id) (a .n) (at .loop .i) (a .ids .now) (omega arith) (omega arith) (c .if1 .left))
 
 returns-2 : tie.Need-returns-2 Inv-loop μ-loop
 returns-2 c =
-    let a = c .before .before .args in
+    let s = c .before .before .before .before in
+    let a = s .args in
     let e = search-end (a .id) (a .n) (c .before .loop .i) (a .ids .now) (omega arith) (omega arith) in
     (omega arith, omega arith)
 
@@ -40,7 +49,8 @@ position-spec =
     (tie.spec
     Inv-loop
     μ-loop
-    (λ c. search needs)
+    (λ c κs. search needs)
+    loop-holds
     (λ c. search needs)
     (λ c. search needs)
     returns
