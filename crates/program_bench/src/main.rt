@@ -1,10 +1,13 @@
 // Document 01, "Measured on the bench": the check's published value, and the area of 4,096 bytes, as it is and with each named flip.
 ghost use mathlib.Core.Path.{_≡_};
 ghost use lib.ListN.{length};
+ghost use Rattle.crc_laws.specs.Table.{Tables};
 use area_pass::list_area;
 use area_read::HEADER_SIZE;
 use area_read::next_record;
 use byte_crc16::check;
+use byte_crc16::high_table;
+use byte_crc16::low_table;
 
 // The area's header, the root at 24, the file "a" at 44, its block of 10 at 65 and its block of 5 at 99; FF follows.
 const BENCH: [u8; 128] = [
@@ -163,11 +166,12 @@ fn show_record(at: usize, size: usize) -> usize {
 }
 
 // What the reading of an area comes to: stretches of damage, their bytes, the first of them (T-08), and where free space starts.
-fn show_reading(area: &[u8])
+fn show_reading(high: &[u16], low: &[u16], area: &[u8])
+    requires tables { ⌜ Tables (now high) (now low) ⌝ }
     requires { ⌜ length (now area) ≡ 4096 ⌝ }
 {
     let mut places = [0u16; PLACES];
-    let pass = list_area(area, 0, &mut places[..], 0, 0);
+    let pass = list_area(high, low, area, 0, &mut places[..], 0, 0);
     let damage = pass.damage;
     show(b"stretches ", damage.stretches as usize);
     show(b" skipped ", damage.skipped as usize);
@@ -181,16 +185,18 @@ fn show_reading(area: &[u8])
 fn show_area(area: &[u8])
     requires { ⌜ length (now area) ≡ 4096 ⌝ }
 {
+    let high = high_table();
+    let low = low_table();
     let mut at = HEADER_SIZE;
     let mut left: usize = 8;
     while 0 < left {
-        let next = next_record(area, at);
+        let next = next_record(&high, &low, area, at);
         if next.size != 0 {
             at = show_record(next.at, next.size);
         }
         left -= 1;
     }
-    show_reading(area);
+    show_reading(&high, &low, area);
 }
 
 // The check of document 01's nine digits; then the bench area as it is, and with one bit changed at a time.
