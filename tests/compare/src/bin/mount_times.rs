@@ -1,1 +1,277 @@
-fn main() {}
+//! How long the proved mount and the proved calls take beside the baseline's, in one run: `tools/bench-mount` builds what it links. Without an argument
+//! the kinds of image, the calls and hostile images; with `growth` tables against the image's length and the number of ids.
+
+use std::hint::black_box;
+use std::process::ExitCode;
+use std::time::Instant;
+
+#[path = "../mount_alone.rs"]
+mod mount_alone;
+
+use mount_alone::Tables;
+use nffs::{raw, Area};
+use nffs_baseline::{self as baseline, Volume};
+use nffs_compare::mounted::of_baseline;
+use nffs_compare::volumes::{self, Named};
+use nffs_model::forge::Flash;
+use nffs_model::layout::FIRST_FILE;
+
+/// The greatest ratio of a mount (T-10).
+const MOST: f64 = 1.5;
+/// Of a call.
+const MOST_OF_CALL: f64 = 1.2;
+const ROUNDS: usize = 400;
+/// Hostile images take long.
+const HOSTILE_ROUNDS: usize = 40;
+/// A measurement lasts about so long at least, in microseconds: short mounts are repeated in it.
+const LASTS: f64 = 100.0;
+
+/// Microseconds.
+struct Times {
+    least: f64,
+    median: f64,
+}
+
+impl Times {
+    fn of(mut measured: Vec<f64>) -> Times {
+        measured.sort_by(f64::total_cmp);
+        Times { least: measured[0], median: measured[measured.len() / 2] }
+    }
+}
+
+fn microseconds(work: &mut dyn FnMut(), times: usize) -> f64 {
+    let begin = Instant::now();
+    for _ in 0..times {
+        work();
+    }
+    begin.elapsed().as_secs_f64() * 1e6 / times as f64
+}
+
+/// Both in turn, so that what else the machine does meets both. `between`, which isn't timed, comes before each; with it nothing is repeated.
+fn in_turn(rounds: usize, ours: &mut dyn FnMut(), baseline: &mut dyn FnMut(), between: Option<&mut dyn FnMut()>) -> [Times; 2] {
+    let times = match between {
+        Some(_) => 1,
+        None => (LASTS / microseconds(baseline, 3)).ceil().clamp(1.0, 1_000.0) as usize,
+    };
+    let nothing: &mut dyn FnMut() = &mut || ();
+    let between = between.unwrap_or(nothing);
+    let mut measured = [Vec::new(), Vec::new()];
+    for _ in 0..rounds {
+        between();
+        measured[0].push(microseconds(ours, times));
+        between();
+        measured[1].push(microseconds(baseline, times));
+    }
+    measured.map(Times::of)
+}
+
+/// Prints a line that ends in the ratio of the shortest times, which is the answer.
+fn line(name: &str, answer: u32, [ours, baseline]: &[Times; 2]) -> f64 {
+    let ratio = ours.least / baseline.least;
+    println!(
+        "{name}: answer {answer}, ours {:.2} (median {:.2}) us, baseline {:.2} (median {:.2}) us, medians {:.2}, ratio {ratio:.2}",
+        ours.least,
+        ours.median,
+        baseline.least,
+        baseline.median,
+        ours.median / baseline.median
+    );
+    ratio
+}
+
+/// The memory that the mounts are lent.
+struct Lent {
+    tables: Box<Tables>,
+    volume: Box<Volume>,
+}
+
+impl Lent {
+    /// Both find the same, or nothing is timed. The number.
+    fn same(&mut self, name: &str, flash: &Flash) -> u32 {
+        let ours = self.tables.answer(&flash.image, &flash.areas);
+        let baseline = of_baseline(&flash.image, &flash.areas, &mut self.volume);
+        assert!(ours == baseline, "{name}: ours {ours:?}, baseline {baseline:?}");
+        baseline.err().unwrap_or(0)
+    }
+
+    fn mounts(&mut self, rounds: usize, flash: &Flash) -> [Times; 2] {
+        let Lent { tables, volume } = self;
+        let (image, areas) = (&flash.image[..], &flash.areas[..]);
+        let mut ours = || {
+            black_box(tables.mount(black_box(image), black_box(areas)));
+        };
+        let mut baseline = || {
+            black_box(baseline::mount(black_box(image), black_box(areas), black_box(volume)));
+        };
+        in_turn(rounds, &mut ours, &mut baseline, None)
+    }
+
+    /// A line for each image; those with a greater ratio than this, and the greatest times of both.
+    fn lines(&mut self, rounds: usize, images: &[Named]) -> (Vec<&'static str>, [f64; 2]) {
+        let (mut over, mut greatest) = (Vec::new(), [0.0_f64; 2]);
+        for (name, flash) in images {
+            let answer = self.same(name, flash);
+            let times = self.mounts(rounds, flash);
+            if line(name, answer, &times) > MOST {
+                over.push(*name);
+            }
+            greatest = [greatest[0].max(times[0].least), greatest[1].max(times[1].least)];
+        }
+        (over, greatest)
+    }
+}
+
+/// What a call is given.
+struct Given {
+    areas: Vec<u32>,
+    listed: Vec<Area>,
+    /// Of the first file.
+    path: Vec<u8>,
+}
+
+/// A call on the proved code and on the baseline; their numbers.
+struct Call {
+    name: &'static str,
+    ours: fn(&mut [u8], &Given) -> u32,
+    baseline: fn(&mut [u8], &Given, &mut Volume) -> u32,
+}
+
+const CALLS: [Call; 8] = [
+    Call {
+        name: "report",
+        ours: |image, g| raw::report(image, &g.listed).number,
+        baseline: |image, g, v| baseline::report(image, &g.areas, v).number,
+    },
+    Call {
+        name: "lookup",
+        ours: |image, g| raw::lookup(image, &g.listed, b"", &g.path).number,
+        baseline: |image, g, v| baseline::lookup(image, &g.areas, b"", &g.path, v).number,
+    },
+    Call {
+        name: "open",
+        ours: |image, g| raw::open(image, &g.listed, b"", &g.path).number,
+        baseline: |image, g, v| baseline::open(image, &g.areas, b"", &g.path, v).number,
+    },
+    Call {
+        name: "read",
+        ours: |image, g| raw::read_at(image, &g.listed, FIRST_FILE, 0, black_box(&mut [0; 4096])).number,
+        baseline: |image, g, v| baseline::read_at(image, &g.areas, FIRST_FILE, 0, black_box(&mut [0; 4096]), v).number,
+    },
+    Call {
+        name: "create",
+        ours: |image, g| raw::create(image, &g.listed, b"", b"/new", 1).number,
+        baseline: |image, g, v| baseline::create(image, &g.areas, b"", b"/new", 1, v).number,
+    },
+    Call {
+        name: "append",
+        ours: |image, g| raw::append(image, &g.listed, b"", &g.path, &[7; 100]),
+        baseline: |image, g, v| baseline::append(image, &g.areas, b"", &g.path, &[7; 100], v),
+    },
+    Call {
+        name: "unlink",
+        ours: |image, g| raw::unlink(image, &g.listed, b"", &g.path),
+        baseline: |image, g, v| baseline::unlink(image, &g.areas, b"", &g.path, v),
+    },
+    Call {
+        name: "collect",
+        ours: |image, g| raw::collect(image, &g.listed),
+        baseline: |image, g, v| baseline::collect(image, &g.areas, v),
+    },
+];
+
+/// The volumes that the calls are timed on, each with the path of its first file.
+fn volumes_of_calls() -> [(&'static str, Flash, Vec<u8>); 2] {
+    [
+        ("nearly full", volumes::nearly_full(), [&b"/"[..], &[b'n'; 80], b"0"].concat()),
+        ("1,024 blocks, 256 inodes", volumes::full_tables(), b"/000".to_vec()),
+    ]
+}
+
+/// One call on one volume: the ratio. Both leave the same image and answer the same number, or nothing is timed.
+fn time_call(name: &str, call: &Call, flash: &Flash, path: &[u8], volume: &mut Volume) -> f64 {
+    let listed = flash.areas.chunks_exact(2).map(|pair| Area { offset: pair[0], length: pair[1] }).collect();
+    let given = Given { areas: flash.areas.clone(), listed, path: path.to_vec() };
+    let (mut left, mut right) = (flash.image.clone(), flash.image.clone());
+    let number = (call.ours)(&mut left, &given);
+    assert_eq!(number, (call.baseline)(&mut right, &given, volume), "{} on {name}", call.name);
+    assert!(left == right, "{} on {name}: the images differ", call.name);
+
+    // one image for both, as it was before each call
+    let image = std::cell::RefCell::new(left);
+    let mut ours = || {
+        black_box((call.ours)(black_box(&mut image.borrow_mut()[..]), &given));
+    };
+    let mut baseline = || {
+        black_box((call.baseline)(black_box(&mut image.borrow_mut()[..]), &given, volume));
+    };
+    let mut between = || image.borrow_mut().copy_from_slice(&flash.image);
+    let times = in_turn(ROUNDS, &mut ours, &mut baseline, Some(&mut between));
+    line(&format!("{}, {name}", call.name), number, &times)
+}
+
+/// A line for each call on each volume: the greatest ratio.
+fn calls(volume: &mut Volume) -> f64 {
+    let mut greatest = 0.0_f64;
+    for (name, flash, path) in volumes_of_calls() {
+        for call in &CALLS {
+            greatest = greatest.max(time_call(name, call, &flash, &path, volume));
+        }
+    }
+    greatest
+}
+
+fn bench(lent: &mut Lent) -> ExitCode {
+    println!("== the mount by itself");
+    let (over, _) = lent.lines(ROUNDS, &volumes::kinds());
+    println!("== calls, each of which mounts");
+    let greatest = calls(&mut lent.volume);
+    println!("calls: the greatest ratio is {greatest:.2}, wanted {MOST_OF_CALL:.2}");
+    println!("== hostile images, the mount by itself");
+    let (_, [ours, baseline]) = lent.lines(HOSTILE_ROUNDS, &volumes::hostile());
+    println!("hostile: ours at most {ours:.0} us, the baseline at most {baseline:.0} us");
+    for name in &over {
+        println!("FAILED: {name}: the ratio is above {MOST}");
+    }
+    ExitCode::from(u8::from(!over.is_empty()))
+}
+
+/// A row of a Markdown table: the least times of both in microseconds.
+fn row(lent: &mut Lent, kind: &str, x: usize, flash: &Flash) {
+    assert_eq!(lent.same(kind, flash), 0, "{kind}, {x}");
+    let [ours, baseline] = lent.mounts(ROUNDS, flash);
+    println!("| {kind} | {x} | {:.2} | {:.2} | {:.2} |", ours.least, baseline.least, ours.least / baseline.least);
+}
+
+/// Eight areas share the image; the ids stand in 1,024 records each time.
+fn growth(lent: &mut Lent) {
+    println!("| Image | KiB | Ours, us | Baseline, us | Ratio |\n|---|---|---|---|---|");
+    let kinds: [(&str, fn(usize) -> Flash); 3] = [
+        ("fresh", |length| volumes::volume(8, length)),
+        ("full of greatest blocks", volumes::greatest_blocks),
+        ("the most records", |length| volumes::most_records(8, length)),
+    ];
+    for (kind, make) in kinds {
+        for kib in [8, 16, 32, 64] {
+            row(lent, kind, kib, &make(kib << 10));
+        }
+    }
+    println!("\n| Image | Ids | Ours, us | Baseline, us | Ratio |\n|---|---|---|---|---|");
+    for count in [64, 128, 256, 512, 1024] {
+        row(lent, "1,024 records", count, &volumes::ids(count as u32));
+    }
+}
+
+fn main() -> ExitCode {
+    let mut lent = Lent { tables: Tables::new(), volume: Box::default() };
+    match std::env::args().nth(1).as_deref() {
+        None => bench(&mut lent),
+        Some("growth") => {
+            growth(&mut lent);
+            ExitCode::SUCCESS
+        }
+        Some(other) => {
+            eprintln!("mount_times: what is {other}? There is `growth`.");
+            ExitCode::from(2)
+        }
+    }
+}
