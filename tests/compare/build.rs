@@ -1,5 +1,6 @@
-//! With the feature `check`: finds the archives that `rt staticlib crc16_alone` and `rt staticlib mount_alone` write, in one folder. NFFS_ARCHIVE names
-//! it; without it the repository's target/staticlib is taken. CRC16_BEFORE, if set, names the folder of libcrc16_before.a, the check of another commit (`check-times`).
+//! With the feature `check`: finds the archives that `rt staticlib crc16_alone` and `rt staticlib mount_alone` write. NFFS_ARCHIVE names their
+//! folder; without it the repository's target/staticlib is taken. CRC16_BEFORE, if set, names the folder of libcrc16_before.a, the check of another
+//! commit (`check-times`).
 
 use std::env;
 use std::path::{Path, PathBuf};

@@ -1,5 +1,5 @@
-//! The proved mount by itself, from the archive that `rt staticlib mount_alone` writes. Not of the library: its programs and tests that use it ask for
-//! the feature `check`.
+//! The proved mount by itself, from the archive that `rt staticlib mount_alone` writes. Not of the library: its programs and tests that use it ask
+//! for the feature `check`.
 
 use nffs_compare::mounted::Mounted;
 
@@ -23,9 +23,9 @@ const FILES: usize = 16;
 const INODES: usize = 256;
 const BLOCKS: usize = 1024;
 
-/// What the mount fills. Tables: for the file areas four columns (starts, lengths, stretches, starts of free space), then inode ids, the places of their
-/// counting records, block ids and those of theirs. Numbers: files, records, inodes, blocks, stretches, skipped bytes, the first stretch's offset and
-/// length, the scratch area's offset and length.
+/// What the mount fills. Tables: for the file areas four columns (starts, lengths, stretches, starts of free space), then inode ids, the places of
+/// their counting records, block ids and those of theirs. Numbers: files, records, inodes, blocks, stretches, skipped bytes, the first stretch's
+/// offset and length, the scratch area's offset and length.
 pub struct Tables {
     tables: [u32; 4 * FILES + 2 * INODES + 2 * BLOCKS],
     places: [u16; 3276],

@@ -21,6 +21,29 @@ pub struct Mounted {
     pub scratch: [u32; 2],
 }
 
+/// What two answers differ in, so far as it can be told in a line.
+pub fn difference(a: &Result<Mounted, u32>, b: &Result<Mounted, u32>) -> Option<String> {
+    let (Ok(left), Ok(right)) = (a, b) else {
+        let number = |answer: &Result<Mounted, u32>| answer.as_ref().err().copied().unwrap_or(0);
+        return (a != b).then(|| format!("numbers {} and {}", number(a), number(b)));
+    };
+    first("file area", &left.files, &right.files)
+        .or_else(|| first("place", &left.places, &right.places))
+        .or_else(|| first("inode", &left.inodes, &right.inodes))
+        .or_else(|| first("block", &left.blocks, &right.blocks))
+        .or_else(|| first("damage", &left.damage, &right.damage))
+        .or_else(|| first("scratch", &left.scratch, &right.scratch))
+}
+
+/// The first row that differs.
+fn first<T: PartialEq + std::fmt::Debug>(what: &str, a: &[T], b: &[T]) -> Option<String> {
+    if a.len() != b.len() {
+        return Some(format!("{what}: {} and {} of them", a.len(), b.len()));
+    }
+    let at = (0..a.len()).find(|at| a[*at] != b[*at])?;
+    Some(format!("{what} {at}: {:?} and {:?}", a[at], b[at]))
+}
+
 /// The baseline's answer.
 pub fn of_baseline(image: &[u8], areas: &[u32], volume: &mut Volume) -> Result<Mounted, u32> {
     match nffs_baseline::mount(image, areas, volume) {

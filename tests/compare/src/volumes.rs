@@ -58,14 +58,11 @@ pub fn greatest_blocks(length: usize) -> Flash {
     let mut flash = volume(AREAS, length);
     flash.inode(0, FIRST_FILE, 0, ROOT, b"a");
     let (mut r, greatest) = (Random::new(1), greatest_block(length / AREAS));
-    let (mut id, mut previous) = (FIRST_BLOCK, NONE);
-    for area in 0..AREAS - 1 {
-        while flash.room(area) > Block::HEADER {
-            let data = r.bytes(greatest.min(flash.room(area) - Block::HEADER));
-            flash.block(area, id, 0, FIRST_FILE, previous, &data);
-            previous = id;
-            id += 1;
-        }
+    for id in FIRST_BLOCK.. {
+        let Some(area) = (0..AREAS - 1).find(|area| flash.room(*area) > Block::HEADER) else { break };
+        let data = r.bytes(greatest.min(flash.room(area) - Block::HEADER));
+        let previous = if id == FIRST_BLOCK { NONE } else { id - 1 };
+        flash.block(area, id, 0, FIRST_FILE, previous, &data);
     }
     flash
 }
@@ -105,8 +102,8 @@ fn least(id: u32, sequence: u32) -> Vec<u8> {
     }
 }
 
-/// The newest version of each of 1,024 blocks and 256 inodes first, ids falling; then older and older ones as long as there is room, those first whose
-/// ids were seen last, blocks and inodes in turn. Every record that follows is about an id far down a table, and none of them counts.
+/// The newest version of each of 1,024 blocks and 256 inodes first, ids falling; then older and older ones as long as there is room, those first
+/// whose ids were seen last, blocks and inodes in turn. Every record that follows is about an id far down a table, and none of them counts.
 fn worst_order() -> Flash {
     const NEWEST: u32 = 1_000_000;
     let mut flash = headed(AREAS, IMAGE);
@@ -129,13 +126,11 @@ pub fn most_records(areas: usize, length: usize) -> Flash {
     flash
 }
 
-/// Every hundredth byte of each file area is altered; the first header and the root are not.
+/// Every hundredth byte of each file area is altered; the headers and the root are not.
 fn damaged(mut flash: Flash) -> Flash {
-    for area in 0..AREAS - 1 {
-        let (offset, length) = (flash.offset(area), flash.length(area));
-        for at in (100..length).step_by(100) {
-            flash.image[offset + at] ^= 0xff;
-        }
+    let offsets = |area| (100..IMAGE / AREAS).step_by(100).map(move |at| area * (IMAGE / AREAS) + at);
+    for at in (0..AREAS - 1).flat_map(offsets) {
+        flash.image[at] ^= 0xff;
     }
     flash
 }
@@ -143,11 +138,10 @@ fn damaged(mut flash: Flash) -> Flash {
 /// Behind the headers and the root the file areas are as this says of each offset in the image.
 fn rest_by(mut byte: impl FnMut(usize) -> u8) -> Flash {
     let mut flash = volume(AREAS, IMAGE);
-    for area in 0..AREAS - 1 {
-        let (from, to) = (flash.offset(area) + flash.next(area), flash.offset(area) + flash.length(area));
-        for at in from..to {
-            flash.image[at] = byte(at);
-        }
+    let rest = |area| flash.offset(area) + flash.next(area)..flash.offset(area) + flash.length(area);
+    let offsets: Vec<usize> = (0..AREAS - 1).flat_map(rest).collect();
+    for at in offsets {
+        flash.image[at] = byte(at);
     }
     flash
 }
@@ -170,8 +164,11 @@ fn starts_of_magics(bytes: usize) -> Flash {
 }
 
 /// Ids that differ by multiples of these agree in the bits that an index of so many slots might take them by.
-const STEPS: [(u32, &str); 3] =
-    [(1_024, "ids that differ by multiples of 1,024"), (4_096, "ids that differ by multiples of 4,096"), (1 << 20, "ids that differ by multiples of 2^20")];
+const STEPS: [(u32, &str); 3] = [
+    (1_024, "ids that differ by multiples of 1,024"),
+    (4_096, "ids that differ by multiples of 4,096"),
+    (1 << 20, "ids that differ by multiples of 2^20"),
+];
 
 /// What would take long if an index were taken in, or a check believed in before it is worked out.
 pub fn hostile() -> Vec<Named> {

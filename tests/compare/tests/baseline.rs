@@ -1,5 +1,5 @@
-//! The baseline that the mount's time is measured against: it finds what the proved mount finds, number, tables, places and damage, and what the model
-//! finds; and its calls answer as the model's do. Nothing is timed before this holds.
+//! The baseline that the mount's time is measured against: it finds what the proved mount finds, number, tables, places and damage, and what the
+//! model finds; and its calls answer as the model's do. Nothing is timed before this holds.
 
 #[path = "../src/mount_alone.rs"]
 mod mount_alone;
@@ -9,7 +9,7 @@ use std::collections::BTreeMap;
 use mount_alone::Tables;
 use nffs_baseline::Volume;
 use nffs_compare::baseline::Baseline;
-use nffs_compare::mounted::{of_baseline, of_model};
+use nffs_compare::mounted::{difference, of_baseline, of_model};
 use nffs_compare::volumes;
 use nffs_model::compare::{compare, run as run_case, show, Call, Case, Model, Side, Tally};
 use nffs_model::forge::Flash;
@@ -36,9 +36,13 @@ impl Mounts {
     fn same(&mut self, image: &[u8], areas: &[u32], at: &dyn Fn() -> String) -> u32 {
         let proved = self.tables.answer(image, areas);
         let baseline = of_baseline(image, areas, &mut self.volume);
-        assert!(proved == baseline, "{}: proved {proved:?}, baseline {baseline:?}", at());
         let model = of_model(image, areas);
-        assert!(model == baseline, "{}: model {model:?}, baseline {baseline:?}", at());
+        if let Some(what) = difference(&model, &baseline) {
+            panic!("{}: model and baseline: {what}", at());
+        }
+        if let Some(what) = difference(&proved, &baseline) {
+            panic!("{}: proved and baseline: {what}", at());
+        }
         let number = baseline.as_ref().err().copied().unwrap_or(0);
         *self.answers.entry(number).or_default() += 1;
         if let Ok(found) = baseline {
@@ -51,7 +55,13 @@ impl Mounts {
 
 impl Drop for Mounts {
     fn drop(&mut self) {
-        println!("{} mounts by number: {:?}; {} records, {} stretches", self.answers.values().sum::<u64>(), self.answers, self.records, self.stretches);
+        println!(
+            "{} mounts by number: {:?}; {} records, {} stretches",
+            self.answers.values().sum::<u64>(),
+            self.answers,
+            self.records,
+            self.stretches
+        );
     }
 }
 

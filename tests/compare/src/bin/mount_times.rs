@@ -1,5 +1,5 @@
-//! How long the proved mount and the proved calls take beside the baseline's, in one run: `tools/bench-mount` builds what it links. Without an argument
-//! the kinds of image, the calls and hostile images; with `growth` tables against the image's length and the number of ids.
+//! How long the proved mount and the proved calls take beside the baseline's, in one run: `tools/bench-mount` builds what it links. Without an
+//! argument the kinds of image, the calls and hostile images; with `growth` tables against the image's length and the number of ids.
 
 use std::hint::black_box;
 use std::process::ExitCode;
@@ -11,7 +11,7 @@ mod mount_alone;
 use mount_alone::Tables;
 use nffs::{raw, Area};
 use nffs_baseline::{self as baseline, Volume};
-use nffs_compare::mounted::of_baseline;
+use nffs_compare::mounted::{difference, of_baseline};
 use nffs_compare::volumes::{self, Named};
 use nffs_model::forge::Flash;
 use nffs_model::layout::FIRST_FILE;
@@ -90,7 +90,7 @@ impl Lent {
     fn same(&mut self, name: &str, flash: &Flash) -> u32 {
         let ours = self.tables.answer(&flash.image, &flash.areas);
         let baseline = of_baseline(&flash.image, &flash.areas, &mut self.volume);
-        assert!(ours == baseline, "{name}: ours {ours:?}, baseline {baseline:?}");
+        assert_eq!(difference(&ours, &baseline), None, "{name}: ours and the baseline's");
         baseline.err().unwrap_or(0)
     }
 
@@ -172,11 +172,7 @@ const CALLS: [Call; 8] = [
         ours: |image, g| raw::unlink(image, &g.listed, b"", &g.path),
         baseline: |image, g, v| baseline::unlink(image, &g.areas, b"", &g.path, v),
     },
-    Call {
-        name: "collect",
-        ours: |image, g| raw::collect(image, &g.listed),
-        baseline: |image, g, v| baseline::collect(image, &g.areas, v),
-    },
+    Call { name: "collect", ours: |image, g| raw::collect(image, &g.listed), baseline: |image, g, v| baseline::collect(image, &g.areas, v) },
 ];
 
 /// The volumes that the calls are timed on, each with the path of its first file.
