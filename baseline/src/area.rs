@@ -73,14 +73,16 @@ pub fn read(
     Ok(reading)
 }
 
-/// So many bytes are looked at at once.
-const LANES: usize = 32;
+/// So many bytes are looked at at once for FF, and so many places for a magic:
+/// where one is found, they are gone through one by one.
+const ERASED: usize = 32;
+const LANES: usize = 16;
 
 /// Where the FF bytes up to the area's end begin, behind the header.
 fn written(area: &[u8]) -> usize {
     let body = &area[HEADER..];
-    let erased = body.rchunks_exact(LANES).take_while(|lanes| **lanes == [0xff; LANES]).count();
-    let rest = &body[..body.len() - LANES * erased];
+    let erased = body.rchunks_exact(ERASED).take_while(|lanes| **lanes == [0xff; ERASED]).count();
+    let rest = &body[..body.len() - ERASED * erased];
     let more = rest.iter().rev().take_while(|byte| **byte == 0xff).count();
     HEADER + rest.len() - more
 }
