@@ -27,6 +27,7 @@ pub fn kinds() -> Vec<Named> {
         ("every byte the first of a magic", starts_of_magics(1)),
         ("every two bytes the first of a magic", starts_of_magics(2)),
         ("random bytes", rest_drawn()),
+        // behind the headers and the root
         ("all zero", rest_by(|_| 0)),
     ]
 }
@@ -146,6 +147,7 @@ fn rest_by(mut byte: impl FnMut(usize) -> u8) -> Flash {
     flash
 }
 
+/// Behind the headers and the root seeded bytes, in which a first byte of a magic is met now and then and a whole one hardly ever.
 fn rest_drawn() -> Flash {
     let mut r = Random::new(2);
     rest_by(|_| r.draw() as u8)
