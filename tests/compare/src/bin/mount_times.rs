@@ -238,10 +238,13 @@ fn row(lent: &mut Lent, kind: &str, x: usize, flash: &Flash) {
     println!("| {kind} | {x} | {:.2} | {:.2} | {:.2} |", ours.least, baseline.least, ours.least / baseline.least);
 }
 
+/// A volume by the length of its image.
+type Make = fn(usize) -> Flash;
+
 /// Eight areas share the image; the ids stand in 1,024 records each time.
 fn growth(lent: &mut Lent) {
     println!("| Image | KiB | Ours, us | Baseline, us | Ratio |\n|---|---|---|---|---|");
-    let kinds: [(&str, fn(usize) -> Flash); 3] = [
+    let kinds: [(&str, Make); 3] = [
         ("fresh", |length| volumes::volume(8, length)),
         ("full of greatest blocks", volumes::greatest_blocks),
         ("the most records", |length| volumes::most_records(8, length)),
