@@ -2,8 +2,10 @@
 
 use crate::layout::word;
 use crate::mount::descriptors;
-use crate::record::{self, Record, BLOCK_MAGIC, INODE_MAGIC};
+use crate::ordinary::Ordinary;
+use crate::record::{self, Record};
 use crate::refusal::Refusal;
+use crate::style::Style;
 
 pub const HEADER: usize = 24;
 pub const MAGIC: [u32; 4] = [0xb98a_31e2, 0x7fb0_428c, 0xace0_8253, 0xb185_fc8e];
@@ -44,7 +46,7 @@ impl Reading {
 
 /// Gives each record with its offset to `take`, which may end the reading.
 #[inline]
-pub fn read(
+pub fn read<S: Style>(
     area: &[u8],
     asked: u32,
     mut take: impl FnMut(usize, Record) -> Result<(), Refusal>,
@@ -55,8 +57,8 @@ pub fn read(
     let mut end = HEADER;
     let mut at = HEADER;
     while at < written {
-        let Some(record) = record::acceptable(&area[at..]) else {
-            at = next_magic(area, at + 1, written);
+        let Some(record) = record::acceptable::<S>(&area[at..]) else {
+            at = S::next_start(area, at + 1, written);
             continue;
         };
         if at > end {
@@ -73,10 +75,8 @@ pub fn read(
     Ok(reading)
 }
 
-/// So many bytes are looked at at once for FF, and so many places for a magic:
-/// where one is found, they are gone through one by one.
+/// So many bytes are looked at at once for FF.
 const ERASED: usize = 32;
-const LANES: usize = 16;
 
 /// Where the FF bytes up to the area's end begin, behind the header.
 fn written(area: &[u8]) -> usize {
@@ -85,47 +85,6 @@ fn written(area: &[u8]) -> usize {
     let rest = &body[..body.len() - ERASED * erased];
     let more = rest.iter().rev().take_while(|byte| **byte == 0xff).count();
     HEADER + rest.len() - more
-}
-
-/// The first place from `at` on where a magic stands, `end` if there is none.
-fn next_magic(area: &[u8], at: usize, end: usize) -> usize {
-    let at = without_magic(area, at, end);
-    let is_magic = |at: &usize| {
-        let magic = area.get(*at..*at + 4).map(|bytes| word(bytes, 0));
-        magic == Some(INODE_MAGIC) || magic == Some(BLOCK_MAGIC)
-    };
-    (at..end).find(is_magic).unwrap_or(end)
-}
-
-/// Jumps over bytes as long as no magic begins at any of the next ones.
-#[inline]
-fn without_magic(area: &[u8], mut at: usize, end: usize) -> usize {
-    while at < end {
-        let Some(window) = area[at..].first_chunk() else { return at };
-        if begins_magic(window) {
-            return at;
-        }
-        at += LANES;
-    }
-    at
-}
-
-/// Whether a magic begins at one of the first lanes. No branch inside, so that
-/// the lanes are compared together.
-#[inline]
-fn begins_magic(window: &[u8; LANES + 3]) -> bool {
-    let (inode, block) = (INODE_MAGIC.to_le_bytes(), BLOCK_MAGIC.to_le_bytes());
-    let mut found = false;
-    for i in 0..LANES {
-        let is = |magic: &[u8; 4]| {
-            (window[i] == magic[0])
-                & (window[i + 1] == magic[1])
-                & (window[i + 2] == magic[2])
-                & (window[i + 3] == magic[3])
-        };
-        found |= is(&inode) | is(&block);
-    }
-    found
 }
 
 /// The report of one area: `kind` is 0 for an area that is passed over, 1 for a
@@ -162,7 +121,7 @@ fn try_area_report(
     let (offset, length) = *listed.get(index as usize).ok_or(Refusal::Descriptors)?;
     let area = &image[offset..offset + length];
     let mut records = 0;
-    let reading = read(area, stretch, |_, _| {
+    let reading = read::<Ordinary>(area, stretch, |_, _| {
         records += 1;
         Ok(())
     })?;

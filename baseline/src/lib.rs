@@ -1,6 +1,7 @@
 //! NFFS version 0 over a lent image in ordinary Rust, without proofs: what the
 //! proved calls are measured against (document 02, T-10). Written from the
-//! documents without sight of the proved code, and made to be fast.
+//! documents without sight of the proved code, and made to be fast. `mount` and
+//! the calls are those of the ordinary baseline; `tuned::mount` goes further.
 //!
 //! `areas` holds offset and length in turn. Every call mounts anew into a lent
 //! `Volume` and works on its tables. `number` is 0 or a refusal; a refused
@@ -17,10 +18,13 @@ pub mod file;
 pub mod layout;
 pub mod lookup;
 pub mod mount;
+pub mod ordinary;
 pub mod path;
 pub mod record;
 pub mod refusal;
+pub mod style;
 pub mod table;
+pub mod tuned;
 pub mod versions;
 pub mod write;
 

@@ -3,8 +3,10 @@
 use crate::area::{self, Reading, SCRATCH};
 use crate::fate::{fates, Fate};
 use crate::layout::{AREAS, BLOCKS, IMAGE, INODES, RECORDS, ROOT};
+use crate::ordinary::Ordinary;
 use crate::record::{bytes_at, Kind, Record, BLOCK_HEADER, DATA};
 use crate::refusal::{number, Refusal};
+use crate::style::Style;
 use crate::table::{Seen, Table};
 use crate::versions::Versions;
 
@@ -167,13 +169,23 @@ pub fn mount(image: &[u8], areas: &[u32], volume: &mut Volume) -> u32 {
     number(try_mount(image, areas, volume))
 }
 
+/// As every call mounts.
 pub fn try_mount(image: &[u8], areas: &[u32], volume: &mut Volume) -> Result<(), Refusal> {
+    try_mount_by::<Ordinary>(image, areas, volume)
+}
+
+pub fn try_mount_by<S: Style>(
+    image: &[u8],
+    areas: &[u32],
+    volume: &mut Volume,
+) -> Result<(), Refusal> {
     volume.clear();
     valid_areas(image, &descriptors(image, areas)?, volume)?;
     for file in 0..volume.files {
         let start = volume.areas[file].start as usize;
         let area = &image[start..start + volume.areas[file].length as usize];
-        let reading = area::read(area, 0, |at, record| volume.take(image, start + at, record))?;
+        let take = |at, record| volume.take(image, start + at, record);
+        let reading = area::read::<S>(area, 0, take)?;
         volume.areas[file].stretches = reading.stretches;
         volume.areas[file].free = reading.free;
         volume.add_damage(start, &reading);

@@ -1,7 +1,7 @@
 //! Acceptable records, and where their fields stand.
 
-use crate::crc;
 use crate::layout::{half, is_block, is_file, word, LAST_DIRECTORY, LAST_FILE, NONE, ROOT};
+use crate::style::Style;
 
 pub const INODE_MAGIC: u32 = 0x925f_8bc0;
 pub const BLOCK_MAGIC: u32 = 0x53ba_23b9;
@@ -9,10 +9,6 @@ pub const INODE_HEADER: usize = 20;
 pub const BLOCK_HEADER: usize = 24;
 /// The longest data of a block.
 pub const DATA: usize = 2048;
-
-/// The check begins with a magic, of which there are two.
-const AFTER_INODE_MAGIC: u16 = crc::after_magic(INODE_MAGIC);
-const AFTER_BLOCK_MAGIC: u16 = crc::after_magic(BLOCK_MAGIC);
 
 #[derive(Clone, Copy, Debug, PartialEq, Eq)]
 pub enum Kind {
@@ -31,17 +27,17 @@ pub struct Record {
 
 /// The record that starts at the front of `rest`, which ends with the area.
 #[inline(always)]
-pub fn acceptable(rest: &[u8]) -> Option<Record> {
+pub fn acceptable<S: Style>(rest: &[u8]) -> Option<Record> {
     match u32::from_le_bytes(*rest.first_chunk()?) {
-        INODE_MAGIC => inode(rest),
-        BLOCK_MAGIC => block(rest),
+        INODE_MAGIC => inode::<S>(rest),
+        BLOCK_MAGIC => block::<S>(rest),
         _ => None,
     }
 }
 
 /// Fields before the check: they cost less.
 #[inline]
-fn inode(rest: &[u8]) -> Option<Record> {
+fn inode<S: Style>(rest: &[u8]) -> Option<Record> {
     let header: &[u8; INODE_HEADER] = rest.first_chunk()?;
     let [id, sequence, parent] = [4, 8, 12].map(|at| word(header, at));
     let length = usize::from(header[17]);
@@ -53,10 +49,8 @@ fn inode(rest: &[u8]) -> Option<Record> {
     if id > LAST_FILE || header[16] != 0 || !parent_fits || !name_is_good(name) {
         return None;
     }
-    let covered: &[u8; 14] = header[4..].first_chunk()?;
-    let check = crc::update(crc::step(AFTER_INODE_MAGIC, covered), name);
     let record = Record { kind: Kind::Inode, id, sequence, size: INODE_HEADER + length };
-    (check == half(header, 18)).then_some(record)
+    (S::inode_check(header, name) == half(header, 18)).then_some(record)
 }
 
 /// No '/' and no NUL. All bytes are looked at, many at once.
@@ -66,7 +60,7 @@ pub fn name_is_good(name: &[u8]) -> bool {
 }
 
 #[inline]
-fn block(rest: &[u8]) -> Option<Record> {
+fn block<S: Style>(rest: &[u8]) -> Option<Record> {
     let header: &[u8; BLOCK_HEADER] = rest.first_chunk()?;
     let [id, sequence, owner, previous] = [4, 8, 12, 16].map(|at| word(header, at));
     let length = usize::from(half(header, 20));
@@ -75,10 +69,8 @@ fn block(rest: &[u8]) -> Option<Record> {
         return None;
     }
     let data = rest.get(BLOCK_HEADER..BLOCK_HEADER + length)?;
-    let first: &[u8; 16] = header[4..].first_chunk()?;
-    let front = crc::step(crc::step(AFTER_BLOCK_MAGIC, first), &[header[20], header[21]]);
     let record = Record { kind: Kind::Block, id, sequence, size: BLOCK_HEADER + length };
-    (crc::update(front, data) == half(header, 22)).then_some(record)
+    (S::block_check(header, data) == half(header, 22)).then_some(record)
 }
 
 /// Of an accepted record: its id.
