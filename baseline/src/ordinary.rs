@@ -7,6 +7,10 @@ use crate::style::Style;
 
 pub struct Ordinary;
 
+/// The first byte of each magic.
+const INODE_FIRST: u8 = INODE_MAGIC.to_le_bytes()[0];
+const BLOCK_FIRST: u8 = BLOCK_MAGIC.to_le_bytes()[0];
+
 impl Style for Ordinary {
     #[inline]
     fn inode_check(header: &[u8; INODE_HEADER], name: &[u8]) -> u16 {
@@ -23,8 +27,7 @@ impl Style for Ordinary {
     /// Jumps over bytes that cannot begin a magic.
     #[inline]
     fn next_start(area: &[u8], at: usize, end: usize) -> usize {
-        let [inode, block] = [INODE_MAGIC, BLOCK_MAGIC].map(|magic| magic.to_le_bytes()[0]);
-        let begins_magic = |byte: &u8| *byte == inode || *byte == block;
+        let begins_magic = |byte: &u8| matches!(*byte, INODE_FIRST | BLOCK_FIRST);
         area[at..end].iter().position(begins_magic).map_or(end, |passed| at + passed)
     }
 }

@@ -39,7 +39,7 @@ pub fn acceptable<S: Style>(rest: &[u8]) -> Option<Record> {
 #[inline]
 fn inode<S: Style>(rest: &[u8]) -> Option<Record> {
     let header: &[u8; INODE_HEADER] = rest.first_chunk()?;
-    let [id, sequence, parent] = [4, 8, 12].map(|at| word(header, at));
+    let (id, sequence, parent) = (word(header, 4), word(header, 8), word(header, 12));
     let length = usize::from(header[17]);
     let name = rest.get(INODE_HEADER..INODE_HEADER + length)?;
     let parent_fits = match parent {
@@ -62,7 +62,8 @@ pub fn name_is_good(name: &[u8]) -> bool {
 #[inline]
 fn block<S: Style>(rest: &[u8]) -> Option<Record> {
     let header: &[u8; BLOCK_HEADER] = rest.first_chunk()?;
-    let [id, sequence, owner, previous] = [4, 8, 12, 16].map(|at| word(header, at));
+    let (id, sequence) = (word(header, 4), word(header, 8));
+    let (owner, previous) = (word(header, 12), word(header, 16));
     let length = usize::from(half(header, 20));
     let previous_fits = previous == NONE || is_block(previous) && previous != id;
     if !is_block(id) || !is_file(owner) || !previous_fits || !(1..=DATA).contains(&length) {
