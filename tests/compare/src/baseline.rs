@@ -1,4 +1,4 @@
-//! The baseline's calls as an engine beside the model.
+//! The calls of the ordinary baseline as an engine beside the model.
 
 use std::cell::RefCell;
 

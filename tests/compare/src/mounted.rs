@@ -1,4 +1,4 @@
-//! What a mount finds, in one form for the proved one, the baseline and the model.
+//! What a mount finds, in one form for the proved one, the baselines and the model.
 
 use std::collections::BTreeMap;
 
@@ -44,15 +44,20 @@ fn first<T: PartialEq + std::fmt::Debug>(what: &str, a: &[T], b: &[T]) -> Option
     Some(format!("{what} {at}: {:?} and {:?}", a[at], b[at]))
 }
 
-/// The baseline's answer.
-pub fn of_baseline(image: &[u8], areas: &[u32], volume: &mut Volume) -> Result<Mounted, u32> {
-    match nffs_baseline::mount(image, areas, volume) {
+/// The mount of a baseline.
+pub type Mount = fn(&[u8], &[u32], &mut Volume) -> u32;
+
+pub const BASELINES: [(&str, Mount); 2] = [("ordinary", nffs_baseline::mount), ("tuned", nffs_baseline::tuned::mount)];
+
+/// A baseline's answer.
+pub fn of_baseline(mount: Mount, image: &[u8], areas: &[u32], volume: &mut Volume) -> Result<Mounted, u32> {
+    match mount(image, areas, volume) {
         0 => Ok(found(volume)),
         number => Err(number),
     }
 }
 
-/// What a mounted volume of the baseline holds.
+/// What a mounted volume of a baseline holds.
 pub fn found(volume: &Volume) -> Mounted {
     let rows = |ids: &[u32], places: &[u32]| ids.iter().copied().zip(places.iter().copied()).collect();
     let damage = volume.damage;

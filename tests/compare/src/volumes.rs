@@ -54,6 +54,15 @@ fn put(flash: &mut Flash, record: &[u8]) -> bool {
     (0..flash.areas.len() / 2 - 1).any(|area| flash.put(area, record))
 }
 
+/// A volume with all of these records.
+fn of_records(records: impl Iterator<Item = Vec<u8>>) -> Flash {
+    let mut flash = volume(AREAS, IMAGE);
+    for record in records {
+        assert!(put(&mut flash, &record));
+    }
+    flash
+}
+
 /// A file of blocks as long as the areas allow; what is left of each area is one shorter block, so that no byte is free.
 pub fn greatest_blocks(length: usize) -> Flash {
     let mut flash = volume(AREAS, length);
@@ -74,25 +83,18 @@ fn small_block(id: u32, sequence: u32, owner: u32, previous: u32) -> Vec<u8> {
 
 /// Both tables are full: 256 inodes, then 1,024 blocks that go round the files, ids rising.
 pub fn full_tables() -> Flash {
-    let mut flash = volume(AREAS, IMAGE);
     let files = INODES as u32 - 1;
-    for k in 0..files {
-        assert!(put(&mut flash, &Inode::new(FIRST_FILE + k, 0, ROOT, format!("{k:03}").as_bytes()).bytes()));
-    }
-    for k in 0..BLOCKS as u32 {
+    let inodes = (0..files).map(|k| Inode::new(FIRST_FILE + k, 0, ROOT, format!("{k:03}").as_bytes()).bytes());
+    let blocks = (0..BLOCKS as u32).map(|k| {
         let previous = if k < files { NONE } else { FIRST_BLOCK + k - files };
-        assert!(put(&mut flash, &small_block(FIRST_BLOCK + k, 0, FIRST_FILE + k % files, previous)));
-    }
-    flash
+        small_block(FIRST_BLOCK + k, 0, FIRST_FILE + k % files, previous)
+    });
+    of_records(inodes.chain(blocks))
 }
 
 /// So many block ids, in 1,024 records with rising sequences.
 pub fn ids(count: u32) -> Flash {
-    let mut flash = volume(AREAS, IMAGE);
-    for k in 0..BLOCKS as u32 {
-        assert!(put(&mut flash, &small_block(FIRST_BLOCK + k % count, k / count, FIRST_FILE, NONE)));
-    }
-    flash
+    of_records((0..BLOCKS as u32).map(|k| small_block(FIRST_BLOCK + k % count, k / count, FIRST_FILE, NONE)))
 }
 
 /// A record of the least size for this id, as a version.
@@ -175,7 +177,7 @@ const STEPS: [(u32, &str); 3] = [
 /// What would take long if an index were taken in, or a check believed in before it is worked out.
 pub fn hostile() -> Vec<Named> {
     let in_slots: Vec<u32> = in_one_slot(FIRST_FILE, INODES - 1, Inodes::home).chain(in_one_slot(FIRST_BLOCK, BLOCKS, Blocks::home)).collect();
-    let mut kinds = vec![("ids in one slot of the baseline", of_ids(&in_slots))];
+    let mut kinds = vec![("ids in one slot of the baselines", of_ids(&in_slots))];
     for (step, name) in STEPS {
         let inodes = (0..INODES as u32 - 1).map(|k| FIRST_FILE + k * step);
         let blocks = (0..BLOCKS as u32).map(|k| FIRST_BLOCK + k * step);
@@ -185,7 +187,7 @@ pub fn hostile() -> Vec<Named> {
         ("one id, sequences falling", versions((0..4_000).rev().map(|k| (FIRST_FILE, k)))),
         ("one id, sequences falling by 4,096", versions((0..4_000).rev().map(|k| (FIRST_FILE, 4_096 * k)))),
         ("versions that agree in 12 low bits", versions((0..4_000).rev().map(|k| (FIRST_FILE + k % 255 * 4_096, k / 255 * 4_096)))),
-        ("versions in one slot of the baseline", versions(versions_in_one_slot())),
+        ("versions in one slot of the baselines", versions(versions_in_one_slot())),
         ("every four bytes a magic", starts_of_magics(4)),
         ("every 24 bytes a longest block's header", long_headers()),
     ]);
@@ -205,10 +207,7 @@ fn versions_in_one_slot() -> impl Iterator<Item = (u32, u32)> {
 
 /// One record of each id, then versions of the last one as long as there is room.
 fn of_ids(ids: &[u32]) -> Flash {
-    let mut flash = volume(AREAS, IMAGE);
-    for id in ids {
-        assert!(put(&mut flash, &least(*id, 0)));
-    }
+    let mut flash = of_records(ids.iter().map(|id| least(*id, 0)));
     let last = ids[ids.len() - 1];
     let _ = (1..).take_while(|sequence| put(&mut flash, &least(last, *sequence))).count();
     flash
@@ -235,14 +234,13 @@ fn long_headers() -> Flash {
 
 /// Nearly every byte is taken, by files of four or five blocks: what the calls are timed on.
 pub fn nearly_full() -> Flash {
-    let mut flash = volume(AREAS, IMAGE);
-    for k in 0..60 {
+    let inodes = (0..60).map(|k| {
         let name = [&[b'n'; 80][..], &[b'0' + k]].concat();
-        assert!(put(&mut flash, &Inode::new(FIRST_FILE + u32::from(k), 0, ROOT, &name).bytes()));
-    }
-    for k in 0..250 {
+        Inode::new(FIRST_FILE + u32::from(k), 0, ROOT, &name).bytes()
+    });
+    let blocks = (0..250).map(|k| {
         let previous = if k < 60 { NONE } else { FIRST_BLOCK + k - 60 };
-        assert!(put(&mut flash, &Block::new(FIRST_BLOCK + k, 0, FIRST_FILE + k % 60, previous, &[0xa5; 170]).bytes()));
-    }
-    flash
+        Block::new(FIRST_BLOCK + k, 0, FIRST_FILE + k % 60, previous, &[0xa5; 170]).bytes()
+    });
+    of_records(inodes.chain(blocks))
 }

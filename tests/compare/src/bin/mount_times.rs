@@ -1,5 +1,5 @@
-//! How long the proved mount and the proved calls take beside the baseline's, in one run: `tools/bench-mount` builds what it links. Without an
-//! argument the kinds of image, the calls and hostile images; with `growth` tables against the image's length and the number of ids.
+//! How long the proved mount and the proved calls take beside those of the baselines, in one run: `tools/bench-mount` builds what it links. Without
+//! an argument the kinds of image, the calls and hostile images; with `growth` tables against the image's length and the number of ids.
 
 use std::hint::black_box;
 use std::process::ExitCode;
@@ -11,7 +11,7 @@ mod mount_alone;
 use mount_alone::Tables;
 use nffs::{raw, Area};
 use nffs_baseline::{self as baseline, Volume};
-use nffs_compare::mounted::{difference, of_baseline};
+use nffs_compare::mounted::{difference, of_baseline, BASELINES};
 use nffs_compare::volumes::{self, Named};
 use nffs_model::forge::Flash;
 use nffs_model::layout::FIRST_FILE;
@@ -37,45 +37,50 @@ impl Times {
         measured.sort_by(f64::total_cmp);
         Times { least: measured[0], median: measured[measured.len() / 2] }
     }
-}
 
-fn microseconds(work: &mut dyn FnMut(), times: usize) -> f64 {
-    let begin = Instant::now();
-    for _ in 0..times {
-        work();
+    /// Of the leasts.
+    fn ratio(&self, other: &Times) -> f64 {
+        self.least / other.least
     }
-    begin.elapsed().as_secs_f64() * 1e6 / times as f64
 }
 
-/// Both in turn, so that what else the machine does meets both. `between`, which isn't timed, comes before each; with it nothing is repeated.
-fn in_turn(rounds: usize, ours: &mut dyn FnMut(), baseline: &mut dyn FnMut(), between: Option<&mut dyn FnMut()>) -> [Times; 2] {
-    let times = match between {
-        Some(_) => 1,
-        None => (LASTS / microseconds(baseline, 3)).ceil().clamp(1.0, 1_000.0) as usize,
-    };
-    let nothing: &mut dyn FnMut() = &mut || ();
-    let between = between.unwrap_or(nothing);
-    let mut measured = [Vec::new(), Vec::new()];
-    for _ in 0..rounds {
+type Program<'a> = &'a mut dyn FnMut();
+
+fn microseconds(program: &mut dyn FnMut(), repeats: usize) -> f64 {
+    let begin = Instant::now();
+    for _ in 0..repeats {
+        program();
+    }
+    begin.elapsed().as_secs_f64() * 1e6 / repeats as f64
+}
+
+/// So often a program is run in a measurement.
+fn repeats(program: &mut dyn FnMut()) -> usize {
+    (LASTS / microseconds(program, 3)).ceil().clamp(1.0, 1_000.0) as usize
+}
+
+/// The programs take turns, so that what else the machine does meets all of them. `between`, which isn't timed, comes before each.
+fn in_turn<const N: usize>(rounds: usize, repeats: usize, programs: [Program; N], between: Program) -> [Times; N] {
+    let mut measured = [const { Vec::new() }; N];
+    for turn in 0..rounds * N {
         between();
-        measured[0].push(microseconds(ours, times));
-        between();
-        measured[1].push(microseconds(baseline, times));
+        measured[turn % N].push(microseconds(programs[turn % N], repeats));
     }
     measured.map(Times::of)
 }
 
-/// Prints a line that ends in the ratio of the shortest times, which is the answer.
-fn line(name: &str, answer: u32, [ours, baseline]: &[Times; 2]) -> f64 {
-    let ratio = ours.least / baseline.least;
-    println!(
-        "{name}: answer {answer}, ours {:.2} (median {:.2}) us, baseline {:.2} (median {:.2}) us, medians {:.2}, ratio {ratio:.2}",
-        ours.least,
-        ours.median,
-        baseline.least,
-        baseline.median,
-        ours.median / baseline.median
-    );
+/// What the columns of the lines are.
+fn heading(group: &str, of: &str) {
+    println!("== {group}: least and (median) in microseconds; tuned and ratio are ours divided by the tuned and by the ordinary one");
+    println!("{of:<42} answer      ours              ordinary             {}", if of == "call" { "" } else { "tuned" });
+}
+
+/// Prints a line that ends in the ratio to the ordinary baseline, which is the answer. The tuned one, if timed, comes third.
+fn line(name: &str, answer: u32, times: &[Times]) -> f64 {
+    let both = |t: &Times| format!("{:>9.2} {:<11}", t.least, format!("({:.2})", t.median));
+    let tuned = times.get(2).map_or(String::new(), |t| format!("{:>9.2}  {:>11}", t.least, format!("tuned {:.2}", times[0].ratio(t))));
+    let ratio = times[0].ratio(&times[1]);
+    println!("{name:<42} {answer:>6} {}{}{tuned}  {:>11}", both(&times[0]), both(&times[1]), format!("ratio {ratio:.2}"));
     ratio
 }
 
@@ -86,36 +91,45 @@ struct Lent {
 }
 
 impl Lent {
-    /// Both find the same, or nothing is timed. The number.
+    /// All find the same, or nothing is timed. The number.
     fn same(&mut self, name: &str, flash: &Flash) -> u32 {
         let ours = self.tables.answer(&flash.image, &flash.areas);
-        let baseline = of_baseline(&flash.image, &flash.areas, &mut self.volume);
-        assert_eq!(difference(&ours, &baseline), None, "{name}: ours and the baseline's");
-        baseline.err().unwrap_or(0)
+        for (style, mount) in BASELINES {
+            let baseline = of_baseline(mount, &flash.image, &flash.areas, &mut self.volume);
+            assert_eq!(difference(&ours, &baseline), None, "{name}: ours and the {style} baseline's");
+        }
+        ours.err().unwrap_or(0)
     }
 
-    fn mounts(&mut self, rounds: usize, flash: &Flash) -> [Times; 2] {
+    /// Ours, the ordinary and the tuned one.
+    fn mounts(&mut self, rounds: usize, flash: &Flash) -> [Times; 3] {
         let Lent { tables, volume } = self;
         let (image, areas) = (&flash.image[..], &flash.areas[..]);
+        // the baselines share one volume, as only one of them runs at a time
+        let volume = std::cell::RefCell::new(volume);
         let mut ours = || {
             black_box(tables.mount(black_box(image), black_box(areas)));
         };
-        let mut baseline = || {
-            black_box(baseline::mount(black_box(image), black_box(areas), black_box(volume)));
+        let mut ordinary = || {
+            black_box(baseline::mount(black_box(image), black_box(areas), black_box(&mut volume.borrow_mut())));
         };
-        in_turn(rounds, &mut ours, &mut baseline, None)
+        let mut tuned = || {
+            black_box(baseline::tuned::mount(black_box(image), black_box(areas), black_box(&mut volume.borrow_mut())));
+        };
+        let repeats = repeats(&mut tuned);
+        in_turn(rounds, repeats, [&mut ours, &mut ordinary, &mut tuned], &mut || ())
     }
 
-    /// A line for each image; those with a greater ratio than this, and the greatest times of both.
-    fn lines(&mut self, rounds: usize, images: &[Named]) -> (Vec<&'static str>, [f64; 2]) {
-        let (mut over, mut greatest) = (Vec::new(), [0.0_f64; 2]);
+    /// A line for each image; those whose ratio is too great, and the greatest times of all three.
+    fn lines(&mut self, rounds: usize, images: &[Named]) -> (Vec<&'static str>, [f64; 3]) {
+        let (mut over, mut greatest) = (Vec::new(), [0.0; 3]);
         for (name, flash) in images {
             let answer = self.same(name, flash);
             let times = self.mounts(rounds, flash);
             if line(name, answer, &times) > MOST {
                 over.push(*name);
             }
-            greatest = [greatest[0].max(times[0].least), greatest[1].max(times[1].least)];
+            greatest = [0, 1, 2].map(|k| times[k].least.max(greatest[k]));
         }
         (over, greatest)
     }
@@ -129,7 +143,7 @@ struct Given {
     path: Vec<u8>,
 }
 
-/// A call on the proved code and on the baseline; their numbers.
+/// A call on the proved code and on the ordinary baseline; their numbers.
 struct Call {
     name: &'static str,
     ours: fn(&mut [u8], &Given) -> u32,
@@ -192,7 +206,7 @@ fn time_call(name: &str, call: &Call, flash: &Flash, path: &[u8], volume: &mut V
     assert_eq!(number, (call.baseline)(&mut right, &given, volume), "{} on {name}", call.name);
     assert!(left == right, "{} on {name}: the images differ", call.name);
 
-    // one image for both, as it was before each call
+    // one image for both, as it was before each call: so nothing is repeated
     let image = std::cell::RefCell::new(left);
     let mut ours = || {
         black_box((call.ours)(black_box(&mut image.borrow_mut()[..]), &given));
@@ -201,73 +215,79 @@ fn time_call(name: &str, call: &Call, flash: &Flash, path: &[u8], volume: &mut V
         black_box((call.baseline)(black_box(&mut image.borrow_mut()[..]), &given, volume));
     };
     let mut between = || image.borrow_mut().copy_from_slice(&flash.image);
-    let times = in_turn(ROUNDS, &mut ours, &mut baseline, Some(&mut between));
+    let times = in_turn(ROUNDS, 1, [&mut ours, &mut baseline], &mut between);
     line(&format!("{}, {name}", call.name), number, &times)
 }
 
 /// A line for each call on each volume: the greatest ratio.
 fn calls(volume: &mut Volume) -> f64 {
-    let mut greatest = 0.0_f64;
-    for (name, flash, path) in volumes_of_calls() {
-        for call in &CALLS {
-            greatest = greatest.max(time_call(name, call, &flash, &path, volume));
-        }
-    }
-    greatest
+    let volumes = volumes_of_calls();
+    let pairs = volumes.iter().flat_map(|on| CALLS.iter().map(move |call| (on, call)));
+    pairs.map(|((name, flash, path), call)| time_call(name, call, flash, path, volume)).fold(0.0, f64::max)
 }
 
 fn bench(lent: &mut Lent) -> ExitCode {
-    println!("== the mount by itself");
+    heading("the mount by itself", "kind of image");
     let (over, _) = lent.lines(ROUNDS, &volumes::kinds());
-    println!("== calls, each of which mounts");
+    heading("calls, each of which mounts", "call");
     let greatest = calls(&mut lent.volume);
     println!("calls: the greatest ratio is {greatest:.2}, wanted {MOST_OF_CALL:.2}");
-    println!("== hostile images, the mount by itself");
-    let (_, [ours, baseline]) = lent.lines(HOSTILE_ROUNDS, &volumes::hostile());
-    println!("hostile: ours at most {ours:.0} us, the baseline at most {baseline:.0} us");
+    heading("the mount by itself of hostile images", "kind of image");
+    let (_, [ours, ordinary, tuned]) = lent.lines(HOSTILE_ROUNDS, &volumes::hostile());
+    println!("hostile: ours at most {ours:.0}, the ordinary one at most {ordinary:.0}, the tuned one at most {tuned:.0} microseconds");
     for name in &over {
         println!("FAILED: {name}: the ratio is above {MOST}");
     }
     ExitCode::from(u8::from(!over.is_empty()))
 }
 
-/// A row of a Markdown table: the least times of both in microseconds.
+/// A row of a Markdown table: the least times of ours and of the ordinary baseline.
 fn row(lent: &mut Lent, kind: &str, x: usize, flash: &Flash) {
     assert_eq!(lent.same(kind, flash), 0, "{kind}, {x}");
-    let [ours, baseline] = lent.mounts(ROUNDS, flash);
-    println!("| {kind} | {x} | {:.2} | {:.2} | {:.2} |", ours.least, baseline.least, ours.least / baseline.least);
+    let [ours, ordinary, _] = lent.mounts(ROUNDS, flash);
+    println!("| {kind} | {x} | {:.2} | {:.2} | {:.2} |", ours.least, ordinary.least, ours.ratio(&ordinary));
+}
+
+fn columns(x: &str) {
+    println!("| Image | {x} | Ours, us | Ordinary, us | Ratio |\n|---|---|---|---|---|");
 }
 
 /// A volume by the length of its image.
 type Make = fn(usize) -> Flash;
 
-/// Eight areas share the image; the ids stand in 1,024 records each time.
-fn growth(lent: &mut Lent) {
-    println!("| Image | KiB | Ours, us | Baseline, us | Ratio |\n|---|---|---|---|---|");
+/// Eight areas share the image.
+fn by_length(lent: &mut Lent) {
     let kinds: [(&str, Make); 3] = [
         ("fresh", |length| volumes::volume(8, length)),
         ("full of greatest blocks", volumes::greatest_blocks),
         ("the most records", |length| volumes::most_records(8, length)),
     ];
-    for (kind, make) in kinds {
-        for kib in [8, 16, 32, 64] {
-            row(lent, kind, kib, &make(kib << 10));
-        }
+    columns("KiB");
+    for ((kind, make), kib) in kinds.iter().flat_map(|kind| [8, 16, 32, 64].map(|kib| (kind, kib))) {
+        row(lent, kind, kib, &make(kib << 10));
     }
-    println!("\n| Image | Ids | Ours, us | Baseline, us | Ratio |\n|---|---|---|---|---|");
+}
+
+/// The ids stand in 1,024 records each time.
+fn by_ids(lent: &mut Lent) {
+    columns("Ids");
     for count in [64, 128, 256, 512, 1024] {
         row(lent, "1,024 records", count, &volumes::ids(count as u32));
     }
+}
+
+fn growth(lent: &mut Lent) -> ExitCode {
+    by_length(lent);
+    println!();
+    by_ids(lent);
+    ExitCode::SUCCESS
 }
 
 fn main() -> ExitCode {
     let mut lent = Lent { tables: Tables::new(), volume: Box::default() };
     match std::env::args().nth(1).as_deref() {
         None => bench(&mut lent),
-        Some("growth") => {
-            growth(&mut lent);
-            ExitCode::SUCCESS
-        }
+        Some("growth") => growth(&mut lent),
         Some(other) => {
             eprintln!("mount_times: what is {other}? There is `growth`.");
             ExitCode::from(2)
