@@ -69,10 +69,11 @@ fn in_turn<const N: usize>(rounds: usize, repeats: usize, programs: [Program; N]
     measured.map(Times::of)
 }
 
-/// What the columns of the lines are.
-fn heading(group: &str, of: &str) {
-    println!("== {group}: least and (median) in microseconds; tuned and ratio are ours divided by the tuned and by the ordinary one");
-    println!("{of:<42} answer      ours              ordinary             {}", if of == "call" { "" } else { "tuned" });
+/// What the columns of the lines are; of calls there is no tuned one.
+fn heading(group: &str, of: &str, tuned: &str) {
+    println!("== {group}: the least and (median) microseconds");
+    let columns = format!("{of:<42} {:>6} {:>9} {:<11}{:>9} {:<11}{tuned:>9}", "answer", "ours", "", "ordinary", "");
+    println!("{}", columns.trim_end());
 }
 
 /// Prints a line that ends in the ratio to the ordinary baseline, which is the answer. The tuned one, if timed, comes third.
@@ -227,12 +228,13 @@ fn calls(volume: &mut Volume) -> f64 {
 }
 
 fn bench(lent: &mut Lent) -> ExitCode {
-    heading("the mount by itself", "kind of image");
+    println!("ratio: ours divided by the ordinary baseline, of the least times; tuned: ours divided by the tuned one");
+    heading("the mount by itself", "kind of image", "tuned");
     let (over, _) = lent.lines(ROUNDS, &volumes::kinds());
-    heading("calls, each of which mounts", "call");
+    heading("calls, each of which mounts", "call", "");
     let greatest = calls(&mut lent.volume);
     println!("calls: the greatest ratio is {greatest:.2}, wanted {MOST_OF_CALL:.2}");
-    heading("the mount by itself of hostile images", "kind of image");
+    heading("the mount by itself, hostile images", "kind of image", "tuned");
     let (_, [ours, ordinary, tuned]) = lent.lines(HOSTILE_ROUNDS, &volumes::hostile());
     println!("hostile: ours at most {ours:.0}, the ordinary one at most {ordinary:.0}, the tuned one at most {tuned:.0} microseconds");
     for name in &over {
