@@ -1,5 +1,6 @@
-//! With the feature `check`: finds the archive that `rt staticlib crc16_alone` writes. NFFS_ARCHIVE names its folder; without it the repository's
-//! target/staticlib is taken. CRC16_BEFORE, if set, names the folder of libcrc16_before.a, the check of another commit (`check-times`).
+//! With the feature `check`: finds the archives that `rt staticlib crc16_alone` and `rt staticlib mount_alone` write. NFFS_ARCHIVE names their
+//! folder; without it the repository's target/staticlib is taken. CRC16_BEFORE, if set, names the folder of libcrc16_before.a, the check of another
+//! commit (`check-times`).
 
 use std::env;
 use std::path::{Path, PathBuf};
@@ -27,6 +28,7 @@ fn main() {
         None => PathBuf::from(env::var_os("CARGO_MANIFEST_DIR").expect("cargo sets this")).join("../../target/staticlib"),
     };
     found(&folder, "libcrc16_alone.a", "run `rt staticlib crc16_alone`, or set NFFS_ARCHIVE");
+    found(&folder, "libmount_alone.a", "run `rt staticlib mount_alone`, or set NFFS_ARCHIVE");
     if let Some(folder) = env::var_os("CRC16_BEFORE") {
         found(Path::new(&folder), "libcrc16_before.a", "run `tests/compare/check-times COMMIT`");
         println!("cargo::rustc-cfg=before");

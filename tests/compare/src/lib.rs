@@ -1,4 +1,8 @@
-//! The calls of the crate `nffs`, as users link it, as engines beside the model.
+//! The calls of the crate `nffs`, as users link it, as engines beside the model; and the baseline that the mount's time is measured against.
+
+pub mod baseline;
+pub mod mounted;
+pub mod volumes;
 
 use nffs::{raw, Area, Kind, Refusal};
 use nffs_model::compare::Engine;
