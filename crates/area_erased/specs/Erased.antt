@@ -1,6 +1,6 @@
 -- Where the erased end of some bytes begins, sought from behind; and that nothing starts there.
 use Prim.Native.Nat.{ℕ, zero, suc, _+_, _-_, _*_, _^_, _≤_, _<_}
-use mathlib.Core.Path.{_≡_, refl, sym, _∙_}
+use mathlib.Core.Path.{_≡_, refl, sym, subst, _∙_}
 use mathlib.Core.Logic.{_⊎_, inl, inr}
 use mathlib.Core.Bool.{Bool, true, false, cond, _&&_}
 use mathlib.Core.List.{List, [], _∷_, _++_}
@@ -70,7 +70,7 @@ module _ (s : Bytes) (i : ℕ) (g : ErasedFrom s (i + 1)) where
       let q : erasedEnd (take (i + 1) s) ≡ 0 = last-byte ∙ rw (ne-eqb (byteAt s i) ERASED d) in
       omega (arith, g .counted, q)
 
--- four bytes at once, and sixteen
+-- four bytes at once, eight, 32 and 64
 
 abbrev pub ERASED-WORD : ℕ
 ERASED-WORD = 0xffffffff
@@ -93,8 +93,8 @@ erased-word s o i e g =
 abbrev pub erasedEight : Bytes → ℕ → Bool
 erasedEight s i = eqb (le32 s i) ERASED-WORD && eqb (le32 s (i + 4)) ERASED-WORD
 
-unfoldable pub erasedSixteen : Bytes → ℕ → Bool
-erasedSixteen s i = erasedEight s i && erasedEight s (i + 8)
+unfoldable pub erasedThirtyTwo : Bytes → ℕ → Bool
+erasedThirtyTwo s i = ((erasedEight s i && erasedEight s (i + 8)) && erasedEight s (i + 16)) && erasedEight s (i + 24)
 
 erased-eight : (s : Bytes) → Octets s → (i : ℕ) → erasedEight s i ≡ true → ErasedFrom s (i + 8) → ErasedFrom s i
 erased-eight s o i e g =
@@ -103,13 +103,26 @@ erased-eight s o i e g =
     let b = and-right (eqb (le32 s i) ERASED-WORD) (eqb (le32 s (i + 4)) ERASED-WORD) e in
     erased-word s o i (eqb-true _ _ a) (erased-word s o (i + 4) (eqb-true _ _ b) (rw x at g))
 
-pub erased-sixteen : (s : Bytes) → Octets s → (i : ℕ) → erasedSixteen s i ≡ true → ErasedFrom s (i + 16) → ErasedFrom s i
-unfolding erasedSixteen
-erased-sixteen s o i e g =
-    let x : i + 16 ≡ i + 8 + 8 = omega arith in
-    let a = and-left (erasedEight s i) (erasedEight s (i + 8)) e in
-    let b = and-right (erasedEight s i) (erasedEight s (i + 8)) e in
-    erased-eight s o i a (erased-eight s o (i + 8) b (rw x at g))
+erased-thirty-two : (s : Bytes) → Octets s → (i : ℕ) → erasedThirtyTwo s i ≡ true → ErasedFrom s (i + 32) → ErasedFrom s i
+unfolding erasedThirtyTwo
+erased-thirty-two s o i e g =
+    let x : i + 32 ≡ i + 24 + 8 = omega arith in
+    let y : i + 24 ≡ i + 16 + 8 = omega arith in
+    let z : i + 16 ≡ i + 8 + 8 = omega arith in
+    let three = and-left ((erasedEight s i && erasedEight s (i + 8)) && erasedEight s (i + 16)) (erasedEight s (i + 24)) e in
+    let two = and-left (erasedEight s i && erasedEight s (i + 8)) (erasedEight s (i + 16)) three in
+    let fourth = erased-eight s o (i + 24) (and-right ((erasedEight s i && erasedEight s (i + 8)) && erasedEight s (i + 16)) (erasedEight s (i + 24)) e) (rw x at g) in
+    let third = erased-eight s o (i + 16) (and-right (erasedEight s i && erasedEight s (i + 8)) (erasedEight s (i + 16)) three) (rw y at fourth) in
+    let second = erased-eight s o (i + 8) (and-right (erasedEight s i) (erasedEight s (i + 8)) two) (rw z at third) in
+    erased-eight s o i (and-left (erasedEight s i) (erasedEight s (i + 8)) two) second
+
+pub erased-sixty-four : (s : Bytes) → Octets s → (i : ℕ) → 64 ≤ i → (erasedThirtyTwo s (i - 64) && erasedThirtyTwo s (i - 32)) ≡ true → ErasedFrom s i
+    → ErasedFrom s (i - 64)
+erased-sixty-four s o i h e g =
+    let x : i ≡ i - 32 + 32 = omega arith in
+    let y : i - 32 ≡ i - 64 + 32 = omega arith in
+    let second = erased-thirty-two s o (i - 32) (and-right (erasedThirtyTwo s (i - 64)) (erasedThirtyTwo s (i - 32)) e) (subst (ErasedFrom s) x g) in
+    erased-thirty-two s o (i - 64) (and-left (erasedThirtyTwo s (i - 64)) (erasedThirtyTwo s (i - 32)) e) (subst (ErasedFrom s) y second)
 
 -- two words as one number
 pub word-pair : (x y : ℕ) → x < 2 ^ 32 → y < 2 ^ 32 → eqb (x + y * 4294967296) 0xffffffffffffffff ≡ (eqb x ERASED-WORD && eqb y ERASED-WORD)

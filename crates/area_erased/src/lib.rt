@@ -5,34 +5,41 @@ ghost use lib.ListN.{length};
 ghost use Rattle.format.specs.Reading.{erasedEnd};
 ghost use Rattle.crc_laws.specs.Table.{Tables};
 ghost use Rattle.area_read.specs.Area.{nextRecord};
-ghost use Rattle.area_erased.specs.Erased.{erasedSixteen, ErasedFrom, laterOf, WrittenTo};
+ghost use Rattle.area_erased.specs.Erased.{erasedEight, erasedThirtyTwo, ErasedFrom, laterOf, WrittenTo};
 use area_read::Next;
 use area_read::next_record;
 use byte_fields::load32;
 use byte_store::ERASED;
 
-// Whether the sixteen bytes from `at` on are erased.
-fn erased_sixteen(s: &[u8], at: usize) -> bool
-    requires { ⌜ at + 16 ≤ length (now s) ⌝ }
-    ensures { λ r. ⌜ r ≡ erasedSixteen (now (s .entry)) at ⌝ }
+// Whether the eight bytes from `at` on are erased.
+fn erased_eight(s: &[u8], at: usize) -> bool
+    requires { ⌜ at + 8 ≤ length (now s) ⌝ }
+    ensures { λ r. ⌜ r ≡ erasedEight (now (s .entry)) at ⌝ }
 {
-    let front = load32(s, at) as u64 + load32(s, at + 4) as u64 * 4294967296;
-    if front != 0xffffffffffffffff {
-        return false;
-    }
-    load32(s, at + 8) as u64 + load32(s, at + 12) as u64 * 4294967296 == 0xffffffffffffffff
+    load32(s, at) as u64 + load32(s, at + 4) as u64 * 4294967296 == 0xffffffffffffffff
 }
 
-// A place from which on all of `s` is erased, found sixteen bytes a turn from its end.
+// Whether the 32 bytes from `at` on are. No test waits for another.
+fn erased_thirty_two(s: &[u8], at: usize) -> bool
+    requires { ⌜ at + 32 ≤ length (now s) ⌝ }
+    ensures { λ r. ⌜ r ≡ erasedThirtyTwo (now (s .entry)) at ⌝ }
+{
+    erased_eight(s, at)
+        & erased_eight(s, at + 8)
+        & erased_eight(s, at + 16)
+        & erased_eight(s, at + 24)
+}
+
+// A place from which on `s` is erased, 64 bytes a turn from its end: fewer than 64 before it are.
 fn erased_from(s: &[u8]) -> usize
     ensures { λ r. ⌜ ErasedFrom (now (s .entry)) r ⌝ }
 {
     let mut i = s.len();
-    while 16 <= i {
-        if erased_sixteen(s, i - 16) {} else {
+    while 64 <= i {
+        if erased_thirty_two(s, i - 64) & erased_thirty_two(s, i - 32) {} else {
             return i;
         }
-        i -= 16;
+        i -= 64;
     }
     i
 }

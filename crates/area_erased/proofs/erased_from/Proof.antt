@@ -1,11 +1,10 @@
 -- `area_erased::erased_from` meets its contract.
-use Prim.Native.Nat.{_+_, _-_}
-use mathlib.Core.Path.{_≡_, subst}
+use mathlib.Core.Path.{sym, ap₂, _∙_}
+use mathlib.Core.Bool.{_&&_}
 use native.Mathlib.Omega.{arith}
 use borrow.Author.Needs.{needs}
 use Rattle.format_laws.specs.Crc.{Octets}
-use Rattle.format_laws.specs.Tests.{via}
-use Rattle.area_erased.specs.Erased.{ErasedFrom, erased-begins, erased-sixteen}
+use Rattle.area_erased.specs.Erased.{ErasedFrom, erased-begins, erased-sixty-four}
 use Rattle.area_erased.proofs.erased_from.Statement.{statement}
 use Rattle.area_erased.proofs.erased_from.Tie as tie
 
@@ -18,17 +17,15 @@ abbrev μ-loop : tie.MeasureT-loop
 loop-holds : tie.Need-loop-holds Inv-loop μ-loop
 loop-holds c = erased-begins (c .before .args .s .now)
 
-erased-sixteen-requires : tie.Need-erased-sixteen-requires Inv-loop μ-loop
-erased-sixteen-requires c κs = let w = c .before .loop .inv .within in omega (arith, w)
-
 loop-again : tie.Need-loop-again Inv-loop μ-loop
 loop-again c =
     let t = c .before in
-    let l = t .before .before in
+    let n = t .before .before in
+    let l = n .before in
     let s = l .before .before .args .s .now in
     let o : Octets s = record { at = λ i h. l .before .shared-slice-known .given i .fits } in
-    let x : l .loop .i ≡ l .loop .i - 16 + 16 = omega arith in
-    erased-sixteen s o (l .loop .i - 16) (via (t .erased-sixteen .ensures) (c .if1 .taken)) (subst (ErasedFrom s) x (l .loop .inv))
+    erased-sixty-four s o (l .loop .i) (n .loop-test .taken)
+    (ap₂ _&&_ (sym (t .before .erased-thirty-two .ensures)) (sym (t .erased-thirty-two2 .ensures)) ∙ c .if1 .taken) (l .loop .inv)
 
 pub erased-from-spec : {M : Type 1} → statement M
 erased-from-spec =
@@ -37,8 +34,10 @@ erased-from-spec =
     Inv-loop
     μ-loop
     loop-holds
-    erased-sixteen-requires
-    (λ c. c .before .before .before .loop .inv)
+    (λ c κs. let w = c .before .loop .inv .within in omega arith)
+    (λ c. search needs)
+    (λ c κs. let w = c .before .before .loop .inv .within in omega arith)
+    (λ c. c .before .before .before .before .loop .inv)
     (λ c. search needs)
     loop-again
     (λ c. c .before .loop .inv))
