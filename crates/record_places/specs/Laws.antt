@@ -1,6 +1,7 @@
 -- What the rules tell of places is what they tell of the bytes there.
 use Prim.Native.Nat.{ℕ, _+_, _-_, _≤_, _<_}
-use mathlib.Core.Path.{_≡_, refl, sym, _∙_}
+use mathlib.Core.Path.{_≡_, refl, sym, ap, _∙_}
+use mathlib.Core.Logic.{_≢_}
 use mathlib.Core.Bool.{Bool, true, false, cond}
 use native.Mathlib.Omega.{arith}
 use lib.ListN.{length, take, drop, length-take, length-drop}
@@ -11,6 +12,8 @@ use Rattle.format_laws.specs.Bytes.{take-byte, take-le16, take-le32, drop-byte,
 use Rattle.format_laws.specs.Record.{record-inside, kind-magic, inode-lawful, block-lawful, Stands, an-inode, a-block, nothing, stands}
 use Rattle.volume.specs.View.{byBytes}
 use Rattle.volume_laws.specs.Map.{Views}
+use Rattle.volume_laws.specs.Tests.{true→T}
+use Rattle.volume_laws.specs.Lists.{same-eq}
 use Rattle.record_places.specs.Place.{blockAt, sizeAt, bytesAt, byPlace, Lies}
 
 pub size-block : (image : Bytes) (p : ℕ) → blockAt image p ≡ true → sizeAt image p ≡ 24 + le16 image (p + 20)
@@ -51,6 +54,16 @@ place-views image = record {
   text = λ p. behind image p 24;
   same = λ p q. refl;
 }
+
+-- records of different ids have different bytes
+pub ids-apart : (image : Bytes) (p q : ℕ) → byPlace image .id p ≢ byPlace image .id q → byPlace image .same p q ≡ false
+ids-apart image p q d = go (byPlace image .same p q) refl
+  where
+    go : (b : Bool) → byPlace image .same p q ≡ b → byPlace image .same p q ≡ false
+    go true e =
+        let s = same-eq (bytesAt image p) (bytesAt image q) (true→T {b = byPlace image .same p q} e) in
+        absurd (d (sym (place-views image .id p) ∙ ap (byBytes .id) s ∙ place-views image .id q))
+    go false e = e
 
 -- The record that reading takes at the front of m bytes of the image from p on, seen from the image
 module _ (image : Bytes) (p m : ℕ) (some : 0 < recordSize (take m (drop p image))) where

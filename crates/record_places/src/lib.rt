@@ -74,12 +74,15 @@ pub fn size_at(image: &[u8], p: u32) -> usize
     InodeHeader::SIZE + wide(image[p as usize + InodeHeader::LENGTH_AT]) as usize
 }
 
-// Whether the records at `p` and `q` have the same bytes.
+// Whether the records at `p` and `q` have the same bytes. Their ids tell most records apart at once.
 pub fn same_bytes(image: &[u8], p: u32, q: u32) -> bool
     requires { ⌜ Lies (now image) p ⌝ }
     requires { ⌜ Lies (now image) q ⌝ }
     ensures { λ r. ⌜ r ≡ byPlace (now (image .entry)) .same p q ⌝ }
 {
+    if id_at(image, p) != id_at(image, q) {
+        return false;
+    }
     let a = p as usize;
     let b = q as usize;
     let e = a + size_at(image, p);

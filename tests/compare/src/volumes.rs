@@ -174,10 +174,18 @@ const STEPS: [(u32, &str); 3] = [
     (1 << 20, "ids that differ by multiples of 2^20"),
 ];
 
+/// The slot of a key in the proved index (`crates/table_index`): of an id, or of an id and 40,503 times a sequence.
+fn proved_slot(key: u32) -> usize {
+    (key.wrapping_mul(2_654_435_769) >> 23) as usize
+}
+
 /// What would take long if an index were taken in, or a check believed in before it is worked out.
 pub fn hostile() -> Vec<Named> {
-    let in_slots: Vec<u32> = in_one_slot(FIRST_FILE, INODES - 1, Inodes::home).chain(in_one_slot(FIRST_BLOCK, BLOCKS, Blocks::home)).collect();
-    let mut kinds = vec![("ids in one slot of the baselines", of_ids(&in_slots))];
+    let ids = |inodes, blocks| in_one_slot(FIRST_FILE, INODES - 1, inodes).chain(in_one_slot(FIRST_BLOCK, BLOCKS, blocks)).collect::<Vec<_>>();
+    let mut kinds = vec![
+        ("ids in one slot of the proved index", of_ids(&ids(proved_slot, proved_slot))),
+        ("ids in one slot of the baselines", of_ids(&ids(Inodes::home, Blocks::home))),
+    ];
     for (step, name) in STEPS {
         let inodes = (0..INODES as u32 - 1).map(|k| FIRST_FILE + k * step);
         let blocks = (0..BLOCKS as u32).map(|k| FIRST_BLOCK + k * step);
@@ -187,7 +195,8 @@ pub fn hostile() -> Vec<Named> {
         ("one id, sequences falling", versions((0..4_000).rev().map(|k| (FIRST_FILE, k)))),
         ("one id, sequences falling by 4,096", versions((0..4_000).rev().map(|k| (FIRST_FILE, 4_096 * k)))),
         ("versions that agree in 12 low bits", versions((0..4_000).rev().map(|k| (FIRST_FILE + k % 255 * 4_096, k / 255 * 4_096)))),
-        ("versions in one slot of the baselines", versions(versions_in_one_slot())),
+        ("versions in one slot of the proved index", versions(versions_in_one_slot(|sequence| proved_slot(FIRST_FILE.wrapping_add(sequence.wrapping_mul(40_503)))))),
+        ("versions in one slot of the baselines", versions(versions_in_one_slot(|sequence| Versions::home(FIRST_FILE, sequence)))),
         ("every four bytes a magic", starts_of_magics(4)),
         ("every 24 bytes a longest block's header", long_headers()),
     ]);
@@ -200,8 +209,7 @@ fn in_one_slot(first: u32, count: usize, home: fn(u32) -> usize) -> impl Iterato
 }
 
 /// Falling sequences of one id that a search begins for at one slot.
-fn versions_in_one_slot() -> impl Iterator<Item = (u32, u32)> {
-    let home = |sequence: u32| Versions::home(FIRST_FILE, sequence);
+fn versions_in_one_slot(home: fn(u32) -> usize) -> impl Iterator<Item = (u32, u32)> {
     (0..u32::MAX).rev().filter(move |sequence| home(*sequence) == home(0)).take(4_000).map(|sequence| (FIRST_FILE, sequence))
 }
 

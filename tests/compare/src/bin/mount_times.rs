@@ -18,6 +18,8 @@ use nffs_model::layout::FIRST_FILE;
 
 /// The greatest ratio of a mount (T-10).
 const MOST: f64 = 1.5;
+/// No mount may take longer, in microseconds, whatever is done to the index.
+const MOST_HOSTILE: f64 = 30_000.0;
 /// Of a call.
 const MOST_OF_CALL: f64 = 1.2;
 const ROUNDS: usize = 400;
@@ -236,11 +238,14 @@ fn bench(lent: &mut Lent) -> ExitCode {
     println!("calls: the greatest ratio is {greatest:.2}, wanted {MOST_OF_CALL:.2}");
     heading("the mount by itself, hostile images", "kind of image", "tuned");
     let (_, [ours, ordinary, tuned]) = lent.lines(HOSTILE_ROUNDS, &volumes::hostile());
-    println!("hostile: ours at most {ours:.0}, the ordinary one at most {ordinary:.0}, the tuned one at most {tuned:.0} microseconds");
+    println!("hostile: ours at most {ours:.0}, the ordinary one at most {ordinary:.0}, the tuned one at most {tuned:.0} microseconds; bound {MOST_HOSTILE:.0}");
+    if ours > MOST_HOSTILE {
+        println!("FAILED: hostile: a mount takes longer than {MOST_HOSTILE:.0} microseconds");
+    }
     for name in &over {
         println!("FAILED: {name}: the ratio is above {MOST}");
     }
-    ExitCode::from(u8::from(!over.is_empty()))
+    ExitCode::from(u8::from(ours > MOST_HOSTILE || !over.is_empty()))
 }
 
 /// A row of a Markdown table: the least times of ours and of the ordinary baseline.
