@@ -1,23 +1,18 @@
 -- What the reading of an area comes to, and the laws of the loop that reads. Document 01, "How an area is read", and T-08.
-use Prim.Native.Nat.{ℕ, zero, suc, _+_, _-_, _*_, _^_, _≤_, _<_}
+use Prim.Native.Nat.{ℕ, zero, suc, _+_, _-_, _≤_}
 use mathlib.Core.Path.{_≡_, refl, sym, ap, _∙_}
 use mathlib.Core.Logic.{_≢_}
-use mathlib.Core.Bool.{Bool, true, false, cond, _&&_}
+use mathlib.Core.Bool.{Bool, true, false, cond}
 use mathlib.Core.List.{List, [], _∷_, _++_, append-nil, append-assoc}
 use native.Mathlib.Omega.{arith}
-use native.Mathlib.Numerals.{add-one}
 use lib.ListN.{length, take, drop, length-append, length-drop}
-use lib.Seq.{drop-drop, take-suc, take-all, length-take-le}
-use lib.Dec.{eqb, eqb·suc-suc, eqb·zero-suc}
-use borrow.Author.Tests.{eq-eqb, ne-eqb, eqb-true, eqb-false}
-use Rattle.format.specs.Bytes.{Bytes, byteAt, le32}
+use lib.Seq.{drop-drop, length-take-le}
+use lib.Dec.{eqb}
+use Rattle.format.specs.Bytes.{Bytes}
 use Rattle.format.specs.Record.{recordSize}
 use Rattle.format.specs.AreaHeader.{areaHeaderSize}
-use Rattle.format.specs.Reading.{ERASED, parts, Stretch, erasedEnd, freeSize, damagedBytes, damaged, totalSize, firstStretch, areaParts, areaDamage, areaFree}
-use Rattle.format_laws.specs.Crc.{Octets}
-use Rattle.format_laws.specs.Octets.{octet-at}
-use Rattle.format_laws.specs.Record.{and-left, and-right}
-use Rattle.format_laws.specs.Reading.{damaged-taken, damaged-last, free-taken, free-last, erased-end-le, total-append}
+use Rattle.format.specs.Reading.{parts, Stretch, erasedEnd, freeSize, damagedBytes, damaged, totalSize, firstStretch, areaParts, areaDamage, areaFree}
+use Rattle.format_laws.specs.Reading.{damaged-taken, damaged-last, free-taken, free-last, total-append}
 use Rattle.calls.specs.Areas.{largestImage}
 use Rattle.area_read.specs.Area.{nextRecord}
 use Rattle.area_read.specs.Laws.{Searched, searched}

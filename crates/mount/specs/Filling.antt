@@ -1,12 +1,12 @@
 -- Checks 5 to 7 by the tables are those by the records, and the tables filled are those of a mounted volume.
 use Prim.Native.Nat.{ℕ, _+_, _-_, _/_, _≤_, _<_}
-use mathlib.Core.Path.{_≡_, refl, sym, ap, ap₂, _∙_}
+use mathlib.Core.Path.{_≡_, refl, sym, ap, _∙_}
 use mathlib.Core.Bool.{Bool, true, false, cond, not}
 use mathlib.Core.Option.{Option, none, some}
 use mathlib.Core.List.{List, [], _∷_}
 use native.Mathlib.Omega.{arith}
-use lib.ListN.{length, take, drop, getD, replicate, length-take, length-drop, length-replicate}
-use lib.Seq.{getD-take, getD-drop, length-take-le}
+use lib.ListN.{length, take, drop, replicate, length-take, length-drop, length-replicate}
+use lib.Seq.{getD-take, getD-drop}
 use Rattle.format.specs.Bytes.{Bytes}
 use Rattle.format.specs.Ids.{rootId}
 use Rattle.volume.specs.Lists.{has}
@@ -23,20 +23,17 @@ use Rattle.table_rows.specs.Table.{taken, found, Rows, Good, spotOf}
 use Rattle.table_rows.specs.Laws.{fresh-good, ids-room, spots-room}
 use Rattle.table_rows.specs.declared.Spot.{Spot}
 use Rattle.table_rows.specs.Parts.{part, part-long, part-part, part-first, lent, lent-front}
-use Rattle.table_rows.specs.RowIndex.{IndexedPart, no-rows}
-use Rattle.table_rows.specs.Rows.{Usable, RowsOf, InodeTable, BlockTable, rows-exact, usable-exact, inode-table, block-table}
-use Rattle.table_fill.specs.Gather.{Tables, SameKind, AllGood, AllRows, overfull, Gathered}
+use Rattle.table_index.specs.Rows.{no-rows}
+use Rattle.table_rows.specs.Rows.{IndexedPart, Usable, RowsOf, InodeTable, BlockTable, rows-exact, usable-exact, inode-table, block-table}
+use Rattle.table_fill.specs.Gather.{Tables, SameKind, overfull, Gathered}
 use Rattle.table_fill.specs.Gather.{Ready as GatherReady}
-use Rattle.table_fill.specs.Laws.{getD-in}
-use Rattle.table_fill.specs.Agreement.{sound-places}
 use Rattle.table_fill.specs.Parts.{tablesIn, Room, allRows, inodeRows, blockRows, inodePart, blockPart, inodeIndexSize, idIndexSize, Indexed}
 use Rattle.table_fill.specs.Twins.{placeSlot, NoTwins}
 use Rattle.calls.specs.Refusal.{Check, _refused-by_, firstRefusal}
 use Rattle.calls.specs.Mount.{mostInodes, mostBlocks, mostRecords, recordsIn, tooManyIds, noRoot}
 use Rattle.calls.specs.declared.Descriptor.{Descriptor}
-use Rattle.calls_laws.specs.Records.{records-sound}
 use Rattle.area_pass.specs.Listing.{placesIn}
-use Rattle.area_pass.specs.Bridge.{places-bytes, places-lie}
+use Rattle.area_pass.specs.Bridge.{places-bytes}
 use Rattle.mount.specs.declared.Filled.{Filled}
 
 -- checks 5 to 7, of the file areas fs

@@ -4,7 +4,7 @@ use mathlib.Core.Path.{_≡_, refl, sym, ap, _∙_}
 use mathlib.Core.Logic.{_≢_}
 use mathlib.Core.Bool.{Bool, true, false, cond}
 use native.Mathlib.Omega.{arith}
-use lib.ListN.{length, take, drop, length-take, length-drop}
+use lib.ListN.{take, drop, length-take, length-drop}
 use lib.Seq.{drop-drop, take-take}
 use Rattle.format.specs.Bytes.{Bytes, byteAt, le16, le32}
 use Rattle.format.specs.Record.{inode, block, recordSize}

@@ -17,7 +17,6 @@ ghost use Rattle.format.specs.Record.{
   inodeRules,
   blockRules,
   acceptable,
-  declaredSize,
   recordSize,
 };
 ghost use Rattle.crc_laws.specs.Table.{Tables};

@@ -1,6 +1,6 @@
 -- The tables of inodes and of blocks in one part: inode ids, inode spots, block ids, block spots.
-use Prim.Native.Nat.{ℕ, _+_, _≤_}
-use mathlib.Core.Path.{_≡_, refl, sym, ap, _∙_}
+use Prim.Native.Nat.{ℕ, _+_}
+use mathlib.Core.Path.{_≡_, _∙_}
 use mathlib.Core.Bool.{Bool, true, false}
 use mathlib.Core.List.{List}
 use native.Mathlib.Omega.{arith}
@@ -10,12 +10,11 @@ use Rattle.record_places.specs.Place.{blockAt}
 use Rattle.table_words.specs.Occupancy.{capacity}
 use Rattle.table_rows.specs.declared.Updated.{Updated}
 use Rattle.calls.specs.Mount.{mostInodes, mostBlocks}
-use Rattle.table_rows.specs.Rows.{GoodPart, UpdatesPart}
+use Rattle.table_rows.specs.Rows.{GoodPart, IndexedPart, UpdatesPart}
 use Rattle.table_index.specs.Index.{slots}
 use Rattle.table_rows.specs.Parts.{part, putBack, put-long, part-long, part-same, part-before, part-after}
-use Rattle.table_rows.specs.RowIndex.{IndexedPart}
 use Rattle.table_fill.specs.Gather.{Tables, table, tables, AllGood, Tabulates}
-use Rattle.table_fill.specs.Laws.{SameSizes, sizes-trans, Going, tabulates-block, tabulates-inode}
+use Rattle.table_fill.specs.Laws.{SameSizes, Going, tabulates-block, tabulates-inode}
 use Rattle.table_fill.specs.Twins.{TwinIndex}
 
 -- the rows of inodes, of blocks, and of both: an id and a spot each

@@ -1,6 +1,6 @@
 -- The four ways that `update` ends, of the part in which a table stands.
 use Prim.Native.Nat.{ℕ, _+_, _≤_, _<_}
-use mathlib.Core.Path.{_≡_, refl, sym, ap, _∙_}
+use mathlib.Core.Path.{_≡_, _∙_}
 use mathlib.Core.List.{List}
 use native.Mathlib.Omega.{arith}
 use lib.ListN.{length, take, drop, getD, set, length-take, length-drop}
@@ -8,14 +8,14 @@ use lib.Seq.{take-take, getD-drop, getD-set-same, getD-set-other, take-set-le, t
 use Rattle.format.specs.Bytes.{Bytes}
 use Rattle.record_places.specs.Place.{byPlace, Lies}
 use Rattle.table_words.specs.Position.{positionOf}
-use Rattle.table_words.specs.Occupancy.{bits, capacity, firstZero}
+use Rattle.table_words.specs.Occupancy.{bits, firstZero}
 use Rattle.table_words.specs.Laws.{position-before, total-within, low-first, next-total}
 use Rattle.table_index.specs.Index.{slotOf, withItem}
 use Rattle.table_index.specs.Laws.{item-long}
 use Rattle.table_rows.specs.Table.{taken, rowFor}
 use Rattle.table_rows.specs.declared.Updated.the-variants.{Newer, Older, Full}
-use Rattle.table_rows.specs.Rows.{GoodPart, UpdatesPart}
-use Rattle.table_rows.specs.RowIndex.{IndexedPart, rows-still, rows-more}
+use Rattle.table_rows.specs.Rows.{GoodPart, IndexedPart, UpdatesPart}
+use Rattle.table_index.specs.Rows.{rows-still, rows-more}
 use Rattle.table_rows.proofs.Outcomes.{ends-over, ends-under, ends-new, ends-full}
 
 module _ {image : Bytes} {most : ℕ} {words part : List ℕ} (g : GoodPart image most words part) where

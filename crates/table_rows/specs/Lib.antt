@@ -4,4 +4,3 @@ pub mod Snoc
 pub mod Laws
 pub mod Parts
 pub mod Rows
-pub mod RowIndex

@@ -1,6 +1,6 @@
 -- A table whose ids and spots stand one after the other in one part, and the taken rows by themselves.
 use Prim.Native.Nat.{ℕ, _+_, _≤_, _<_}
-use mathlib.Core.Path.{_≡_, refl, sym, ap, _∙_}
+use mathlib.Core.Path.{_≡_, refl, sym, _∙_}
 use mathlib.Core.Bool.{Bool, true, false, cond, not}
 use mathlib.Core.Option.{some, none}
 use mathlib.Core.List.{List}
@@ -18,7 +18,9 @@ use Rattle.volume_laws.specs.Lists.{keep-mem}
 use Rattle.volume_laws.specs.Counting.{counting-mem}
 use Rattle.record_places.specs.Place.{byPlace, blockAt, Lies, AllLie}
 use Rattle.table_words.specs.Occupancy.{capacity}
-use Rattle.table_rows.specs.Table.{taken, rowOf, held, found, Rows, Good, Updates}
+use Rattle.table_index.specs.Index.{slots}
+use Rattle.table_index.specs.Rows.{RowIndex}
+use Rattle.table_rows.specs.Table.{taken, rowOf, found, Rows, Good, Updates}
 use Rattle.table_rows.specs.Laws.{held-some, row-counts}
 use Rattle.table_rows.specs.declared.Updated.{Updated}
 
@@ -26,6 +28,12 @@ use Rattle.table_rows.specs.declared.Updated.{Updated}
 pub record GoodPart (image : Bytes) (most : ℕ) (words part : List ℕ) : Type 0 where
   pub room : capacity words ≡ most
   pub good : Good image words (take most part) (drop most part)
+
+-- the index of the taken rows of a table of `most` rows in one part; a row's number fits into 16 bits
+pub record IndexedPart (most : ℕ) (words index part : List ℕ) : Type 0 where
+  pub long : length index ≡ slots + most
+  pub small : most < 65536
+  pub rows : RowIndex index part (taken words)
 
 -- the record p was shown to such a table
 abbrev pub UpdatesPart : Bytes → ℕ → ℕ → List ℕ → List ℕ → Updated → List ℕ → List ℕ → Type 0

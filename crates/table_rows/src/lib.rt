@@ -1,18 +1,14 @@
 // A table in one lent part of 32-bit numbers: the ids of its rows, then as many spots, the places of the records that count for them.
 // Rows are never given back, so those that are taken stand first; who reads a table is lent just those, as two shared parts.
 ghost use mathlib.Core.Path.{_≡_};
-ghost use Prim.Native.Nat.{_≤_};
-ghost use lib.ListN.{length, take};
+ghost use lib.ListN.{length};
 ghost use Rattle.record_places.specs.Place.{Lies};
-ghost use Rattle.table_words.specs.Position.{positionOf};
 ghost use Rattle.table_rows.specs.Table.{found, spotOf};
-ghost use Rattle.table_rows.specs.Rows.{GoodPart, UpdatesPart};
-ghost use Rattle.table_rows.specs.RowIndex.{RowIndex, IndexedPart};
+ghost use Rattle.table_rows.specs.Rows.{GoodPart, IndexedPart, UpdatesPart};
 use record_places::id_at;
 use record_places::sequence_at;
-use table_index::before;
-use table_index::newest;
 use table_index::put;
+use table_index::row_of;
 use table_index::slot_of;
 use table_words::first_free;
 use table_words::occupy;
@@ -32,22 +28,6 @@ pub enum Updated {
 pub enum Spot {
     At(u32),
     Nowhere,
-}
-
-// The row of `id` among the first `n`, or `n` where none of them has it: a walk of the rows that the index has in the slot of the id.
-fn row_of(index: &[u16], ids: &[u32], n: usize, id: u32) -> usize
-    requires { ⌜ n ≤ length (now ids) ⌝ }
-    requires { ⌜ RowIndex (now index) (now ids) n ⌝ }
-    ensures { λ r. ⌜ r ≡ positionOf id (take n (now (ids .entry))) ⌝ }
-{
-    let mut k = newest(index, slot_of(id as usize));
-    while 0 < k {
-        if ids[k - 1] == id {
-            return k - 1;
-        }
-        k = before(index, k);
-    }
-    n
 }
 
 // Shows the record at `p` to the table, which has `most` rows. Those that are taken stand first, so the lowest free row is their number.

@@ -1,5 +1,5 @@
 -- `mount::fill_tables` meets its contract.
-use mathlib.Core.Path.{_≡_, ap, _∙_}
+use mathlib.Core.Path.{ap, _∙_}
 use native.Mathlib.Omega.{arith}
 use Rattle.table_rows.specs.Table.{spotOf}
 use Rattle.table_fill.specs.Parts.{Room}

@@ -1,5 +1,4 @@
 -- `table_fill::twin_slot` meets its contract.
-use native.Mathlib.Omega.{arith}
 use borrow.Author.Needs.{needs}
 use Rattle.table_fill.proofs.twin_slot.Statement.{statement}
 use Rattle.table_fill.proofs.twin_slot.Tie as tie

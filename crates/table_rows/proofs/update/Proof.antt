@@ -1,5 +1,5 @@
 -- `table_rows::update` meets its contract: it ends in one of four ways.
-use Prim.Native.Nat.{_+_, _≤_, _<_}
+use Prim.Native.Nat.{_≤_, _<_}
 use mathlib.Core.Path.{_≡_, _∙_}
 use native.Mathlib.Omega.{arith}
 use lib.ListN.{take, length-set}

@@ -1,11 +1,10 @@
 -- `table_words::eights_without` meets its contract: the id is not among the first i.
 use Prim.Native.Nat.{_-_, _≤_}
-use mathlib.Core.Path.{_≡_, sym, ap₂, _∙_}
+use mathlib.Core.Path.{sym, ap₂, _∙_}
 use mathlib.Core.Bool.{_||_}
 use native.Mathlib.Omega.{arith}
 use lib.ListN.{length, take}
 use lib.Seq.{length-take-le}
-use borrow.Author.Needs.{needs}
 use Rattle.table_words.specs.Position.{Before}
 use Rattle.table_words.proofs.Steps.{before-eight, before-none}
 use Rattle.table_words.proofs.eights_without.Statement.{statement}

@@ -1,6 +1,6 @@
--- T-10: the index of a table's rows by their ids. Reading a table by it is reading it row by row.
+-- The index of a table's rows by their ids (T-10). Seeking an id by it is seeking it row by row.
 use Prim.Native.Nat.{ℕ, _+_, _-_, _≤_, _<_}
-use mathlib.Core.Path.{_≡_, refl, sym, ap, _∙_}
+use mathlib.Core.Path.{_≡_, sym, ap, _∙_}
 use mathlib.Core.Logic.{_≢_}
 use mathlib.Core.List.{List}
 use native.Mathlib.Omega.{arith}
@@ -8,10 +8,9 @@ use native.Mathlib.Decide.{ℕ-discrete}
 use lib.ListN.{length, take, getD}
 use lib.Seq.{length-take-le, getD-take}
 use Rattle.table_words.specs.Position.{positionOf}
-use Rattle.table_words.specs.Laws.{position-only, position-within, position-before}
+use Rattle.table_words.specs.Laws.{position-only}
 use Rattle.table_index.specs.Index.{slots, slotOf, newestOf, withItem, Indexes, Walk}
 use Rattle.table_index.specs.Laws.{slot-within, index-same, no-items, item-long, more-items, walk-starts, walk-goes}
-use Rattle.table_rows.specs.Table.{taken}
 
 -- the slot of the row k, from 1
 abbrev pub rowSlot : List ℕ → ℕ → ℕ
@@ -22,12 +21,6 @@ pub record RowIndex (index ids : List ℕ) (n : ℕ) : Type 0 where
   pub room : slots + n ≤ length index
   pub indexes : Indexes (rowSlot ids) index n
   pub apart : (j k : ℕ) → j < k → k < n → getD ids j 0 ≢ getD ids k 0
-
--- the index of the taken rows of a table of `most` rows in one part; a row's number fits into 16 bits
-pub record IndexedPart (most : ℕ) (words index part : List ℕ) : Type 0 where
-  pub long : length index ≡ slots + most
-  pub small : most < 65536
-  pub rows : RowIndex index part (taken words)
 
 -- the row k is not the one sought
 abbrev pub Another : List ℕ → ℕ → ℕ → Type 0

@@ -1,12 +1,11 @@
--- `table_rows::row_of` meets its contract: no row behind k has the id.
-use Prim.Native.Nat.{_-_, _<_}
-use mathlib.Core.Path.{_≡_, _∙_}
+-- `table_index::row_of` meets its contract: no row behind k has the id.
+use mathlib.Core.Path.{_≡_}
 use native.Mathlib.Omega.{arith}
 use borrow.Author.Needs.{needs}
 use Rattle.table_index.specs.Laws.{slot-within}
-use Rattle.table_rows.specs.RowIndex.{RowWalk, walk-rows, walk-on, walk-finds, walk-ends}
-use Rattle.table_rows.proofs.row_of.Statement.{statement}
-use Rattle.table_rows.proofs.row_of.Tie as tie
+use Rattle.table_index.specs.Rows.{RowWalk, walk-rows, walk-on, walk-finds, walk-ends}
+use Rattle.table_index.proofs.row_of.Statement.{statement}
+use Rattle.table_index.proofs.row_of.Tie as tie
 
 abbrev Inv-loop : tie.InvT-loop
 Inv-loop index ids n id k₀ k = RowWalk ids id n k
