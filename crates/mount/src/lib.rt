@@ -36,6 +36,17 @@ pub struct Filled {
     pub blocks: usize,
 }
 
+// The answer of a check that refuses.
+fn unfilled(number: u32) -> Filled
+    ensures { λ r. ⌜ r ≡ record { number = number; inodes = 0; blocks = 0 } ⌝ }
+{
+    Filled {
+        number,
+        inodes: 0,
+        blocks: 0,
+    }
+}
+
 // Checks 5 to 7 of the records at the first `n` places, and the tables of those that count.
 fn fill_tables(image: &[u8], places: &[u16], n: usize, rows: &mut [u32]) -> Filled
     requires { ⌜ Ready (now image) (now places) n (now rows) ⌝ }
@@ -43,7 +54,7 @@ fn fill_tables(image: &[u8], places: &[u16], n: usize, rows: &mut [u32]) -> Fill
 {
     let mut iwords = [0u64; INODE_WORDS];
     let mut bwords = [0u64; BLOCK_WORDS];
-    let mut index = [0u16; ID_INDEX];
+    let mut ids = [0u16; ID_INDEX];
     let mut twins = [0u16; TWIN_INDEX];
     let number = gather(
         image,
@@ -51,26 +62,18 @@ fn fill_tables(image: &[u8], places: &[u16], n: usize, rows: &mut [u32]) -> Fill
         n,
         &mut iwords[..],
         &mut bwords[..],
-        &mut index[..],
+        &mut ids[..],
         &mut *rows,
         &mut twins[..],
     );
     if number != 0 {
-        return Filled {
-            number,
-            inodes: 0,
-            blocks: 0,
-        };
+        return unfilled(number);
     }
     let inodes = taken(&iwords[..]);
     let blocks = taken(&bwords[..]);
     let end = MOST_INODES + inodes;
     let Spot::At(_) = find(&rows[0..inodes], &rows[MOST_INODES..end], ROOT) else {
-        return Filled {
-            number: NO_ROOT,
-            inodes: 0,
-            blocks: 0,
-        };
+        return unfilled(NO_ROOT);
     };
     Filled {
         number: 0,

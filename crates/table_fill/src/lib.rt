@@ -91,22 +91,22 @@ fn tabulate(
     image: &[u8],
     iwords: &mut [u64],
     bwords: &mut [u64],
-    index: &mut [u16],
+    ids: &mut [u16],
     rows: &mut [u32],
     p: u32,
 ) -> Updated
     requires { ⌜ AllGood (now image) (tablesIn (now iwords) (now bwords) (now rows)) ⌝ }
     requires { ⌜ Room (now iwords) (now bwords) (now rows) ⌝ }
-    requires { ⌜ Indexed (now iwords) (now bwords) (now index) (now rows) ⌝ }
+    requires { ⌜ Indexed (now iwords) (now bwords) (now ids) (now rows) ⌝ }
     requires { ⌜ Lies (now image) p ⌝ }
     ensures shown { λ r. ⌜ Tabulates (now (image .entry)) p (tablesIn (now (iwords .entry)) (now (bwords .entry)) (now (rows .entry))) r (tablesIn (now (iwords .exit)) (now (bwords .exit)) (now (rows .exit))) ⌝ }
-    ensures indexed { λ r. ⌜ Indexed (now (iwords .exit)) (now (bwords .exit)) (now (index .exit)) (now (rows .exit)) ⌝ }
+    ensures indexed { λ r. ⌜ Indexed (now (iwords .exit)) (now (bwords .exit)) (now (ids .exit)) (now (rows .exit)) ⌝ }
 {
     if is_block_at(image, p) {
         return update(
             image,
             &mut *bwords,
-            &mut index[INODE_INDEX..ID_INDEX],
+            &mut ids[INODE_INDEX..ID_INDEX],
             &mut rows[INODE_ROWS..ALL_ROWS],
             MOST_BLOCKS,
             p,
@@ -115,14 +115,14 @@ fn tabulate(
     update(
         image,
         &mut *iwords,
-        &mut index[0..INODE_INDEX],
+        &mut ids[0..INODE_INDEX],
         &mut rows[0..INODE_ROWS],
         MOST_INODES,
         p,
     )
 }
 
-// Puts the records at the first `n` places into empty tables, and answers 5 or 6 where they are refused, else 0.
+// Puts the records at the first `n` places into empty tables, and answers 5 or 6 where they are refused, else 0; `ids` and `twins` are empty indexes.
 // One pass: a full table answers 5 at once, and a clash is only noted, so that 5 comes before 6 wherever the records lie.
 // A record that counts now has a sequence greater than all before of its id, so it has no twin to be compared with.
 pub fn gather(
@@ -131,13 +131,13 @@ pub fn gather(
     n: usize,
     iwords: &mut [u64],
     bwords: &mut [u64],
-    index: &mut [u16],
+    ids: &mut [u16],
     rows: &mut [u32],
     twins: &mut [u16],
 ) -> u32
     requires { ⌜ Ready (now image) (now places) n (tablesIn (now iwords) (now bwords) (now rows)) ⌝ }
     requires { ⌜ Room (now iwords) (now bwords) (now rows) ⌝ }
-    requires { ⌜ Indexed (now iwords) (now bwords) (now index) (now rows) ⌝ }
+    requires { ⌜ Indexed (now iwords) (now bwords) (now ids) (now rows) ⌝ }
     requires { ⌜ NoTwins (now image) (now places) (now twins) n ⌝ }
     ensures { λ r. ⌜ Gathered (now (image .entry)) (take n (now (places .entry))) (tablesIn (now (iwords .entry)) (now (bwords .entry)) (now (rows .entry))) r (tablesIn (now (iwords .exit)) (now (bwords .exit)) (now (rows .exit))) ⌝ }
 {
@@ -145,14 +145,7 @@ pub fn gather(
     let mut i = 0;
     while i < n {
         let p = places[i] as u32;
-        let updated = tabulate(
-            image,
-            &mut *iwords,
-            &mut *bwords,
-            &mut *index,
-            &mut *rows,
-            p,
-        );
+        let updated = tabulate(image, &mut *iwords, &mut *bwords, &mut *ids, &mut *rows, p);
         match updated {
             Updated::Full => return TOO_MANY_IDS,
             Updated::Newer => {

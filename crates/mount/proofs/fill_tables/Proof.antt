@@ -37,10 +37,12 @@ gather-requires c κs =
 
 returns : tie.Need-returns
 returns c =
-    let g = at-gather (c .before) in
+    let t = c .before in
+    let g = at-gather (t .before) in
     let s = start g in
-    fill-refused (s .args .image .now) (s .args .places .now) (s .args .n) (s .args .rows .now) (g .gather .result)
-    (g .gather .last .1 .1 .1 .0) (g .gather .last .1 .1 .1 .1 .0) (g .gather .last .1 .1 .1 .1 .1 .1 .0) (g .gather .ensures) (room g) (c .if1 .taken)
+    rw (c .unfilled .ensures)
+    (fill-refused (s .args .image .now) (s .args .places .now) (s .args .n) (s .args .rows .now) (g .gather .result)
+    (g .gather .last .1 .1 .1 .0) (g .gather .last .1 .1 .1 .1 .0) (g .gather .last .1 .1 .1 .1 .1 .1 .0) (g .gather .ensures) (room g) (t .if1 .taken))
 
 abbrev at-blocks : tie.After-find → tie.After-taken2
 at-blocks f = f .before .before .before .before
@@ -53,14 +55,16 @@ at-else f = at-inodes f .before .before
 
 returns-2 : tie.Need-returns-2
 returns-2 c =
-    let f = c .before .before in
+    let n = c .before in
+    let f = n .before .before in
     let e = at-else f in
     let g = at-gather (e .before) in
     let s = start g in
-    fill-rootless (s .args .image .now) (s .args .places .now) (s .args .n) (s .args .rows .now) (g .gather .result)
+    rw (c .unfilled2 .ensures)
+    (fill-rootless (s .args .image .now) (s .args .places .now) (s .args .n) (s .args .rows .now) (g .gather .result)
     (g .gather .last .1 .1 .1 .0) (g .gather .last .1 .1 .1 .1 .0) (g .gather .last .1 .1 .1 .1 .1 .1 .0) (g .gather .ensures) (room g) (e .if1 .left)
     (at-inodes f .taken .result) (at-blocks f .taken2 .result) (at-inodes f .taken .ensures .0) (at-blocks f .taken2 .ensures .0)
-    (f .find .result) (f .find .ensures) (ap spotOf (c .enum-told2 .given .1))
+    (f .find .result) (f .find .ensures) (ap spotOf (n .enum-told2 .given .1)))
 
 returns-3 : tie.Need-returns-3
 returns-3 c =
@@ -82,6 +86,7 @@ fill-tables-spec =
     (λ c. search needs)
     (λ c. search needs)
     gather-requires
+    (λ c κs. search needs)
     (λ c. search needs)
     returns
     (λ c. search needs)
@@ -98,6 +103,7 @@ fill-tables-spec =
     (λ c κs. search needs)
     (λ c. search needs)
     (λ c. search needs)
+    (λ c κs. search needs)
     (λ c. search needs)
     returns-2
     (λ c. search needs)

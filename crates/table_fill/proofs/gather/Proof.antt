@@ -17,11 +17,11 @@ use Rattle.table_fill.proofs.gather.Statement.{statement}
 use Rattle.table_fill.proofs.gather.Tie as tie
 
 abbrev Inv-loop : tie.InvT-loop
-Inv-loop image places n iwords₀ bwords₀ index₀ rows₀ twins₀ agreed₀ i₀ iwords bwords index rows twins agreed i =
-    Turn image places n iwords₀ bwords₀ rows₀ twins₀ iwords bwords index rows twins agreed i
+Inv-loop image places n iwords₀ bwords₀ ids₀ rows₀ twins₀ agreed₀ i₀ iwords bwords ids rows twins agreed i =
+    Turn image places n iwords₀ bwords₀ rows₀ twins₀ iwords bwords ids rows twins agreed i
 
 abbrev μ-loop : tie.MeasureT-loop
-μ-loop image places n iwords₀ bwords₀ index₀ rows₀ twins₀ agreed₀ i₀ iwords bwords index rows twins agreed i = n - i
+μ-loop image places n iwords₀ bwords₀ ids₀ rows₀ twins₀ agreed₀ i₀ iwords bwords ids rows twins agreed i = n - i
 
 -- the arguments, from the head of the loop, and the tables then and at a turn
 abbrev start : tie.At-loop Inv-loop μ-loop → tie.Start Inv-loop μ-loop
