@@ -38,7 +38,7 @@
 #include <string.h>
 
 /* Of the calls and their declarations here. */
-#define NFFS_VERSION "0.5.0"
+#define NFFS_VERSION "0.5.1"
 
 /* An answer that nobody looks at may be a refusal. */
 #if defined(__cplusplus) && __cplusplus >= 201703L
