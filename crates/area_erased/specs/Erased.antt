@@ -1,4 +1,4 @@
--- Where the erased end of some bytes begins, sought from behind; and that nothing starts there.
+-- Where the erased end of some bytes begins, sought from behind.
 use Prim.Native.Nat.{ℕ, zero, suc, _+_, _-_, _*_, _^_, _≤_, _<_}
 use mathlib.Core.Path.{_≡_, refl, sym, subst, _∙_}
 use mathlib.Core.Logic.{_⊎_, inl, inr}
@@ -12,11 +12,12 @@ use lib.Dec.{eqb, ltb, eqb·suc-suc, eqb·zero-suc}
 use borrow.Author.Tests.{eq-eqb, ne-eqb, eqb-true, eqb-false, ltb-true, ltb-false, le-ltb}
 use Rattle.format.specs.Bytes.{Bytes, byteAt, le32}
 use Rattle.format.specs.Reading.{ERASED, erasedEnd}
+use Rattle.format_laws.specs.Bytes.{drop-byte}
 use Rattle.format_laws.specs.Crc.{Octets}
 use Rattle.format_laws.specs.Octets.{octet-at}
-use Rattle.format_laws.specs.Record.{and-left, and-right, record-blank}
+use Rattle.format_laws.specs.Record.{and-left, and-right}
 use Rattle.format_laws.specs.Reading.{erased-end-le}
-use Rattle.area_read.specs.Area.{search, nextRecord}
+use Rattle.area_read.specs.Area.{WrittenTo}
 
 -- ---- the erased end, byte by byte
 
@@ -166,19 +167,18 @@ erased-rest (suc k) (b ∷ l) h = go (erased-cons b l) (erased-rest k l (omega a
       all = λ q. r .all (omega (arith, e, f)) ∙ omega arith;
     }
 
--- what is erased to the end has no record
-all-erased : (t : Bytes) (p : ℕ) → erasedEnd t ≡ length t → search t p ≡ record { at = p + length t; size = 0 }
-unfolding search
-all-erased [] p e = let z : p + 0 ≡ p = omega arith in rw z
-all-erased (b ∷ l) p e = go (erased-cons b l) (all-erased l (suc p))
+-- each byte of the end is erased
+pub erased-bytes : (s : Bytes) (j : ℕ) → length s - erasedEnd s ≤ j → j < length s → byteAt s j ≡ ERASED
+erased-bytes [] j h g = absurd (omega arith)
+erased-bytes (b ∷ l) j h g = go j h g (erased-cons b l) (erased-bytes l)
   where
-    go : (erasedEnd (b ∷ l) ≡ erasedEnd l) ⊎ ((erasedEnd l ≡ length l) × (b ≡ ERASED) × (erasedEnd (b ∷ l) ≡ suc (erasedEnd l)))
-        → (erasedEnd l ≡ length l → search l (suc p) ≡ record { at = suc p + length l; size = 0 })
-        → search (b ∷ l) p ≡ record { at = p + suc (length l); size = 0 }
-    go (inl q) ih = absurd (omega (arith, e, q, erased-end-le l))
-    go (inr (f, d, q)) ih =
-        let z : p + suc (length l) ≡ suc p + length l = omega arith in
-        rw (search, record-blank (b ∷ l) (inr d), z) (ih f)
+    go : (j : ℕ) → suc (length l) - erasedEnd (b ∷ l) ≤ j → j < suc (length l)
+        → (erasedEnd (b ∷ l) ≡ erasedEnd l) ⊎ ((erasedEnd l ≡ length l) × (b ≡ ERASED) × (erasedEnd (b ∷ l) ≡ suc (erasedEnd l)))
+        → ((j : ℕ) → length l - erasedEnd l ≤ j → j < length l → byteAt l j ≡ ERASED) → byteAt (b ∷ l) j ≡ ERASED
+    go zero h g (inl e) ih = absurd (omega (arith, e, erased-end-le l))
+    go zero h g (inr (f, d, e)) ih = d
+    go (suc j) h g (inl e) ih = ih j (omega (arith, e)) (omega arith)
+    go (suc j) h g (inr (f, d, e)) ih = ih j (omega (arith, e, f)) (omega arith)
 
 -- the later of two places
 abbrev pub laterOf : ℕ → ℕ → ℕ
@@ -191,15 +191,14 @@ later-between a b n h g = go (ltb a b) refl
     go true e = (omega (arith, ltb-true a b e), g)
     go false e = (omega arith, h)
 
--- What is written of an area, looked at from `from` on, ends at `written`.
-pub record WrittenTo (area : Bytes) (from written : ℕ) : Type 0 where
-  pub within : from ≤ length area
+-- The end of an area that was counted from a place on, seen from one behind it: where what is written ends, and how much of it is left to come.
+pub record Ended (area : Bytes) (from written : ℕ) : Type 0 where
+  pub written-to : WrittenTo area from written
   pub ends : erasedEnd (drop from area) ≡ length area - laterOf from written
 
--- it is so from every place, with the end that was counted from one before
-pub written-to : (area : Bytes) (a from n : ℕ) → a ≤ from → from ≤ length area → n ≡ erasedEnd (drop a area) → WrittenTo area from (length area - n)
-written-to area a from n h g e = record {
-  within = g;
+pub ended : (area : Bytes) (a from n : ℕ) → a ≤ from → from ≤ length area → n ≡ erasedEnd (drop a area) → Ended area from (length area - n)
+ended area a from n h g e = record {
+  written-to = record { within = g; inside = omega arith; erased = λ j l b. erased j l b };
   ends = rw (← moved) (go (ltb from (length area - n)) refl);
 }
   where
@@ -215,15 +214,11 @@ written-to area a from n h g e = record {
     few : n ≤ length area - a
     few = omega (arith, e, erased-end-le (drop a area), long)
 
+    erased : (j : ℕ) → length area - n ≤ j → j < length area → byteAt area j ≡ ERASED
+    erased j l b =
+        let z : a + (j - a) ≡ j = omega (arith, few) in
+        rw z at (sym (drop-byte a area (j - a)) ∙ erased-bytes (drop a area) (j - a) (omega (arith, e, long)) (omega (arith, long, few)))
+
     go : (t : Bool) → ltb from (length area - n) ≡ t → erasedEnd (drop (from - a) (drop a area)) ≡ length area - cond t (length area - n) from
     go true q = let l = ltb-true from (length area - n) q in rest .whole (omega (arith, e, long)) ∙ omega (arith, e, few)
     go false q = let l = ltb-false from (length area - n) q in rest .all (omega (arith, e, long)) ∙ omega (arith, long)
-
--- nothing starts behind it
-pub nothing-written : (area : Bytes) (from written : ℕ) → WrittenTo area from written → written ≤ from → nextRecord area from ≡ record { at = length area; size = 0 }
-unfolding nextRecord
-nothing-written area from written w h =
-    let x : laterOf from written ≡ from = rw (le-ltb from written h) in
-    let long : length (drop from area) ≡ length area - from = length-drop from area in
-    let y : from + length (drop from area) ≡ length area = omega (arith, long, w .within) in
-    rw y at (all-erased (drop from area) from (omega (arith, w .ends, x, long)))

@@ -3,11 +3,7 @@ ghost use mathlib.Core.Path.{_≡_};
 ghost use Prim.Native.Nat.{_+_, _≤_};
 ghost use lib.ListN.{length};
 ghost use Rattle.format.specs.Reading.{erasedEnd};
-ghost use Rattle.crc_laws.specs.Table.{Tables};
-ghost use Rattle.area_read.specs.Area.{nextRecord};
-ghost use Rattle.area_erased.specs.Erased.{erasedEight, erasedThirtyTwo, ErasedFrom, laterOf, WrittenTo};
-use area_read::Next;
-use area_read::next_record;
+ghost use Rattle.area_erased.specs.Erased.{erasedEight, erasedThirtyTwo, ErasedFrom, laterOf};
 use byte_fields::load32;
 use byte_store::ERASED;
 
@@ -63,19 +59,4 @@ pub fn later(a: usize, b: usize) -> usize
     ensures { λ r. ⌜ r ≡ laterOf a b ⌝ }
 {
     if a < b { b } else { a }
-}
-
-// The first record that starts at `from` or after it. What is written of the area ends at `written`, so nothing is looked at behind that.
-pub fn next_written(high: &[u16], low: &[u16], area: &[u8], from: usize, written: usize) -> Next
-    requires tables { ⌜ Tables (now high) (now low) ⌝ }
-    requires { ⌜ WrittenTo (now area) from written ⌝ }
-    ensures { λ r. ⌜ r ≡ nextRecord (now (area .entry)) from ⌝ }
-{
-    if written <= from {
-        return Next {
-            at: area.len(),
-            size: 0,
-        };
-    }
-    next_record(high, low, area, from)
 }

@@ -16,8 +16,8 @@ use area_damage::no_damage;
 use area_damage::with_stretch;
 use area_erased::erased_end;
 use area_erased::later;
-use area_erased::next_written;
 use area_read::HEADER_SIZE;
+use area_read::next_record;
 use calls::MOST_AREAS;
 
 // The rows of the file areas in columns: starts first, then spans, stretches of damage, and where free space starts.
@@ -63,7 +63,7 @@ pub fn list_area(
     let mut at = HEADER_SIZE;
     let mut damage = no_damage();
     loop {
-        let next = next_written(high, low, area, at, written);
+        let next = next_record(high, low, area, at, written);
         let start = next.at;
         if next.size == 0 {
             let free = later(at, written);

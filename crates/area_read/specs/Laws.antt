@@ -1,7 +1,7 @@
 -- Laws of the next record, which the loops use.
 use Prim.Native.Nat.{ℕ, zero, suc, _+_, _-_, _≤_, _<_}
 use mathlib.Core.Path.{_≡_, refl, ap, _∙_}
-use mathlib.Core.Logic.{_≢_}
+use mathlib.Core.Logic.{_≢_, inr}
 use mathlib.Core.List.{[], _∷_}
 use native.Mathlib.Omega.{arith}
 use native.Mathlib.Numerals.{add-one}
@@ -11,11 +11,12 @@ use lib.Seq.{drop-cons, drop-drop, length-take-le}
 use Rattle.format.specs.Bytes.{Bytes}
 use Rattle.format.specs.Record.{recordSize}
 use Rattle.format.specs.Reading.{taken, parts, placed}
-use Rattle.format_laws.specs.Record.{record-inside, record-least}
+use Rattle.format_laws.specs.Bytes.{drop-byte}
+use Rattle.format_laws.specs.Record.{record-inside, record-least, record-blank}
 use Rattle.format_laws.specs.Taken.{recordsFrom, recordAt}
 use Rattle.format_laws.specs.Reading.{passed, parts-none, parts-take, parts-pass, placed-passed, placed-none, placed-taken}
 use Rattle.record_magics.specs.Magic.{Passed, Onward}
-use Rattle.area_read.specs.Area.{search, nextRecord}
+use Rattle.area_read.specs.Area.{search, nextRecord, WrittenTo}
 use Rattle.area_read.specs.declared.Next.{Next}
 
 -- ---- the loop of the next record
@@ -52,6 +53,16 @@ next-onward area at to h o =
     let b = o .within h in
     let x : at + (to - at) ≡ to = omega arith in
     rw x at (next-passed area at (to - at) (omega arith) (o .passed))
+
+-- behind what is written none starts
+pub next-unwritten : (area : Bytes) (from written at : ℕ) → WrittenTo area from written → written ≤ at → at ≤ length area
+    → nextRecord area at ≡ record { at = length area; size = 0 }
+next-unwritten area from written at w h g =
+    next-onward area at (length area) g (record { onward = g; within = λ l. omega arith; passed = record { none = none } })
+    ∙ next-ends area (length area) (omega arith)
+  where
+    none : (j : ℕ) → j < length area - at → recordSize (drop (at + j) area) ≡ 0
+    none j l = record-blank (drop (at + j) area) (inr (drop-byte (at + j) area 0 ∙ rw (add-zero (at + j)) (w .erased (at + j) (omega arith) (omega arith))))
 
 -- ---- what the next record tells of the parts
 

@@ -7,7 +7,7 @@ ghost use Rattle.format.specs.AreaHeader.{areaHeaderSize, magicsRight, validHea
 ghost use Rattle.crc_laws.specs.Table.{Tables};
 ghost use Rattle.calls.specs.Areas.{goodArea, areaBytes};
 ghost use Rattle.area_list.specs.Described.{areaOf};
-ghost use Rattle.area_read.specs.Area.{nextRecord};
+ghost use Rattle.area_read.specs.Area.{nextRecord, WrittenTo};
 ghost use Rattle.area_read.specs.Kinds.{HasId, HasCount, kindOf};
 use area_list::area_end;
 use byte_fields::load32;
@@ -127,18 +127,23 @@ pub fn area_kind(image: &[u8], offset: u32, span: u32) -> AreaKind
     AreaKind::File
 }
 
-// The first record that starts at `from` or after it. The tables of the check are lent.
-pub fn next_record(high: &[u16], low: &[u16], area: &[u8], from: usize) -> Next
-    requires { ⌜ Tables (now high) (now low) ⌝ }
+// The first record that starts at `from` or after it. What is written of the area ends at `written`: nothing starts behind that, and nothing there is
+// looked at. The tables of the check are lent.
+pub fn next_record(high: &[u16], low: &[u16], area: &[u8], from: usize, written: usize) -> Next
+    requires tables { ⌜ Tables (now high) (now low) ⌝ }
+    requires { ⌜ WrittenTo (now area) from written ⌝ }
     ensures { λ r. ⌜ r ≡ nextRecord (now (area .entry)) from ⌝ }
 {
     let mut at = from;
-    while at < area.len() {
+    while at < written {
         let size = record_size(high, low, &area[at..]);
         if size != 0 {
             return Next { at, size };
         }
-        at = next_magic(area, at + 1);
+        at = next_magic(area, at + 1, written);
     }
-    Next { at, size: 0 }
+    Next {
+        at: area.len(),
+        size: 0,
+    }
 }

@@ -114,14 +114,17 @@ fn starts(len: usize) -> usize
     len - (InodeHeader::SIZE - 1)
 }
 
-// The place to look at next, from `from` on: no record starts before it. The search stops at a magic, or goes on to the area's end.
-fn next_marked(marks: &[u64], area: &[u8], from: usize) -> usize
+// The place to look at next, from `from` on: no record starts before it. The search stops at a magic, from `stop` on, or goes on to the area's end.
+fn next_marked(marks: &[u64], area: &[u8], from: usize, stop: usize) -> usize
     requires { ⌜ Marks (now marks) ⌝ }
     ensures { λ r. ⌜ Onward (now (area .entry)) from r ⌝ }
 {
     let end = starts(area.len());
     let mut at = from;
     while at < end {
+        if stop <= at {
+            return at;
+        }
         if clear_sixteen(marks, area, at) {
             at += 16;
         } else {
@@ -139,8 +142,8 @@ fn next_marked(marks: &[u64], area: &[u8], from: usize) -> usize
 }
 
 // The same. A function of its own, which sets up the marks once for each search.
-pub fn next_magic(area: &[u8], from: usize) -> usize
+pub fn next_magic(area: &[u8], from: usize, stop: usize) -> usize
     ensures { λ r. ⌜ Onward (now (area .entry)) from r ⌝ }
 {
-    next_marked(&MARKS, area, from)
+    next_marked(&MARKS, area, from, stop)
 }

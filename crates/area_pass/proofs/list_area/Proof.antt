@@ -8,7 +8,7 @@ use lib.ListN.{length, drop, length-drop}
 use Rattle.format.specs.Reading.{erasedEnd}
 use Rattle.format_laws.specs.Bytes.{rest-part}
 use Rattle.format_laws.specs.Reading.{erased-end-le}
-use Rattle.area_erased.specs.Erased.{WrittenTo, written-to, later-between}
+use Rattle.area_erased.specs.Erased.{Ended, ended, later-between}
 use Rattle.format.specs.AreaHeader.{areaHeaderSize}
 use Rattle.calls.specs.Areas.{largestImage}
 use Rattle.area_read.specs.Laws.{Nexts, next-law}
@@ -36,10 +36,10 @@ abbrev start : tie.At-loop Inv-loop μ-loop → tie.Start Inv-loop μ-loop
 start l = l .before .before .before .before .before .before .before .before
 
 -- what the next record tells
-next : (c : tie.After-next-written Inv-loop μ-loop) → Nexts (start (c .before) .args .area .now) (c .before .loop .at) (c .next-written .result)
+next : (c : tie.After-next-record Inv-loop μ-loop) → Nexts (start (c .before) .args .area .now) (c .before .loop .at) (c .next-record .result)
 next c =
     let l = c .before in
-    next-law (start l .args .area .now) (l .loop .at) (c .next-written .result) (l .loop .inv .listing .within) (c .next-written .ensures)
+    next-law (start l .args .area .now) (l .loop .at) (c .next-record .result) (l .loop .inv .listing .within) (c .next-record .ensures)
 
 -- there is a place for it
 room : (c : tie.Else1 Inv-loop μ-loop) → let l = c .before .before .before in l .loop .k < length (l .loop .places)
@@ -48,7 +48,7 @@ room c =
     let l = n .before in
     let s = start l in
     has-room (s .args .area .now) (s .args .base) (s .args .places .now) (s .args .n) (l .loop .places) (l .loop .k) (l .loop .at) (s .pre .1) (l .loop .inv .listing)
-    (n .next-written .result) (next n) (c .if1 .left)
+    (n .next-record .result) (next n) (c .if1 .left)
 
 -- the numbers of a turn that has found a record
 record Turn (at f size length k most base : ℕ) : Type 0 where
@@ -59,7 +59,7 @@ record Turn (at f size length k most base : ℕ) : Type 0 where
   end : base + length ≤ largestImage
 
 turn : (c : tie.Else1 Inv-loop μ-loop) → let n = c .before .before in let l = n .before in
-    Turn (l .loop .at) (n .next-written .result .at) (n .next-written .result .size) (length (start l .args .area .now)) (l .loop .k) (length (l .loop .places)) (start l .args .base)
+    Turn (l .loop .at) (n .next-record .result .at) (n .next-record .result .size) (length (start l .args .area .now)) (l .loop .k) (length (l .loop .places)) (start l .args .base)
 turn c =
     let n = c .before .before in
     let l = n .before in
@@ -85,14 +85,14 @@ loop-holds c =
     }
 
 -- what is written of the area ends, from where the loop has come to, where it was found before it
-written : (l : tie.At-loop Inv-loop μ-loop) → WrittenTo (start l .args .area .now) (l .loop .at) (length (start l .args .area .now) - l .before .before .erased-end .result)
+written : (l : tie.At-loop Inv-loop μ-loop) → Ended (start l .args .area .now) (l .loop .at) (length (start l .args .area .now) - l .before .before .erased-end .result)
 written l =
     let s = start l in
-    written-to (s .args .area .now) areaHeaderSize (l .loop .at) (l .before .before .erased-end .result) (l .loop .inv .reading .started) (l .loop .inv .reading .within)
+    ended (s .args .area .now) areaHeaderSize (l .loop .at) (l .before .before .erased-end .result) (l .loop .inv .reading .started) (l .loop .inv .reading .within)
     (rw (rest-part (s .args .area .now) areaHeaderSize) at (l .before .before .erased-end .ensures))
 
-next-written-requires : tie.Need-next-written-requires Inv-loop μ-loop
-next-written-requires c κs = (start c .pre .0, written c)
+next-record-requires : tie.Need-next-record-requires Inv-loop μ-loop
+next-record-requires c κs = (start c .pre .0, written c .written-to)
 
 -- where free space starts: not before the place the loop has come to, and in the area
 free : (c : tie.After-later Inv-loop μ-loop) → let l = c .before .before .before .before in
@@ -102,7 +102,7 @@ free c =
     let l = c .before .before .before .before in
     let w = written l in
     let n = length (start l .args .area .now) - l .before .before .erased-end .result in
-    let b = later-between (l .loop .at) n (length (start l .args .area .now)) (w .within) (omega arith) in
+    let b = later-between (l .loop .at) n (length (start l .args .area .now)) (w .written-to .within) (omega arith) in
     rw (c .later .ensures) (b .0, b .1, w .ends)
 
 sub-with-stretch : tie.Need-sub-with-stretch Inv-loop μ-loop
@@ -125,9 +125,9 @@ returns c =
     let s = start l in
     let f = free e in (
       listing-ends (s .args .area .now) (s .args .base) (s .args .places .now) (s .args .n) (l .loop .places) (l .loop .k) (l .loop .at) (s .pre .1) (l .loop .inv .listing)
-          (n .next-written .result) (next n) (t .if1 .taken),
+          (n .next-record .result) (next n) (t .if1 .taken),
       read-ends (s .args .area .now) (s .args .stretch) (l .loop .at) (l .loop .damage) (l .loop .inv .reading)
-          (n .next-written .result) (n .next-written .ensures) (t .if1 .taken) (e .later .result) (f .0) (f .1) (f .2)
+          (n .next-record .result) (n .next-record .ensures) (t .if1 .taken) (e .later .result) (f .0) (f .1) (f .2)
           (c .with-stretch .result) (λ m q. stretch-behind _ _ _ _ m q _ (c .with-stretch .ensures)),
     )
 
@@ -147,9 +147,9 @@ loop-again c =
     let s = start l in
     record {
       listing = listing-on (s .args .area .now) (s .args .base) (s .args .places .now) (s .args .n) (l .loop .places) (l .loop .k) (l .loop .at) (s .pre .1) (l .loop .inv .listing)
-          (n .next-written .result) (next n) (e .if1 .left);
+          (n .next-record .result) (next n) (e .if1 .left);
       reading = read-on (s .args .area .now) (s .args .stretch) (l .loop .at) (l .loop .damage) (l .loop .inv .reading)
-          (n .next-written .result) (n .next-written .ensures) (e .if1 .left) (o .with-stretch2 .result) (λ m q. stretch-behind _ _ _ _ m q _ (o .with-stretch2 .ensures));
+          (n .next-record .result) (n .next-record .ensures) (e .if1 .left) (o .with-stretch2 .result) (λ m q. stretch-behind _ _ _ _ m q _ (o .with-stretch2 .ensures));
     }
 
 pub list-area-spec : {M : Type 1} → statement M
@@ -165,7 +165,7 @@ list-area-spec =
     (λ c. erased-inside c)
     (λ c κs. search needs)
     loop-holds
-    next-written-requires
+    next-record-requires
     (λ c κs. search needs)
     sub-with-stretch
     with-stretch-requires

@@ -13,10 +13,10 @@ use Rattle.record_magics.proofs.next_marked.Statement.{statement}
 use Rattle.record_magics.proofs.next_marked.Tie as tie
 
 abbrev Inv-loop : tie.InvT-loop
-Inv-loop marks area from end at₀ at = Onward area from at
+Inv-loop marks area from stop end at₀ at = Onward area from at
 
 abbrev μ-loop : tie.MeasureT-loop
-μ-loop marks area from end at₀ at = length area - at
+μ-loop marks area from stop end at₀ at = length area - at
 
 -- the area, whose elements are bytes, and where the search began
 abbrev area : tie.At-loop Inv-loop μ-loop → Bytes
@@ -37,37 +37,37 @@ room t = let r = rw (t .before .before .starts .ensures) at (t .loop-test .taken
 
 loop-again : tie.Need-loop-again Inv-loop μ-loop
 loop-again c =
-    let t = c .before .before in
+    let t = c .before .before .before in
     let l = t .before in
     let r = room t in
-    let p = sixteen-passed (area l) (octets l) (l .loop .at) (via (c .before .clear-sixteen .ensures) (c .if1 .taken)) in
+    let p = sixteen-passed (area l) (octets l) (l .loop .at) (via (c .before .clear-sixteen .ensures) (c .if2 .taken)) in
     onward-more (area l) (from l) (l .loop .at) (l .loop .inv) 16 (omega (arith, r)) p
 
-returns : tie.Need-returns Inv-loop μ-loop
-returns c =
+returns-2 : tie.Need-returns-2 Inv-loop μ-loop
+returns-2 c =
     let m = c .before in
-    let t = m .before .before .before in
+    let t = m .before .before .before .before in
     let l = t .before in
     let r = room t in
-    onward-more (area l) (from l) (l .loop .at) (l .loop .inv) (m .magic-in-four .result) (omega (arith, r, c .if2 .taken)) (m .magic-in-four .ensures .1)
+    onward-more (area l) (from l) (l .loop .at) (l .loop .inv) (m .magic-in-four .result) (omega (arith, r, c .if3 .taken)) (m .magic-in-four .ensures .1)
 
 loop-again-2 : tie.Need-loop-again-2 Inv-loop μ-loop
 loop-again-2 c =
     let m = c .before in
-    let t = m .before .before .before in
+    let t = m .before .before .before .before in
     let l = t .before in
     let r = room t in
-    let e : m .magic-in-four .result ≡ 4 = omega (arith, c .if2 .left, m .magic-in-four .ensures .0) in
+    let e : m .magic-in-four .result ≡ 4 = omega (arith, c .if3 .left, m .magic-in-four .ensures .0) in
     onward-more (area l) (from l) (l .loop .at) (l .loop .inv) 4 (omega (arith, r)) (rw e at (m .magic-in-four .ensures .1))
 
-returns-2 : tie.Need-returns-2 Inv-loop μ-loop
-returns-2 c =
+returns-3 : tie.Need-returns-3 Inv-loop μ-loop
+returns-3 c =
     let l = c .before .before in
     let r = rw (l .before .starts .ensures) at (c .before .loop-test .left) in
     onward-ends (area l) (from l) (l .loop .at) (l .loop .inv) (omega arith) (omega (arith, r))
 
-returns-3 : tie.Need-returns-3 Inv-loop μ-loop
-returns-3 c = c .before .before .loop .inv
+returns-4 : tie.Need-returns-4 Inv-loop μ-loop
+returns-4 c = c .before .before .loop .inv
 
 pub next-marked-spec : {M : Type 1} → statement M
 next-marked-spec =
@@ -77,15 +77,16 @@ next-marked-spec =
     μ-loop
     (λ c κs. search needs)
     loop-holds
+    (λ c. c .before .before .loop .inv)
     (λ c κs. search needs)
     (λ c. search needs)
     (λ c. search needs)
     loop-again
     (λ c κs. search needs)
     (λ c. search needs)
-    returns
+    returns-2
     (λ c. search needs)
     (λ c. search needs)
     loop-again-2
-    returns-2
-    returns-3)
+    returns-3
+    returns-4)
