@@ -9,7 +9,7 @@ use native.Mathlib.Numerals.{add-one}
 use lib.ListN.{length, take, drop, length-append, length-drop}
 use lib.Seq.{drop-drop, take-suc, take-all}
 use lib.Dec.{eqb, ltb, eqb·suc-suc, eqb·zero-suc}
-use borrow.Author.Tests.{eq-eqb, ne-eqb, eqb-true, eqb-false, ltb-true, ltb-false, le-ltb}
+use borrow.Author.Tests.{eq-eqb, ne-eqb, eqb-true, eqb-false, ltb-true, ltb-false}
 use Rattle.format.specs.Bytes.{Bytes, byteAt, le32}
 use Rattle.format.specs.Reading.{ERASED, erasedEnd}
 use Rattle.format_laws.specs.Bytes.{drop-byte}
