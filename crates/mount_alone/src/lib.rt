@@ -15,7 +15,8 @@ fn put_all(numbers: &mut [u32], list: [u32; 10]) {
 }
 
 // Mounts into `tables` and `places`, and answers the number of refusal. After a mount, `numbers` has how many file areas, records, inodes and
-// blocks there are, the damage in four numbers, and the scratch area; after a refusal it is as it was.
+// blocks there are, the damage in four numbers, and the scratch area; after a refusal it is as it was. The contract speaks of the answer alone: tests
+// compare the rest.
 #[no_mangle]
 pub extern "C" fn mount_alone(
     image: &[u8],

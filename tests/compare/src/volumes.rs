@@ -24,8 +24,9 @@ pub fn kinds() -> Vec<Named> {
         ("the most records", most_records(16, IMAGE)),
         ("damage every 100 bytes, small blocks", damaged(full_tables())),
         ("damage every 100 bytes, greatest blocks", damaged(greatest_blocks(IMAGE))),
+        ("damage before free space", torn()),
         ("every byte the first of a magic", starts_of_magics(1)),
-        ("every two bytes the first of a magic", starts_of_magics(2)),
+        ("every two bytes the first two of a magic", starts_of_magics(2)),
         ("random bytes", rest_drawn()),
         // behind the headers and the root
         ("all zero", rest_by(|_| 0)),
@@ -106,7 +107,7 @@ fn least(id: u32, sequence: u32) -> Vec<u8> {
 }
 
 /// The newest version of each of 1,024 blocks and 256 inodes first, ids falling; then older and older ones as long as there is room, those first
-/// whose ids were seen last, blocks and inodes in turn. Every record that follows is about an id far down a table, and none of them counts.
+/// whose ids were seen last, blocks and inodes in turn. None of the records that follow counts.
 fn worst_order() -> Flash {
     const NEWEST: u32 = 1_000_000;
     let mut flash = headed(AREAS, IMAGE);
@@ -121,7 +122,8 @@ fn worst_order() -> Flash {
     flash
 }
 
-/// Records of 20 bytes up to the end of every area, rising versions of 255 files that were deleted. Sixteen areas have the most room beside scratch.
+/// Records of 20 bytes as long as there is room, rising versions of 255 files that were deleted. Of areas of one length sixteen have the most room
+/// beside scratch.
 pub fn most_records(areas: usize, length: usize) -> Flash {
     let mut flash = volume(areas, length);
     let files = INODES as u32 - 1;
@@ -153,6 +155,14 @@ fn rest_by(mut byte: impl FnMut(usize) -> u8) -> Flash {
 fn rest_drawn() -> Flash {
     let mut r = Random::new(2);
     rest_by(|_| r.draw() as u8)
+}
+
+/// In each file area a record that was torn: 40 bytes of it, and free space behind them.
+fn torn() -> Flash {
+    let mut flash = volume(AREAS, IMAGE);
+    let record = Block::new(FIRST_BLOCK, 0, FIRST_FILE, NONE, &[0x5a; 100]).bytes();
+    assert!((0..AREAS - 1).all(|area| flash.put(area, &record[..40])));
+    flash
 }
 
 /// The first so many bytes of a magic over and over, of an inode's or a block's as drawn.
@@ -195,10 +205,11 @@ pub fn hostile() -> Vec<Named> {
         ("one id, sequences falling", versions((0..4_000).rev().map(|k| (FIRST_FILE, k)))),
         ("one id, sequences falling by 4,096", versions((0..4_000).rev().map(|k| (FIRST_FILE, 4_096 * k)))),
         ("versions that agree in 12 low bits", versions((0..4_000).rev().map(|k| (FIRST_FILE + k % 255 * 4_096, k / 255 * 4_096)))),
+        ("ids and versions in one slot each of the proved index", ids_and_versions()),
         ("versions in one slot of the proved index", versions(versions_in_one_slot(|sequence| proved_slot(FIRST_FILE.wrapping_add(sequence.wrapping_mul(40_503)))))),
         ("versions in one slot of the baselines", versions(versions_in_one_slot(|sequence| Versions::home(FIRST_FILE, sequence)))),
         ("every four bytes a magic", starts_of_magics(4)),
-        ("every 24 bytes a longest block's header", long_headers()),
+        ("every 12 bytes a longest block's header", long_headers()),
     ]);
     kinds
 }
@@ -228,15 +239,22 @@ fn versions(of: impl Iterator<Item = (u32, u32)>) -> Flash {
     flash
 }
 
-/// Headers that only the check tells from those of a longest block: each of them asks for it over 2,072 bytes.
+/// Both indexes at once: inodes in one slot, then falling versions of the one that a search of the slot meets last, in one slot too.
+fn ids_and_versions() -> Flash {
+    let of_version = |sequence: u32| proved_slot(FIRST_FILE.wrapping_add(sequence.wrapping_mul(40_503)));
+    let mut falling = versions_in_one_slot(of_version);
+    let first = falling.next();
+    let others = in_one_slot(FIRST_FILE, INODES - 1, proved_slot).skip(1).map(|id| (id, 0));
+    versions(first.into_iter().chain(others).chain(falling))
+}
+
+/// Headers that only the check tells from those of a longest block, each of which asks for it over 2,072 bytes: magic, id and sequence, which are owner,
+/// previous, length and check field of the header 12 bytes before.
 fn long_headers() -> Flash {
-    let header = |k: u32| {
-        let mut record = Block::new(FIRST_BLOCK + k, 0, FIRST_FILE, NONE, &[0; 2_048]).bytes();
-        record[Block::CHECK] ^= 1;
-        record[..Block::HEADER].to_vec()
-    };
     let mut flash = volume(AREAS, IMAGE);
-    let _ = (0..).take_while(|k| put(&mut flash, &header(*k))).count();
+    let fields = |k: u32| [Block::MAGIC, FIRST_BLOCK + k, 0x1234_0800];
+    let bytes = |k: u32| fields(k).iter().flat_map(|field| field.to_le_bytes()).collect::<Vec<_>>();
+    let _ = (0..).take_while(|k| put(&mut flash, &bytes(*k))).count();
     flash
 }
 
