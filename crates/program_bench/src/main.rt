@@ -181,6 +181,20 @@ fn show_reading(high: &[u16], low: &[u16], area: &[u8])
     io::write_all(1, b"\n");
 }
 
+// The next record of an area, if there is one, and where the one behind it is sought.
+fn show_next(high: &[u16], low: &[u16], area: &[u8], at: usize) -> usize
+    requires tables { ⌜ Tables (now high) (now low) ⌝ }
+{
+    if area.len() < at {
+        return at;
+    }
+    let next = next_record(high, low, area, at, area.len());
+    if next.size == 0 {
+        return at;
+    }
+    show_record(next.at, next.size)
+}
+
 // The first records of an area, then what its reading comes to.
 fn show_area(area: &[u8])
     requires { ⌜ length (now area) ≡ 4096 ⌝ }
@@ -190,10 +204,7 @@ fn show_area(area: &[u8])
     let mut at = HEADER_SIZE;
     let mut left: usize = 8;
     while 0 < left {
-        let next = next_record(&high, &low, area, at);
-        if next.size != 0 {
-            at = show_record(next.at, next.size);
-        }
+        at = show_next(&high, &low, area, at);
         left -= 1;
     }
     show_reading(&high, &low, area);

@@ -26,7 +26,6 @@ show-area-spec =
     (λ c. search needs)
     (λ c. search needs)
     (λ c κs. tables (c .before .before .before .before))
-    (λ c κs. search needs)
     (λ c. search needs)
     (λ c. search needs)
     (λ c. search needs)
