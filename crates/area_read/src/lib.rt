@@ -127,8 +127,8 @@ pub fn area_kind(image: &[u8], offset: u32, span: u32) -> AreaKind
     AreaKind::File
 }
 
-// The first record that starts at `from` or after it. What is written of the area ends at `written`: nothing starts behind that, and nothing there is
-// looked at. The tables of the check are lent.
+// The first record that starts at `from` or after it. What is written of the area ends at `written`: nothing starts behind that, and the search
+// goes no further. The tables of the check are lent.
 pub fn next_record(high: &[u16], low: &[u16], area: &[u8], from: usize, written: usize) -> Next
     requires tables { ⌜ Tables (now high) (now low) ⌝ }
     requires { ⌜ WrittenTo (now area) from written ⌝ }
