@@ -46,6 +46,12 @@ module _ {A : Type 0} (F : View A) where
       go (yes e) = rw e a
       go (no e) = b j e
 
+  -- an inode that keeps its record and its fate is the child that it was
+  pub child-same : (v w : Volume A) (d : ℕ) (n : Bytes) (j : ℕ) → inodeOf F w j ≡ inodeOf F v j → fateOf F w j ≡ fateOf F v j
+      → isChild F w d n j ≡ isChild F v d n j
+  unfolding isChild
+  child-same v w d n j e f = rw (isChild, e, f)
+
   module _ (rs ss : List A) (r : A) (w : Added rs ss r) (ag : Agree F rs) where
     -- check 6 still passes
     pub added-agree : Agree F ss
@@ -109,8 +115,7 @@ module _ {A : Type 0} (F : View A) where
     same-fate = same-climb (λ f. f) (λ r f. f)
 
     pub same-lookup : (ns : List Bytes) → lookupNames F w ns ≡ lookupNames F v ns
-    unfolding isChild
-    same-lookup = lookup-same F v w (λ d n i. rw (isChild, same-inode i, same-fate i))
+    same-lookup = lookup-same F v w (λ d n i. child-same v w d n i (same-inode i) (same-fate i))
 
   -- and on blocks
   module _ (v w : Volume A) (s : Same (v .blocks) (w .blocks)) (ag : Agree F (v .blocks)) where

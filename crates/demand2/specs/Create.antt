@@ -22,7 +22,7 @@ use Rattle.volume.specs.Path.{goodPath, pathNames}
 use Rattle.volume.specs.Tree.{found, absent, children, walk, lookupNames, isChild}
 use Rattle.volume.specs.Fate.{live, fateOf}
 use Rattle.volume.specs.Contents.{fileBlocks, textOf}
-use Rattle.volume_laws.specs.Tests.{eqb-false, not-is-false, or-is-false, true→T, T→true, not-T→false, eqb-differ}
+use Rattle.volume_laws.specs.Tests.{eqb-false, not-is-false, or-is-false, T→true, not-T→false, eqb-differ}
 use Rattle.volume_laws.specs.Counting.{counting-mem}
 use Rattle.volume_laws.specs.Tree.{lookup-append, mem-children}
 use Rattle.calls.specs.Refusal.{firstRefusal}
@@ -45,7 +45,7 @@ use Rattle.demand2.specs.Places.{place-found}
 use Rattle.calls_laws.specs.Unused.{Smallest, unused-smallest}
 use Rattle.demand2.specs.Unused.{Unused, unnamed-unused, named-used, few-named}
 use Rattle.demand2.specs.Names.{GoodName, good-name, last-mem, names-split}
-use Rattle.demand2.specs.Found.{passed-check, lookup-refused, root-there, found-lives, found-once}
+use Rattle.demand2.specs.Found.{passed-check, lookup-refused, root-there, directory-low, found-lives, found-once}
 use Rattle.demand2.specs.Found.{resolved, resolve-alike, read-given, read-kept}
 use Rattle.demand2.specs.NewRecord.{IsInode, inode-made, WrittenOne, one-placed, octets-one, no-blocks}
 
@@ -215,8 +215,7 @@ module _ (image : Bytes) (ds : List Descriptor) (base path : Bytes) (kind : ℕ)
   called = good-name base path octets-base octets-path (g .good) name (last-mem (pathNames base path) (g .named))
 
   low : g .directory < firstFileId
-  unfolding isDirectoryId
-  low = ltb→lt (g .directory) firstFileId (true→T (g .is-directory))
+  low = directory-low (g .directory) (g .is-directory)
 
   meant : MeantInode id 0 (g .directory) name
   unfolding inodeRule isInodeId

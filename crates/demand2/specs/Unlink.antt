@@ -43,7 +43,8 @@ use Rattle.demand2.specs.Places.{place-found}
 use Rattle.demand2.specs.Mounted.{agreed-inodes}
 use Rattle.demand2.specs.Found.{passed-check, lookup-refused, root-there, found-lives, found-once}
 use Rattle.demand2.specs.Found.{resolved, resolve-alike, read-given, read-kept}
-use Rattle.demand2.specs.Deletion.{found-no-root, found-sole, InodeGone, inode-gone}
+use Rattle.demand2.specs.Lineage.{found-no-root, found-sole}
+use Rattle.demand2.specs.Deletion.{InodeGone, inode-gone}
 use Rattle.demand2.specs.NewRecord.{IsInode, WrittenOne}
 use Rattle.demand2.specs.Rewritten.{Rewrites, AfterRewrite, inode-low, rewrite}
 
