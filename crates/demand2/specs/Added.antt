@@ -13,7 +13,7 @@ use Rattle.volume.specs.Counting.{Volume, counting, idsOf, inodeOf}
 use Rattle.volume.specs.Fate.{Fate, climb, longestChain, fateOf}
 use Rattle.volume.specs.Tree.{isChild, lookupNames}
 use Rattle.volume.specs.Contents.{fileBlocks}
-use Rattle.volume_laws.specs.Once.{pigeons}
+use Rattle.volume_laws.specs.Once.{pigeons, Alike}
 use Rattle.volume_laws.specs.Counting.{Agree, counting-mem, counting-none, counting-absent, counting-is, counting-sub, counting-retained, ids-of}
 use Rattle.volume_laws.specs.Counting.{ids-mem, mem-ids, fewer-ids}
 use Rattle.volume_laws.specs.Climb.{closed-climb}
@@ -83,9 +83,14 @@ module _ {A : Type 0} (F : View A) where
         go x t = ⊎-elim (λ q. List·Memᴰ·head (sym (t .2) ∙ ap (F .id) q)) (λ k. List·Memᴰ·tail (Memᴰ·cast (sym (t .2)) (mem-ids F rs (t .0) k)))
             (w .only (t .0) (t .1))
 
-    -- none more where the id was there
-    pub known-ids : List·Memᴰ (F .id r) (idsOf F rs) → length (idsOf F ss) ≤ length (idsOf F rs)
-    known-ids there = pigeons (idsOf F ss) (idsOf F rs) (ids-of F ss .nodup) (λ x m. go x (ids-mem F ss x m))
+    -- the same ones where the id was there
+    pub known-ids : List·Memᴰ (F .id r) (idsOf F rs) → Alike (idsOf F ss) (idsOf F rs)
+    known-ids there = record {
+      nodup-l = ids-of F ss .nodup;
+      nodup-m = ids-of F rs .nodup;
+      to = λ x m. go x (ids-mem F ss x m);
+      back = λ x m. let t = ids-mem F rs x m in Memᴰ·cast (sym (t .2)) (mem-ids F ss (t .0) (w .old (t .0) (t .1)));
+    }
       where
         go : (x : ℕ) → (s : A) × List·Memᴰ s ss × (F .id s ≡ x) → List·Memᴰ x (idsOf F rs)
         go x t = ⊎-elim (λ q. Memᴰ·cast (sym (t .2) ∙ ap (F .id) q) there) (λ k. Memᴰ·cast (sym (t .2)) (mem-ids F rs (t .0) k))

@@ -9,18 +9,17 @@ use Rattle.format.specs.Bytes.{Bytes}
 use Rattle.format.specs.Ids.{NONE, rootId, isDirectoryId}
 use Rattle.volume.specs.Lists.{Only, nobody, several, one, only}
 use Rattle.volume.specs.View.{View}
-use Rattle.volume.specs.Counting.{Volume, inodeOf, inodeIds}
+use Rattle.volume.specs.Counting.{Volume, inodeOf}
 use Rattle.volume.specs.Fate.{live, dead, ascend, fateOf, lineage}
 use Rattle.volume.specs.Tree.{found, absent, onward, isChild, children, walk, lookupNames}
 use Rattle.volume_laws.specs.Tests.{T-iff, true→T, eqb-differ}
-use Rattle.volume_laws.specs.Counting.{Agree}
 use Rattle.volume_laws.specs.Climb.{live-not-dead, fate-own}
 use Rattle.volume_laws.specs.Sound.{Sound}
 use Rattle.volume_laws.specs.Tree.{only-same}
-use Rattle.demand2.specs.Added.{Added, child-same}
+use Rattle.demand2.specs.Added.{child-same}
 use Rattle.demand2.specs.Found.{sole, sole-child, no-child, child-lives}
 use Rattle.demand2.specs.Lineage.{mem-dec, lineage-fate, root-outside, child-outside, lookup-stays, lookup-lost}
-use Rattle.demand2.specs.Newer.{newer-counts, outside-fate, below-fate}
+use Rattle.demand2.specs.Newer.{Newer, newer-counts, outside-fate, below-fate}
 
 -- what the deletion record r makes of the volume v; the inode is in the lineage of what lies below it
 pub record InodeGone {A : Type 0} (F : View A) (v w : Volume A) (r : A) : Type 0 where
@@ -40,21 +39,20 @@ pub record InodeGone {A : Type 0} (F : View A) (v w : Volume A) (r : A) : Type 0
       → (ns : List Bytes) → (lookupNames F w ns ≡ lookupNames F v ns) ⊎ (lookupNames F w ns ≡ absent 9)
 
 -- w is v and the deletion record r of an inode that was live and is not the root
-module _ {A : Type 0} (F : View A) (v w : Volume A) (r : A) (a : Added F (v .inodes) (w .inodes) r) (ag : Agree F (v .inodes)) (sound : Sound F v)
-    (no-root : F .id r ≢ rootId) (deletes : F .parent r ≡ NONE) (lived : fateOf F v (F .id r) ≡ live)
-    (known : List·Memᴰ (F .id r) (inodeIds F v)) where
+module _ {A : Type 0} (F : View A) (v w : Volume A) (r : A) (a : Newer F v w r) (sound : Sound F v)
+    (no-root : F .id r ≢ rootId) (deletes : F .parent r ≡ NONE) (lived : fateOf F v (F .id r) ≡ live) where
   -- the chain of parents ends at it
   ends : ascend F (inodeOf F w (F .id r)) ≡ inl dead
   unfolding ascend
-  ends = rw (newer-counts F v w r a ag known .here, ascend, eqb-differ (F .id r) rootId no-root, deletes)
+  ends = rw (newer-counts F v w r a .here, ascend, eqb-differ (F .id r) rootId no-root, deletes)
 
   -- what is not below it keeps its fate
   outside : (j : ℕ) → ¬ List·Memᴰ (F .id r) (lineage F v j) → fateOf F w j ≡ fateOf F v j
-  outside = outside-fate F v w r a ag known
+  outside = outside-fate F v w r a
 
   -- it and what is below it is dead
   below-dead : (j : ℕ) → List·Memᴰ (F .id r) (lineage F v j) → fateOf F w j ≡ dead
-  below-dead j m = below-fate F v w r a ag known j m ∙ fate-own F w (F .id r) dead ends
+  below-dead j m = below-fate F v w r a j m ∙ fate-own F w (F .id r) dead ends
 
   -- nothing comes to life
   no-life : (j : ℕ) → fateOf F w j ≡ live → fateOf F v j ≡ live
@@ -73,7 +71,7 @@ module _ {A : Type 0} (F : View A) (v w : Volume A) (r : A) (a : Added F (v .ino
   -- those outside stay
   child-stays : (e : ℕ) (n : Bytes) (j : ℕ) → ¬ List·Memᴰ (F .id r) (lineage F v j) → isChild F w e n j ≡ isChild F v e n j
   unfolding lineage
-  child-stays e n j b = child-same F v w e n j (newer-counts F v w r a ag known .others j (λ z. b (List·Memᴰ·head (sym z)))) (outside j b)
+  child-stays e n j b = child-same F v w e n j (newer-counts F v w r a .others j (λ z. b (List·Memᴰ·head (sym z)))) (outside j b)
 
   -- and no others come
   child-old : (e : ℕ) (n : Bytes) (j : ℕ) → T (isChild F w e n j) → T (isChild F v e n j)

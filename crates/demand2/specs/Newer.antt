@@ -2,33 +2,36 @@
 use Prim.Native.Nat.{ℕ}
 use mathlib.Core.Path.{_≡_, refl, sym, ap, _∙_}
 use mathlib.Core.List.{List, [], _∷_, _++_, List·Memᴰ, Memᴰ·cast}
-use native.Mathlib.Omega.{arith}
-use lib.ListN.{length}
 use Rattle.volume.specs.View.{View}
 use Rattle.volume.specs.Counting.{Volume, inodeOf, inodeIds}
 use Rattle.volume.specs.Fate.{Fate, climb, longestChain, fateOf, lineage, namesOf}
-use Rattle.volume_laws.specs.Counting.{Agree, fewer-ids}
+use Rattle.volume_laws.specs.Once.{Alike, alike-length}
+use Rattle.volume_laws.specs.Counting.{Agree}
 use Rattle.volume_laws.specs.Climb.{climb-same, fate-parent}
 use Rattle.demand2.specs.Added.{Added, Changed, added-changed, known-ids}
 use Rattle.demand2.specs.Lineage.{below}
 
--- w is v and the record r, newer than every other of its id, which v has
-module _ {A : Type 0} (F : View A) (v w : Volume A) (r : A) (a : Added F (v .inodes) (w .inodes) r) (ag : Agree F (v .inodes))
-    (known : List·Memᴰ (F .id r) (inodeIds F v)) where
+-- w is v, which passes check 6, and the record r, newer than every other of its id, which v has
+pub record Newer {A : Type 0} (F : View A) (v w : Volume A) (r : A) : Type 0 where
+  pub agreed : Agree F (v .inodes)
+  pub added : Added F (v .inodes) (w .inodes) r
+  pub known : List·Memᴰ (F .id r) (inodeIds F v)
+
+module _ {A : Type 0} (F : View A) (v w : Volume A) (r : A) (g : Newer F v w r) where
   -- it counts
   pub newer-counts : Changed F (inodeOf F v) (inodeOf F w) r
-  newer-counts = added-changed F (v .inodes) (w .inodes) r a ag
+  newer-counts = added-changed F (v .inodes) (w .inodes) r (g .added) (g .agreed)
 
   -- no id comes and none goes
-  pub same-ids : length (inodeIds F w) ≡ length (inodeIds F v)
-  same-ids = omega (arith, known-ids F (v .inodes) (w .inodes) r a ag known, fewer-ids F (w .inodes) (v .inodes) (a .old))
+  pub same-ids : Alike (inodeIds F w) (inodeIds F v)
+  same-ids = known-ids F (v .inodes) (w .inodes) r (g .added) (g .agreed) (g .known)
 
   -- the chain of what is not at or below it, by whatever is gathered along it
   outside-climb : {X : Type 0} (stop : Fate → X) (on : A → X → X) (j : ℕ) → ¬ List·Memᴰ (F .id r) (lineage F v j)
       → climb F stop on (inodeOf F w) (longestChain F w) j ≡ climb F stop on (inodeOf F v) (longestChain F v) j
   unfolding lineage
   outside-climb stop on j n =
-      ap (λ k. climb F stop on (inodeOf F w) k j) same-ids
+      ap (λ k. climb F stop on (inodeOf F w) k j) (alike-length (inodeIds F w) (inodeIds F v) same-ids)
       ∙ climb-same F stop on (inodeOf F v) (inodeOf F w) (longestChain F v) j (λ x m. newer-counts .others x (λ e. n (Memᴰ·cast (sym e) m)))
 
   -- its fate

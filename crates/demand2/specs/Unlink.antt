@@ -40,7 +40,6 @@ use Rattle.calls_laws.specs.Records.{volume-sound}
 use Rattle.calls_laws.specs.Attempt.{attempt-goes}
 use Rattle.demand2.specs.Store.{OneStored}
 use Rattle.demand2.specs.Places.{place-found}
-use Rattle.demand2.specs.Mounted.{agreed-inodes}
 use Rattle.demand2.specs.Found.{passed-check, lookup-refused, root-there, found-lives, found-once}
 use Rattle.demand2.specs.Found.{resolved, resolve-alike, read-given, read-kept}
 use Rattle.demand2.specs.Lineage.{found-no-root, found-sole}
@@ -219,7 +218,7 @@ module _ (image : Bytes) (ds : List Descriptor) (base path : Bytes) (octets-imag
   lived = ap (fateOf byBytes v) id-is ∙ lives
 
   now : InodeGone byBytes v w b
-  now = inode-gone byBytes v w b (done .added) (agreed-inodes image ds p) (volume-sound image ds) not-root (done .is .parent-is) lived (done .known)
+  now = inode-gone byBytes v w b (done .newer) (volume-sound image ds) not-root (done .is .parent-is) lived
 
   outside : (j : ℕ) → ¬ List·Memᴰ i (lineage byBytes v j) → fateOf byBytes w j ≡ fateOf byBytes v j
   outside j n = now .outside j (other j n)
