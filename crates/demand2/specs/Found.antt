@@ -104,6 +104,14 @@ module _ {A : Type 0} (F : View A) (v : Volume A) where
   unfolding only children
   no-child d n h = ap only (keep-none (isChild F v d n) (inodeIds F v) (λ y m. not-T→false (h y)))
 
+  -- a name that is free in a directory
+  pub free-child : (d : ℕ) (n : Bytes) → length (children F v d n) ≡ 0 → (y : ℕ) → isChild F v d n y ≡ false
+  free-child d n e y = not-T→false (λ t. none-in (children F v d n) e (mem-children F v d n y t))
+    where
+      none-in : (l : List ℕ) → length l ≡ 0 → ¬ List·Memᴰ y l
+      none-in [] e m = List·Memᴰ·not-nil m
+      none-in (x ∷ l) e m = omega arith
+
   pub child-lives : (d : ℕ) (n : Bytes) (x : ℕ) → T (isChild F v d n x) → fateOf F v x ≡ live
   unfolding isChild
   child-lives d n x t = is-live (fateOf F v x) (and-T (has (isEntry F d n) (inodeOf F v x)) (isLive (fateOf F v x)) t .1)
@@ -184,9 +192,13 @@ module _ {A : Type 0} (F : View A) (v : Volume A) where
       go true several q ih = let z : 10 ≡ k = cc in omega arith
       go true (one i) q ih = ih i q
 
-  pub lookup-refused : (ns : List Bytes) (k : ℕ) → lookupNames F v ns ≡ absent k → k ≢ 0
+  -- a lookup that finds nothing is answered by 9 at least
+  pub lookup-nine : (ns : List Bytes) (k : ℕ) → lookupNames F v ns ≡ absent k → 9 ≤ k
   unfolding lookupNames
-  lookup-refused ns k q z = omega (arith, walk-refused rootId ns k q)
+  lookup-nine = walk-refused rootId
+
+  pub lookup-refused : (ns : List Bytes) (k : ℕ) → lookupNames F v ns ≡ absent k → k ≢ 0
+  lookup-refused ns k q z = omega (arith, lookup-nine ns k q)
 
 -- a path in an image that mounts
 pub resolved : (image : Bytes) (ds : List Descriptor) (base p : Bytes) → mountNumber image ds ≡ 0

@@ -7,6 +7,7 @@ use mathlib.Core.Option.{some}
 use mathlib.Core.List.{List, List·Memᴰ, Memᴰ·cast}
 use native.Mathlib.Omega.{arith}
 use lib.ListN.{length}
+use lib.Dec.{eqb}
 use Rattle.format.specs.Bytes.{Bytes}
 use Rattle.format.specs.Ids.{firstBlockId}
 use Rattle.format.specs.Reading.{areaClean}
@@ -16,17 +17,21 @@ use Rattle.format_laws.specs.Encoding.{MeantInode}
 use Rattle.volume.specs.View.{byBytes}
 use Rattle.volume.specs.Counting.{Volume, inodeOf, inodeIds}
 use Rattle.volume.specs.Contents.{fileBlocks}
+use Rattle.volume_laws.specs.Tests.{eqb-false}
 use Rattle.volume_laws.specs.Once.{alike-length}
 use Rattle.volume_laws.specs.Counting.{counting-mem, counting-top, ids-of}
 use Rattle.calls.specs.Areas.{areaBytes, fileAreas}
 use Rattle.calls.specs.Mount.{acceptedRecords, volume, mountNumber}
-use Rattle.calls.specs.Storing.{Store}
-use Rattle.calls.specs.Rewrite.{lastSequence, sequenceOf, rewritten, rewritePlan, imageRewritten}
+use Rattle.calls.specs.Refusal.{firstRefusal}
+use Rattle.calls.specs.Storing.{Store, noPlace}
+use Rattle.calls.specs.Rewrite.{lastSequence, sequenceOf, rewritten, rewritePlan, rewriteChecks, imageRewritten}
 use Rattle.calls.specs.declared.Descriptor.{Descriptor}
 use Rattle.calls_laws.specs.Checks.{Passes, passes}
 use Rattle.calls_laws.specs.Records.{volume-sound}
 use Rattle.demand2.specs.Store.{OneStored, one-stored, same-file-areas, same-clean}
+use Rattle.demand2.specs.Places.{place-found}
 use Rattle.demand2.specs.Octet.{le32-fits, record-octets}
+use Rattle.demand2.specs.Found.{passed-check}
 use Rattle.demand2.specs.Added.{Same, Added, Changed, same-count, same-contents}
 use Rattle.demand2.specs.Newer.{Newer, newer-counts, same-ids}
 use Rattle.demand2.specs.Mounted.{agreed-inodes, agreed-blocks, inode-accepted, accepted-kind, few-ids, ids-few, inodes-added, blocks-same}
@@ -46,6 +51,16 @@ pub record Rewrites (image : Bytes) (ds : List Descriptor) (i parent : ℕ) (nam
   pub rule : inodeRule i parent (length name) ≡ true
   pub good : nameGood name ≡ true
   pub name-octets : Octets name
+
+-- the checks of a rewrite that was not refused
+pub rewrite-checked : (image : Bytes) (ds : List Descriptor) (i parent : ℕ) (name : Bytes) → firstRefusal (rewriteChecks image ds i parent name) ≡ 0
+    → (sequenceOf (inodeOf byBytes (volume image ds) i) ≢ lastSequence) × (l : List Store) × (rewritePlan image ds i parent name ≡ some l)
+unfolding firstRefusal
+rewrite-checked image ds i parent name e =
+    let a = passed-check (eqb (sequenceOf (inodeOf byBytes (volume image ds) i)) lastSequence) 15 _ e in
+    let b = passed-check (noPlace (rewritePlan image ds i parent name)) 14 0 (a .1) in
+    let c = place-found (rewritePlan image ds i parent name) (b .0) in
+    (eqb-false _ lastSequence (a .0), c .0, c .1)
 
 -- What it leaves: image′ is the image afterwards.
 pub record AfterRewrite (image image′ : Bytes) (ds : List Descriptor) (i parent : ℕ) (name : Bytes) : Type 0 where
