@@ -206,6 +206,21 @@ pub resolved : (image : Bytes) (ds : List Descriptor) (base p : Bytes) → mount
 unfolding resolve
 resolved image ds base p m = rw (resolve, m)
 
+-- a good one is answered as its names are looked up
+pub resolve-good : (image : Bytes) (ds : List Descriptor) (base p : Bytes) → mountNumber image ds ≡ 0 → goodPath base p ≡ true
+    → resolve image ds base p ≡ lookupNames byBytes (volume image ds) (pathNames base p)
+resolve-good image ds base p m g = resolved image ds base p m ∙ rw g
+
+-- and one that finds an inode is good
+pub resolve-found : (image : Bytes) (ds : List Descriptor) (base p : Bytes) (j : ℕ) → mountNumber image ds ≡ 0 → resolve image ds base p ≡ found j
+    → (goodPath base p ≡ true) × (lookupNames byBytes (volume image ds) (pathNames base p) ≡ found j)
+resolve-found image ds base p j m e = go (goodPath base p) refl (sym (resolved image ds base p m) ∙ e)
+  where
+    go : (b : Bool) → goodPath base p ≡ b → cond b (lookupNames byBytes (volume image ds) (pathNames base p)) (absent 8) ≡ found j
+        → (goodPath base p ≡ true) × (lookupNames byBytes (volume image ds) (pathNames base p) ≡ found j)
+    go true g q = (g, q)
+    go false g q = let z : _≡_ {A = ℕ} 0 1 = cc in absurd (omega arith)
+
 -- two images that mount: where the lookups agree, the paths do
 pub resolve-alike : (image image′ : Bytes) (ds : List Descriptor) (base p : Bytes) → mountNumber image ds ≡ 0 → mountNumber image′ ds ≡ 0
     → (goodPath base p ≡ true → lookupNames byBytes (volume image′ ds) (pathNames base p) ≡ lookupNames byBytes (volume image ds) (pathNames base p))

@@ -147,6 +147,12 @@ module _ {A : Type 0} (F : View A) (v : Volume A) where
         let k = child-lineage d n (t .child) (t .directory) (sole F v d n (t .child) (t .only-child) .0) in
         found-below i (t .child) ns j (t .goes-on) (rw k (List·Memᴰ·tail m))
 
+  -- and so what is found and is not the root has a name
+  pub found-named : (ns : List Bytes) (j : ℕ) → j ≢ rootId → lookupNames F v ns ≡ found j → length ns ≢ 0
+  unfolding lookupNames walk
+  found-named [] j n q h = let z : j ≡ rootId = cc in n z
+  found-named (m ∷ ns) j n q h = omega arith
+
   -- an inode is the child of one directory, under one name
   one-entry : (d e : ℕ) (n m : Bytes) (j : ℕ) → T (isChild F v d n j) → T (isChild F v e m j) → (d ≡ e) × (n ≡ m)
   unfolding isChild isEntry

@@ -2,7 +2,7 @@
 use Prim.Native.Nat.{ℕ, suc}
 use mathlib.Core.Path.{_≡_, refl, sym, ap, _∙_}
 use mathlib.Core.Logic.{_≢_, _⊎_, inl, inr, ⊎-elim}
-use mathlib.Core.Bool.{Bool, true, false, cond, not, _||_}
+use mathlib.Core.Bool.{Bool, true, false, not, _||_}
 use mathlib.Core.Option.{some}
 use mathlib.Core.List.{List, [], _∷_, _++_, List·Memᴰ, List·Memᴰ·head, Memᴰ·cast}
 use native.Mathlib.Omega.{arith}
@@ -39,7 +39,7 @@ use Rattle.calls_laws.specs.Records.{volume-sound}
 use Rattle.calls_laws.specs.Attempt.{attempt-goes}
 use Rattle.demand2.specs.Store.{OneStored}
 use Rattle.demand2.specs.Found.{lookup-refused, root-there, found-lives, found-once}
-use Rattle.demand2.specs.Found.{resolved, resolve-alike, read-given, read-kept}
+use Rattle.demand2.specs.Found.{resolved, resolve-good, resolve-found, resolve-alike, read-given, read-kept}
 use Rattle.demand2.specs.Lineage.{found-no-root, found-sole}
 use Rattle.demand2.specs.Deletion.{InodeGone, inode-gone}
 use Rattle.demand2.specs.NewRecord.{IsInode, WrittenOne}
@@ -213,16 +213,8 @@ module _ (image : Bytes) (ds : List Descriptor) (base path : Bytes) (octets-imag
   below : (j : ℕ) → List·Memᴰ i (lineage byBytes v j) → fateOf byBytes w j ≡ dead
   below j m = now .below j (own j m)
 
-  found-names : (c q : Bytes) (j : ℕ) → resolve image ds c q ≡ found j → (goodPath c q ≡ true) × (lookupNames byBytes v (pathNames c q) ≡ found j)
-  found-names c q j e = go (goodPath c q) refl (sym (resolved image ds c q (g .mounted)) ∙ e)
-    where
-      go : (t : Bool) → goodPath c q ≡ t → cond t (lookupNames byBytes v (pathNames c q)) (absent 8) ≡ found j
-          → (goodPath c q ≡ true) × (lookupNames byBytes v (pathNames c q) ≡ found j)
-      go true r z = (r, z)
-      go false r z = let y : _≡_ {A = ℕ} 0 1 = cc in absurd (omega arith)
-
   answers : (c q : Bytes) (o : Found) → goodPath c q ≡ true → lookupNames byBytes w (pathNames c q) ≡ o → resolve image′ ds c q ≡ o
-  answers c q o r z = resolved image′ ds c q still ∙ rw r z
+  answers c q o r z = resolve-good image′ ds c q still r ∙ z
 
   gone : lookupNames byBytes w (pathNames base path) ≡ absent 9
   unfolding lineage
@@ -234,16 +226,16 @@ module _ (image : Bytes) (ds : List Descriptor) (base path : Bytes) (octets-imag
   after-unlink = record {
     mounts = still;
     inode = i;
-    found-at-path = resolved image ds base path (g .mounted) ∙ rw (g .good) (g .found-there);
+    found-at-path = resolve-good image ds base path (g .mounted) (g .good) ∙ g .found-there;
     path-lost = λ c q ns r e. answers c q (absent 9) r (ap (lookupNames byBytes w) e ∙ lookup-append byBytes w (pathNames base path) ns ∙ rw gone);
     elsewhere = same-elsewhere;
     bad-paths = λ c q r. resolved image′ ds c q still ∙ rw r;
     dies = below;
-    lost = λ c q j e m. let f = found-names c q j e in
+    lost = λ c q j e m. let f = resolve-found image ds c q j (g .mounted) e in
         answers c q (absent 9) (f .0) (now .lost (pathNames c q) j (f .1)
         (own j m));
     unread = λ j m position room. read-given image′ ds still j position room ∙ rw (give, below j m);
-    paths = λ c q j e n. let f = found-names c q j e in
+    paths = λ c q j e n. let f = resolve-found image ds c q j (g .mounted) e in
         answers c q (found j) (f .0) (now .stays (pathNames c q) j (f .1)
         (other j n));
     reads = λ j n. read-kept image image′ ds (g .mounted) still j (outside j n) (done .contents j);
@@ -281,7 +273,7 @@ module _ (image : Bytes) (ds : List Descriptor) (base path : Bytes) (octets-imag
         where
           go : (t : Bool) → goodPath c q ≡ t → (resolve image′ ds c q ≡ resolve image ds c q) ⊎ (resolve image′ ds c q ≡ absent 9)
           go true r = ⊎-elim
-              (λ z. inl (answers c q (lookupNames byBytes v (pathNames c q)) r z ∙ sym (resolved image ds c q (g .mounted) ∙ rw r)))
+              (λ z. inl (answers c q (lookupNames byBytes v (pathNames c q)) r z ∙ sym (resolve-good image ds c q (g .mounted) r)))
               (λ z. inr (answers c q (absent 9) r z))
               (now .either alone (pathNames c q))
           go false r = inl (resolved image′ ds c q still ∙ rw r (sym (resolved image ds c q (g .mounted) ∙ rw r)))
