@@ -77,11 +77,13 @@ module _ {A : Type 0} (F : View A) (v w : Volume A) (r : A) (a : Newer F v w r) 
   child-old : (e : ℕ) (n : Bytes) (j : ℕ) → T (isChild F w e n j) → T (isChild F v e n j)
   child-old e n j t = rw (← child-stays e n j (λ m. live-not-dead (sym (child-lives F w e n j t) ∙ below-dead j m))) t
 
+  -- an only child outside is one still
   still-one : (e : ℕ) (n : Bytes) (x : ℕ) → only (children F v e n) ≡ one x → ¬ List·Memᴰ (F .id r) (lineage F v x) → only (children F w e n) ≡ one x
   still-one e n x q b =
       let s = sole F v e n x q in
       sole-child F w e n x (rw (child-stays e n x b) (s .0)) (λ y t. s .1 y (child-old e n y t))
 
+  -- and the inode itself is no more
   now-none : (e : ℕ) (n : Bytes) → only (children F v e n) ≡ one (F .id r) → only (children F w e n) ≡ nobody
   unfolding lineage
   now-none e n q = no-child F w e n (λ y t.

@@ -23,6 +23,7 @@ use Rattle.demand2.specs.Lineage.{lookup-along}
 module _ {A : Type 0} (F : View A) (v w : Volume A) (r : A) (changed : Changed F (inodeOf F v) (inodeOf F w) r)
     (lives : fateOf F w (F .id r) ≡ live) (fates : (j : ℕ) → j ≢ F .id r → fateOf F w j ≡ fateOf F v j)
     (free : (j : ℕ) → isChild F v (F .parent r) (F .name r) j ≡ false) where
+  -- every other inode is the child that it was
   child-other : (d : ℕ) (n : Bytes) (j : ℕ) → j ≢ F .id r → isChild F w d n j ≡ isChild F v d n j
   child-other d n j q = child-same F v w d n j (changed .others j q) (fates j q)
 
@@ -43,7 +44,8 @@ module _ {A : Type 0} (F : View A) (v w : Volume A) (r : A) (changed : Changed F
       (no-child F v (F .parent r) (F .name r) (λ x t. rw (free x) at t))
 
   -- other names have the same only children, but for the one that it had itself
-  pub entered-not : (d : ℕ) (n : Bytes) → isEntry F d n r ≡ false → ¬ T (isChild F v d n (F .id r)) → only (children F w d n) ≡ only (children F v d n)
+  pub entered-not : (d : ℕ) (n : Bytes) → isEntry F d n r ≡ false → ¬ T (isChild F v d n (F .id r))
+      → only (children F w d n) ≡ only (children F v d n)
   unfolding isChild
   entered-not d n t b = only-same F v w d n (split F r (λ i. isChild F w d n i ≡ isChild F v d n i)
       (rw (isChild, changed .here, t) (sym (not-T→false b))) (child-other d n))
@@ -61,5 +63,6 @@ module _ {A : Type 0} (F : View A) (v w : Volume A) (r : A) (changed : Changed F
           → (b : Bool) → isEntry F x n r ≡ b → only (children F w x n) ≡ only (children F v x n)
       at ms n rest x s f dir true t =
           let u = and-T (eqb (F .parent r) x) (same (F .name r) n) (true→T t) in
-          absurd (new ms rest (f ∙ ap found (sym (eqb→eq (F .parent r) x (u .0)))) (s ∙ ap (λ m. ms ++ (m ∷ rest)) (sym (same-eq (F .name r) n (u .1)))))
+          absurd (new ms rest (f ∙ ap found (sym (eqb→eq (F .parent r) x (u .0))))
+          (s ∙ ap (λ m. ms ++ (m ∷ rest)) (sym (same-eq (F .name r) n (u .1)))))
       at ms n rest x s f dir false t = entered-not x n t (old ms n rest x s f dir)

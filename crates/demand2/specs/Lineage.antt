@@ -25,6 +25,7 @@ use Rattle.volume_laws.specs.Sound.{Sound}
 use Rattle.volume_laws.specs.Tree.{walk-append}
 use Rattle.demand2.specs.Found.{Stepped, stepped, sole, no-child, child-lives, child-above}
 
+-- whether a number is among some
 pub mem-dec : (x : ℕ) (l : List ℕ) → Dec (List·Memᴰ x l)
 mem-dec x [] = no List·Memᴰ·not-nil
 mem-dec x (y ∷ l) = go (ℕ-discrete x y) (mem-dec x l)
@@ -115,13 +116,14 @@ module _ {A : Type 0} (F : View A) (v : Volume A) where
         let e = ap length (child-lineage d n j dir t) in
         omega (arith, shorter j (child-lives F v d n j t) d m)
 
-    -- the root is no directory's child, so that no name leads to it
+    -- the root is no directory's child
     child-no-root : (d : ℕ) (n : Bytes) (j : ℕ) → isDirectoryId d ≡ true → T (isChild F v d n j) → j ≢ rootId
     child-no-root d n j dir t e =
         let c = child-above F v sound d n j dir t in
         let u = ascend-on F (inodeOf F v j) (c .0) (c .1) in
         u .1 (counting-mem F (v .inodes) j (c .0) (u .0) .1 ∙ e)
 
+    -- no name leads to it from any directory
     walk-no-root : (d : ℕ) (ns : List Bytes) (j : ℕ) → length ns ≢ 0 → walk F v d ns ≡ found j → j ≢ rootId
     unfolding walk
     walk-no-root d [] j h q = absurd (h refl)
@@ -134,6 +136,7 @@ module _ {A : Type 0} (F : View A) (v : Volume A) where
         let t = stepped F v d n (m ∷ ns) j q in
         walk-no-root (t .child) (m ∷ ns) j (λ z. omega arith) (t .goes-on)
 
+    -- nor from the root
     pub found-no-root : (ns : List Bytes) (j : ℕ) → length ns ≢ 0 → lookupNames F v ns ≡ found j → j ≢ rootId
     unfolding lookupNames
     found-no-root ns j h q = walk-no-root rootId ns j h q
@@ -183,6 +186,7 @@ module _ {A : Type 0} (F : View A) (v : Volume A) where
       let s = stepped F v d n (o ∷ ns) j q in
       walk-sole (s .child) (o ∷ ns) j (λ z. omega arith) (s .goes-on) e m t
 
+  -- so is what a lookup finds
   pub found-sole : (ns : List Bytes) (j : ℕ) → length ns ≢ 0 → lookupNames F v ns ≡ found j
       → (e : ℕ) (m : Bytes) → T (isChild F v e m j) → only (children F v e m) ≡ one j
   unfolding lookupNames
@@ -194,6 +198,7 @@ module _ {A : Type 0} (F : View A) (v : Volume A) where
   pub walk-on : (d : ℕ) (ms : List Bytes) (x : ℕ) → walk F v d ms ≡ found x → (ns : List Bytes) → walk F v d (ms ++ ns) ≡ walk F v x ns
   walk-on d ms x q ns = walk-append F v d ms ns ∙ rw q
 
+  -- so does a lookup
   pub lookup-on : (ms : List Bytes) (x : ℕ) → lookupNames F v ms ≡ found x → (ns : List Bytes) → lookupNames F v (ms ++ ns) ≡ walk F v x ns
   unfolding lookupNames
   lookup-on = walk-on rootId
@@ -228,6 +233,7 @@ module _ {A : Type 0} (F : View A) (v w : Volume A) where
       go false e ih = rw e
       go true e ih = rw (e, h [] n ns d refl refl e) (on e (only (children F v d n)) refl ih)
 
+  -- so is a lookup
   pub lookup-along : (ns : List Bytes) → SameSteps rootId ns → lookupNames F w ns ≡ lookupNames F v ns
   unfolding lookupNames
   lookup-along = walk-along rootId
@@ -260,6 +266,7 @@ module _ {A : Type 0} (F : View A) (v w : Volume A) where
                 let u = child-outside F v sound i d n (t .child) (t .directory) b (sole F v d n (t .child) (t .only-child) .0) e in
                 rw (stays d n (t .child) (t .only-child) u) (ih (t .child) u (t .goes-on) m)
 
+    -- both of lookups
     pub lookup-stays : (ns : List Bytes) (j : ℕ) → lookupNames F v ns ≡ found j → ¬ List·Memᴰ i (lineage F v j) → lookupNames F w ns ≡ found j
     unfolding lookupNames
     lookup-stays = walk-stays rootId

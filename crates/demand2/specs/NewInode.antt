@@ -84,7 +84,8 @@ module _ {A : Type 0} (F : View A) (v w : Volume A) (r : A) (a : Added F (v .ino
     -- every lookup that was answered otherwise than by 9 is answered as before
     fresh-lookup : (ns : List Bytes) → lookupNames F v ns ≢ absent 9 → lookupNames F w ns ≡ lookupNames F v ns
     fresh-lookup ns q = entered-elsewhere F v w r changed new-lives fresh-fate free ns
-        (λ ms rest f e. q (ap (lookupNames F v) e ∙ lookup-free F v (F .parent r) (F .name r) directory free ms rest f)) (λ ms n rest x e f d. no-old x n)
+        (λ ms rest f e. q (ap (lookupNames F v) e ∙ lookup-free F v (F .parent r) (F .name r) directory free ms rest f))
+        (λ ms n rest x e f d. no-old x n)
 
     -- and the new path finds the new inode
     new-found : (ns : List Bytes) → lookupNames F v ns ≡ found (F .parent r) → lookupNames F w (ns ++ (F .name r ∷ [])) ≡ found (F .id r)

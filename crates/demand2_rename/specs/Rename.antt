@@ -75,15 +75,18 @@ pub record RenameGoes (image : Bytes) (ds : List Descriptor) (base old new : Byt
   pub goes : renaming image ds base old new ≡ goes inode
 
 module _ (image : Bytes) (ds : List Descriptor) (base old new : Bytes) where
+  -- the volume before
   abbrev before : Volume Bytes
   before = volume image ds
 
+  -- the new names
   abbrev names : List Bytes
   names = pathNames base new
 
   -- the checks of `moveNumber`
   checked : (i d : ℕ) → moveNumber image ds i d (lastName names) ≡ 0
-      → (isDirectoryId d ≡ true) × (length (children byBytes before d (lastName names)) ≡ 0) × (i ≢ rootId) × (¬ List·Memᴰ i (lineage byBytes before d))
+      → (isDirectoryId d ≡ true) × (length (children byBytes before d (lastName names)) ≡ 0)
+      × (i ≢ rootId) × (¬ List·Memᴰ i (lineage byBytes before d))
       × (sequenceOf (inodeOf byBytes before i) ≢ lastSequence) × (l : List Store) × (rewritePlan image ds i d (lastName names) ≡ some l)
   unfolding moveNumber movesIntoItself firstRefusal
   checked i d e =
@@ -101,6 +104,7 @@ module _ (image : Bytes) (ds : List Descriptor) (base old new : Bytes) where
         f .2,
       )
 
+  -- those of both walks
   pub rename-goes : renameOf image ds base old new ≡ 0 → RenameGoes image ds base old new
   unfolding renameOf renaming moving attemptAt
   rename-goes e =
@@ -470,6 +474,7 @@ module _ (image : Bytes) (ds : List Descriptor) (base old new : Bytes) (octets-i
     octets = done .octets;
   }
 
+-- of any accepted rename; image, base and new path are bytes
 pub rename : (image : Bytes) (ds : List Descriptor) (base old new : Bytes) → Octets image → Octets base → Octets new
     → renameOf image ds base old new ≡ 0 → AfterRename image (imageRenamed image ds base old new) ds base old new
 rename image ds base old new oi ob on e = after-rename image ds base old new oi ob on (rename-goes image ds base old new e)
