@@ -10,6 +10,7 @@ use Rattle.calls.specs.Format.{formatNumber, imageFormatted}
 use Rattle.calls.specs.Create.{createOf, imageCreated}
 use Rattle.calls.specs.Append.{appendOf, imageAppended}
 use Rattle.calls.specs.Unlink.{unlinkOf, imageUnlinked}
+use Rattle.calls.specs.Rename.{renameOf, imageRenamed}
 use Rattle.calls.specs.Collect.{collectOf, imageCollected}
 use Rattle.calls.specs.declared.Descriptor.{Descriptor}
 use Rattle.demand2.specs.Store.{SameHeaders}
@@ -22,6 +23,7 @@ pub record CallsKeep (image : Bytes) (ds : List Descriptor) : Type 0 where
   pub create : (base path : Bytes) (kind : ℕ) → Octets base → Octets path → SameHeaders image (imageCreated image ds base path kind) ds
   pub append : (base path text : Bytes) → Octets text → SameHeaders image (imageAppended image ds base path text) ds
   pub unlink : (base path : Bytes) → Octets image → SameHeaders image (imageUnlinked image ds base path) ds
+  pub rename : (base old new : Bytes) → Octets image → Octets base → Octets new → SameHeaders image (imageRenamed image ds base old new) ds
   pub refused-format : formatNumber image ds ≢ 0 → SameHeaders image (imageFormatted image ds) ds
   pub refused-collect : collectOf image ds ≢ 0 → SameHeaders image (imageCollected image ds) ds
 
@@ -34,6 +36,7 @@ calls-keep image ds = record {
   create = λ base path kind b p. created base path kind b p (ℕ-discrete (createOf image ds base path kind .number) 0);
   append = λ base path text t. appended base path text t (ℕ-discrete (appendOf image ds base path text) 0);
   unlink = λ base path o. unlinked base path o (ℕ-discrete (unlinkOf image ds base path) 0);
+  rename = λ base old new o b p. renamed base old new o b p (ℕ-discrete (renameOf image ds base old new) 0);
   refused-format = λ n. unchanged image (imageFormatted image ds) ds (is .refused .format n);
   refused-collect = λ n. unchanged image (imageCollected image ds) ds (is .refused .collect n);
 }
@@ -53,6 +56,11 @@ calls-keep image ds = record {
     unlinked : (base path : Bytes) → Octets image → Dec (unlinkOf image ds base path ≡ 0) → SameHeaders image (imageUnlinked image ds base path) ds
     unlinked base path o (yes e) = is .unlinks base path o e .stored .headers
     unlinked base path o (no n) = unchanged image (imageUnlinked image ds base path) ds (is .refused .unlink base path n)
+
+    renamed : (base old new : Bytes) → Octets image → Octets base → Octets new → Dec (renameOf image ds base old new ≡ 0)
+        → SameHeaders image (imageRenamed image ds base old new) ds
+    renamed base old new o b p (yes e) = is .renames base old new o b p e .stored .headers
+    renamed base old new o b p (no n) = unchanged image (imageRenamed image ds base old new) ds (is .refused .rename base old new n)
 
 -- a collect that is accepted has a source, with which a run goes on
 pub accepted-collect : (image : Bytes) (ds : List Descriptor) → collectOf image ds ≡ 0
