@@ -61,7 +61,7 @@ static uint32_t start(const nffs_volume *flash) {
     const uint32_t table = nffs_volume_lookup(flash, HOME, TABLE).number;
     const uint32_t fresh = nffs_volume_lookup(flash, HOME, FRESH).number;
     if (table == NFFS_NOT_FOUND && fresh == NFFS_OK) {
-        /* the old one was unlinked, so the new one is whole */
+        /* the old one was unlinked, so the new one is whole; of a first table, which replaces none, nothing tells it */
         printf("    a start finishes the rename\n");
         return nffs_volume_rename(flash, HOME, FRESH, TABLE);
     }

@@ -236,6 +236,48 @@ static void damaged_update(void) {
     CHECK(at("/dose/table") == NFFS_NOT_FOUND && reads("/dose/table.new", "new") && nffs_volume_report(&flash).stretches == 0);
 }
 
+/* Power that is lost in the middle of the rename: of its record only the first bytes are stored. All is as before it, and when a collection has
+   made the area clean, it is finished. */
+static void torn_update(void) {
+    const size_t size = HEADER + strlen("table");
+    size_t deletion, renamed;
+    for (size_t stored = 1; stored < size; stored++) {
+        updated(&deletion, &renamed);
+        memset(image + renamed + stored, 0xff, size - stored);
+        CHECK(at("/dose/table") == NFFS_NOT_FOUND && reads("/dose/table.new", "new") && nffs_volume_report(&flash).stretches == 1);
+        CHECK(moved("/dose/table.new", "/dose/table") == NFFS_NO_ROOM && nffs_volume_collect(&flash) == NFFS_OK);
+        CHECK(moved("/dose/table.new", "/dose/table") == NFFS_OK && reads("/dose/table", "new"));
+    }
+}
+
+/* What else an updater is told: handles, a first table, and several tables at once in a directory. */
+static void updates(void) {
+    nffs_handle old, new;
+    uint8_t byte;
+    NEED(nffs_volume_format(&flash) == NFFS_OK);
+    file("/table", "old");
+    file("/table.new", "new");
+    NEED(nffs_volume_open(&flash, NULL, "/table", &old) == NFFS_OK && nffs_volume_open(&flash, NULL, "/table.new", &new) == NFFS_OK);
+    CHECK(nffs_volume_unlink(&flash, NULL, "/table") == NFFS_OK && nffs_volume_read(&flash, &old, &byte, 1).number == NFFS_NOT_FOUND);
+    /* a collection in between changes nothing of what is found */
+    CHECK(nffs_volume_collect(&flash) == NFFS_OK && at("/table") == NFFS_NOT_FOUND && reads("/table.new", "new"));
+    CHECK(moved("/table.new", "/table") == NFFS_OK && nffs_volume_read(&flash, &new, &byte, 1).given == 1 && byte == 'n');
+    /* the first table of all, in part: it looks as if the old one had been unlinked */
+    NEED(nffs_volume_format(&flash) == NFFS_OK);
+    file("/table.new", "n");
+    CHECK(at("/table") == NFFS_NOT_FOUND && at("/table.new") == NFFS_OK);
+
+    NEED(nffs_volume_format(&flash) == NFFS_OK);
+    directory("/tables");
+    file("/tables/a", "old a");
+    file("/tables/b", "old b");
+    directory("/tables.new");
+    file("/tables.new/a", "new a");
+    file("/tables.new/b", "new b");
+    CHECK(reads("/tables/a", "old a") && reads("/tables/b", "old b") && nffs_volume_unlink(&flash, NULL, "/tables") == NFFS_OK);
+    CHECK(moved("/tables.new", "/tables") == NFFS_OK && reads("/tables/a", "new a") && reads("/tables/b", "new b"));
+}
+
 /* Where nothing leads to it any more: the record before it was collected, or names a directory that is deleted, or lies below it by now. */
 static void lost(void) {
     NEED(nffs_volume_format(&flash) == NFFS_OK);
@@ -268,6 +310,8 @@ int main(void) {
     moves();
     limits();
     damaged_update();
+    torn_update();
+    updates();
     lost();
     printf("%u passed, %u failed\n", passed, failed);
     return failed != 0;

@@ -49,7 +49,8 @@ fn show(flash: &Flash, name: &[u8]) {
 fn start(flash: &mut Flash) -> Result<(), Refusal> {
     match (flash.lookup(HOME, TABLE), flash.lookup(HOME, FRESH)) {
         (Err(Refusal::NOT_FOUND), Ok(_)) => {
-            // the old one was unlinked, so the new one is whole
+            // the old one was unlinked, so the new one is whole; of a first table, which replaces
+            // none, nothing tells it
             println!("    a start finishes the rename");
             flash.rename(HOME, FRESH, TABLE)
         }
