@@ -1,7 +1,7 @@
 //! `mv`: what gets another path, and what is refused.
 
 use crate::folder::Folder;
-use crate::records::{image, image_of, inode, NONE};
+use crate::records::{block, image, image_of, inode, NONE};
 
 const FILE: u32 = 0x1000_0000;
 
@@ -107,15 +107,25 @@ fn each_refusal_names_the_path_that_it_is_about() {
         let first = format!("mv image {old} {new}{about}: {words}");
         assert_eq!(said, told(&first, number, offered));
     }
-    folder.write("image", image(&[inode(FILE, 0, 0, b"a"), inode(FILE + 1, 0, 0, b"a")]));
-    let ambiguous = "mv image /a /b: /a: refused with 10, two or more live children of that name";
-    assert_eq!(folder.refused(&["mv", "image", "/a", "/b", "-q"], b""), told(ambiguous, 10, ""));
-    folder.write("image", image(&[inode(FILE, NONE, 0, b"a")]));
-    let last = "mv image /a /b: refused with 16, the sequence is at its greatest";
-    assert_eq!(folder.refused(&["mv", "image", "/a", "/b", "-q"], b""), told(last, 16, ""));
     // what steers a terminal is shown by its name
     let said = folder.refused(&["mv", "image", "/\u{1b}[2J", "/b\n", "-q"], b"");
     assert!(said.starts_with("nffs: mv image /\\u{1b}[2J /b\\n: /\\u{1b}[2J: refused"), "{said}");
+}
+
+#[test]
+fn two_of_a_name_and_the_greatest_sequence() {
+    let folder = Folder::new("mv_made");
+    folder.write("image", image(&[inode(FILE, 0, 0, b"a"), inode(FILE + 1, 0, 0, b"a")]));
+    let ambiguous = "mv image /a /b: /a: refused with 10, two or more live children of that name";
+    assert_eq!(folder.refused(&["mv", "image", "/a", "/b", "-q"], b""), told(ambiguous, 10, ""));
+    // at the greatest sequence, where nothing more would fit
+    let full =
+        [block(0x8000_0000, FILE, &[7; 2000]), block(0x8000_0001, FILE, &[7; 1950])].concat();
+    folder.write("image", image(&[inode(FILE, NONE, 0, b"a"), inode(1, NONE, 0, b"d"), full]));
+    let last = "mv image /a /b: refused with 16, the sequence is at its greatest";
+    assert_eq!(folder.refused(&["mv", "image", "/a", "/b", "-q"], b""), told(last, 16, ""));
+    assert!(folder.refused(&["mkdir", "image", "/b"], b"").contains("refused with 15, "));
+    assert!(folder.refused(&["mv", "image", "/d", "/d/b"], b"").contains("refused with 18, "));
 }
 
 #[test]
