@@ -113,6 +113,23 @@ fn each_refusal_names_the_path_that_it_is_about() {
 }
 
 #[test]
+fn words_that_make_no_mv() {
+    let folder = Folder::formatted("mv_words");
+    for (words, said) in [
+        (&["mv"][..], "mv: no image"),
+        (&["mv", "image"], "mv: no path"),
+        (&["mv", "image", "/a"], "mv: no new path"),
+        (&["mv", "image", "/a", "/b", "/c"], "mv: too many words"),
+        (&["mv", "image", "/a", "/b", "--replace"], "mv takes no --replace"),
+        (&["mv", "missing", "/a", "/b"], "cannot read missing: "),
+    ] {
+        let heard = folder.bad(words, b"", 2);
+        assert!(heard.contains(said), "{words:?}: {heard}");
+    }
+    assert!(folder.text(&["help"]).contains("\n  mv IMAGE OLD NEW "));
+}
+
+#[test]
 fn two_of_a_name_and_the_greatest_sequence() {
     let folder = Folder::new("mv_made");
     folder.write("image", image(&[inode(FILE, 0, 0, b"a"), inode(FILE + 1, 0, 0, b"a")]));
