@@ -487,8 +487,9 @@ pub fn unlink(image: &mut [u8], areas: &[Area], base: &[u8], path: &[u8]) -> Res
 }
 
 /// Gives a file or a directory another name, another directory, or both; one base serves both paths.
-/// It is written anew with the same id, so that a file keeps its contents, handles to it stay right,
-/// and what lies below a directory goes with it. What has the new name already is not replaced.
+/// Its inode is written anew with the same id, so that a file keeps its contents, handles to it stay
+/// right, and what lies below a directory goes with it. What has the new name already is not
+/// replaced.
 ///
 /// Where the new record is damaged, or comes back stale, the one before it counts: the old name is
 /// back, or answers 10 where something else has it by now; or nothing leads there any more, as
