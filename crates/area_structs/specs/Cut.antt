@@ -20,6 +20,7 @@ use Rattle.calls.specs.Attempt.{attemptAt}
 use Rattle.calls.specs.Create.{creating, createOf, imageCreated}
 use Rattle.calls.specs.Append.{appending, appendOf, imageAppended}
 use Rattle.calls.specs.Unlink.{unlinking, unlinkOf, imageUnlinked}
+use Rattle.calls.specs.Rename.{renaming, renameOf, imageRenamed}
 use Rattle.calls.specs.Collect.{collecting, collectOf, imageCollected}
 use Rattle.calls.specs.declared.Descriptor.{Descriptor}
 use Rattle.area_list.specs.Description.{bad-many}
@@ -97,6 +98,14 @@ unlink-whole image ds base path = whole image (λ l. unlinkOf image l base path)
 pub unlinked-whole : (image : Bytes) (ds : List Descriptor) (base path : Bytes) → imageUnlinked image (take mostEntries ds) base path ≡ imageUnlinked image ds base path
 unfolding imageUnlinked unlinking attemptAt
 unlinked-whole image ds base path = whole image (λ l. imageUnlinked image l base path) image (λ l e. rw (mount-bad image l e)) ds
+
+pub rename-whole : (image : Bytes) (ds : List Descriptor) (base old new : Bytes) → renameOf image (take mostEntries ds) base old new ≡ renameOf image ds base old new
+unfolding renameOf renaming attemptAt
+rename-whole image ds base old new = whole image (λ l. renameOf image l base old new) 1 (λ l e. rw (mount-bad image l e)) ds
+
+pub renamed-whole : (image : Bytes) (ds : List Descriptor) (base old new : Bytes) → imageRenamed image (take mostEntries ds) base old new ≡ imageRenamed image ds base old new
+unfolding imageRenamed renaming attemptAt
+renamed-whole image ds base old new = whole image (λ l. imageRenamed image l base old new) image (λ l e. rw (mount-bad image l e)) ds
 
 pub collect-whole : (image : Bytes) (ds : List Descriptor) → collectOf image (take mostEntries ds) ≡ collectOf image ds
 unfolding collectOf collecting

@@ -16,7 +16,7 @@ use Rattle.volume.specs.View.{byBytes}
 use Rattle.volume.specs.Counting.{Volume, inodeIds}
 use Rattle.volume.specs.Path.{pathNames}
 use Rattle.volume.specs.Tree.{Found, found, absent, children}
-use Rattle.calls.specs.Refusal.{firstRefusal}
+use Rattle.calls.specs.Refusal.{_refused-by_, firstRefusal}
 use Rattle.calls.specs.Areas.{fileAreas}
 use Rattle.calls.specs.Mount.{mostInodes, volume, mountNumber}
 use Rattle.calls.specs.Storing.{Store, Space, spaces, placeAll, noPlace, storedOr, namedIds, unusedId}
@@ -25,6 +25,7 @@ use Rattle.calls.specs.Create.{lastName, firstIdOf, newId, newInode, nameChecks
 use Rattle.calls.specs.declared.Descriptor.{Descriptor}
 use Rattle.calls.specs.declared.Created.{Created}
 use Rattle.path_walk.specs.Resolved.{refusalOf}
+use Rattle.path_find.specs.NewName.{name-refused, name-passed}
 use Rattle.path_find.specs.Parent.{parentOf}
 use Rattle.write_inodes.specs.Stored.{placeNumber}
 use Rattle.mount_state.specs.State.{Safe, Holds, Mounts}
@@ -84,20 +85,6 @@ module _ (image : Bytes) (v : Volume Bytes) (kind d : ℕ) (n : Bytes) (ss : Lis
 
 -- ---- the ways that a create ends
 
--- 11 and 12, and then x
-abbrev numberOr : Bool → Bool → ℕ → ℕ
-numberOr a b x = cond a 11 (cond b 12 x)
-
-checks-before : (a b : Bool) (x : ℕ) → numberOr a b 0 ≢ 0 → numberOr a b x ≡ numberOr a b 0
-checks-before true b x h = refl
-checks-before false true x h = refl
-checks-before false false x h = absurd (h refl)
-
-checks-last : (a b : Bool) (x : ℕ) → numberOr a b 0 ≡ 0 → numberOr a b x ≡ x
-checks-last true b x h = absurd (omega arith)
-checks-last false true x h = absurd (omega arith)
-checks-last false false x h = refl
-
 module _ (image : Bytes) (ds : List Descriptor) (base path : Bytes) (kind : ℕ) where
   -- the answer and the image of a create
   abbrev pub Outcome : Created → Bytes → Type 0
@@ -139,22 +126,18 @@ module _ (image : Bytes) (ds : List Descriptor) (base path : Bytes) (kind : ℕ)
       one-in : (k : ℕ) → createIn image ds kind d name ≡ k → creating image ds base path kind ≡ unless k (goes d)
       one-in k q = creating-is ∙ ap (atFound checks) e ∙ rw q
 
-      -- the checks of the name, and then those of the table and of the place
-      name-first : createIn image ds kind d name
-          ≡ numberOr (not (isDirectoryId d)) (ltb 0 (length (children byBytes v d name))) (cond (ltb mostInodes (suc (length (inodeIds byBytes v)))) 5 (cond (noPlace plan) 15 0))
-      unfolding createIn firstRefusal
-      name-first = refl
-
       where-refused : (k : ℕ) → k ≡ firstRefusal (nameChecks v d name) → k ≢ 0 → Outcome (notCreated k) image
-      unfolding firstRefusal
-      where-refused k q h =
-          outcome (refuses k)
-          (one-in k (name-first ∙ checks-before (not (isDirectoryId d)) (ltb 0 (length (children byBytes v d name))) _ (λ z. h (q ∙ z)) ∙ sym q) ∙ rw (ne-eqb k 0 h))
+      unfolding createIn
+      where-refused k q h = outcome (refuses k) (one-in k (name-refused v d name _ (λ z. h (q ∙ z)) ∙ sym q) ∙ rw (ne-eqb k 0 h))
 
       module _ (z : firstRefusal (nameChecks v d name) ≡ 0) where
+        -- the checks of the table and of the place
         name-passes : createIn image ds kind d name ≡ cond (ltb mostInodes (suc (length (inodeIds byBytes v)))) 5 (cond (noPlace plan) 15 0)
-        unfolding firstRefusal
-        name-passes = name-first ∙ checks-last (not (isDirectoryId d)) (ltb 0 (length (children byBytes v d name))) _ z
+        unfolding createIn firstRefusal
+        name-passes =
+            name-passed v d name
+            ((ltb mostInodes (suc (length (inodeIds byBytes v))) refused-by 5) ∷ (noPlace plan refused-by 15) ∷ [])
+            z
 
         where-full : mostInodes ≤ length (inodeIds byBytes v) → Outcome (notCreated 5) image
         where-full h = outcome (refuses 5) (one-in 5 (name-passes ∙ rw (lt-ltb mostInodes (suc (length (inodeIds byBytes v))) (omega arith))))

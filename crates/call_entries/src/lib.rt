@@ -11,6 +11,7 @@ ghost use Rattle.calls.specs.Read.{readGiven, readAnswer, bufferAfter, handleAf
 ghost use Rattle.calls.specs.Create.{createOf, imageCreated};
 ghost use Rattle.calls.specs.Append.{appendOf, imageAppended};
 ghost use Rattle.calls.specs.Unlink.{unlinkOf, imageUnlinked};
+ghost use Rattle.calls.specs.Rename.{renameOf, imageRenamed};
 ghost use Rattle.calls.specs.Collect.{collectOf, imageCollected};
 ghost use Rattle.area_list.specs.Numbers.{areaList};
 ghost use Rattle.path_walk.specs.Resolved.{meaning, Kinded};
@@ -25,6 +26,7 @@ use call_read::lookup_answer;
 use call_read::not_read;
 use call_read::open_answer;
 use call_read::read_mounted;
+use call_rename::rename_mounted;
 use call_report::refused_report;
 use call_report::report_mounted;
 use call_unlink::unlink_mounted;
@@ -192,6 +194,26 @@ pub fn unlink_of<'a>(image: &mut [u8], areas: Areas, base: &'a [u8], path: &'a [
         return m.number;
     }
     unlink_mounted(&mut *image, &tables[..], m, base, path)
+}
+
+// Renames what the old path leads to, and with a directory all below it: the number of refusal, or 0. A refused rename changes no byte.
+pub fn rename_of<'a>(
+    image: &mut [u8],
+    areas: Areas,
+    base: &'a [u8],
+    old: &'a [u8],
+    new: &'a [u8],
+) -> u32
+    ensures number { λ r. ⌜ r ≡ renameOf (now (image .entry)) (areaList (areas .numbers)) (now (base .entry)) (now (old .entry)) (now (new .entry)) ⌝ }
+    ensures image { λ _. ⌜ now (image .exit) ≡ imageRenamed (now (image .entry)) (areaList (areas .numbers)) (now (base .entry)) (now (old .entry)) (now (new .entry)) ⌝ }
+{
+    let mut tables = [0u32; TABLES];
+    let mut places = [0u16; MOST_RECORDS];
+    let m = mount(&*image, &areas.numbers, &mut tables[..], &mut places[..]);
+    if m.number != 0 {
+        return m.number;
+    }
+    rename_mounted(&mut *image, &tables[..], m, base, old, new)
 }
 
 // Moves what counts of one file area to the scratch area, and makes that file area the scratch area: the number of refusal, or 0.

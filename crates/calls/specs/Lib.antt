@@ -14,5 +14,6 @@ pub mod Create
 pub mod Append
 pub mod Rewrite
 pub mod Unlink
+pub mod Rename
 pub mod Collect
 pub mod Program

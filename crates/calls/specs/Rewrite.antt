@@ -1,4 +1,4 @@
--- An inode rewritten with any parent and name; unlink stores one. Document 01, refusals 16 and 15: "16 comes before 15".
+-- An inode rewritten with any parent and name: unlink and rename store one. Document 01, refusals 16 and 15: "16 comes before 15".
 use Prim.Native.Nat.{ℕ, suc}
 use mathlib.Core.List.{List, [], _∷_}
 use mathlib.Core.Option.{Option, none, some}
@@ -8,7 +8,7 @@ use Rattle.format.specs.Record.{recordSequence}
 use Rattle.format.specs.Encoding.{inodeBytes}
 use Rattle.volume.specs.View.{byBytes}
 use Rattle.volume.specs.Counting.{Volume, inodeOf}
-use Rattle.calls.specs.Refusal.{_refused-by_, firstRefusal}
+use Rattle.calls.specs.Refusal.{Check, _refused-by_, firstRefusal}
 use Rattle.calls.specs.Areas.{fileAreas}
 use Rattle.calls.specs.Mount.{volume}
 use Rattle.calls.specs.Storing.{Store, spaces, placeAll, noPlace, storedOr}
@@ -32,12 +32,14 @@ unfoldable pub rewritePlan : Bytes → List Descriptor → ℕ → ℕ → Bytes
 rewritePlan image ds i parent name = placeAll (spaces image (fileAreas image ds)) (rewritten (volume image ds) i parent name ∷ [])
 
 -- 16 where no sequence is left, then 15
-unfoldable pub rewriteNumber : Bytes → List Descriptor → ℕ → ℕ → Bytes → ℕ
-rewriteNumber image ds i parent name =
-    firstRefusal
-    ((eqb (sequenceOf (inodeOf byBytes (volume image ds) i)) lastSequence refused-by 16)
+abbrev pub rewriteChecks : Bytes → List Descriptor → ℕ → ℕ → Bytes → List Check
+rewriteChecks image ds i parent name =
+    (eqb (sequenceOf (inodeOf byBytes (volume image ds) i)) lastSequence refused-by 16)
     ∷ (noPlace (rewritePlan image ds i parent name) refused-by 15)
-    ∷ [])
+    ∷ []
+
+unfoldable pub rewriteNumber : Bytes → List Descriptor → ℕ → ℕ → Bytes → ℕ
+rewriteNumber image ds i parent name = firstRefusal (rewriteChecks image ds i parent name)
 
 unfoldable pub imageRewritten : Bytes → List Descriptor → ℕ → ℕ → Bytes → Bytes
 imageRewritten image ds i parent name = storedOr image (rewritePlan image ds i parent name)

@@ -52,6 +52,9 @@ pub const LAST_SEQUENCE: u32 = 16;
 
 pub const NO_SOURCE: u32 = 17;
 
+// By T-01.
+pub const INTO_ITSELF: u32 = 18;
+
 // The kinds of inodes: create takes any other number for a file too.
 pub const DIRECTORY: u32 = 0;
 

@@ -13,7 +13,7 @@ use Rattle.volume.specs.Counting.{Volume, counting, idsOf, inodeOf}
 use Rattle.volume.specs.Fate.{Fate, climb, longestChain, fateOf}
 use Rattle.volume.specs.Tree.{isChild, lookupNames}
 use Rattle.volume.specs.Contents.{fileBlocks}
-use Rattle.volume_laws.specs.Once.{pigeons}
+use Rattle.volume_laws.specs.Once.{pigeons, Alike}
 use Rattle.volume_laws.specs.Counting.{Agree, counting-mem, counting-none, counting-absent, counting-is, counting-sub, counting-retained, ids-of}
 use Rattle.volume_laws.specs.Counting.{ids-mem, mem-ids, fewer-ids}
 use Rattle.volume_laws.specs.Climb.{closed-climb}
@@ -46,6 +46,12 @@ module _ {A : Type 0} (F : View A) where
       go (yes e) = rw e a
       go (no e) = b j e
 
+  -- an inode that keeps its record and its fate is the child that it was
+  pub child-same : (v w : Volume A) (d : ℕ) (n : Bytes) (j : ℕ) → inodeOf F w j ≡ inodeOf F v j → fateOf F w j ≡ fateOf F v j
+      → isChild F w d n j ≡ isChild F v d n j
+  unfolding isChild
+  child-same v w d n j e f = rw (isChild, e, f)
+
   module _ (rs ss : List A) (r : A) (w : Added rs ss r) (ag : Agree F rs) where
     -- check 6 still passes
     pub added-agree : Agree F ss
@@ -77,9 +83,14 @@ module _ {A : Type 0} (F : View A) where
         go x t = ⊎-elim (λ q. List·Memᴰ·head (sym (t .2) ∙ ap (F .id) q)) (λ k. List·Memᴰ·tail (Memᴰ·cast (sym (t .2)) (mem-ids F rs (t .0) k)))
             (w .only (t .0) (t .1))
 
-    -- none more where the id was there
-    pub known-ids : List·Memᴰ (F .id r) (idsOf F rs) → length (idsOf F ss) ≤ length (idsOf F rs)
-    known-ids there = pigeons (idsOf F ss) (idsOf F rs) (ids-of F ss .nodup) (λ x m. go x (ids-mem F ss x m))
+    -- the same ones where the id was there
+    pub known-ids : List·Memᴰ (F .id r) (idsOf F rs) → Alike (idsOf F ss) (idsOf F rs)
+    known-ids there = record {
+      nodup-l = ids-of F ss .nodup;
+      nodup-m = ids-of F rs .nodup;
+      to = λ x m. go x (ids-mem F ss x m);
+      back = λ x m. let t = ids-mem F rs x m in Memᴰ·cast (sym (t .2)) (mem-ids F ss (t .0) (w .old (t .0) (t .1)));
+    }
       where
         go : (x : ℕ) → (s : A) × List·Memᴰ s ss × (F .id s ≡ x) → List·Memᴰ x (idsOf F rs)
         go x t = ⊎-elim (λ q. Memᴰ·cast (sym (t .2) ∙ ap (F .id) q) there) (λ k. Memᴰ·cast (sym (t .2)) (mem-ids F rs (t .0) k))
@@ -109,8 +120,7 @@ module _ {A : Type 0} (F : View A) where
     same-fate = same-climb (λ f. f) (λ r f. f)
 
     pub same-lookup : (ns : List Bytes) → lookupNames F w ns ≡ lookupNames F v ns
-    unfolding isChild
-    same-lookup = lookup-same F v w (λ d n i. rw (isChild, same-inode i, same-fate i))
+    same-lookup = lookup-same F v w (λ d n i. child-same v w d n i (same-inode i) (same-fate i))
 
   -- and on blocks
   module _ (v w : Volume A) (s : Same (v .blocks) (w .blocks)) (ag : Agree F (v .blocks)) where

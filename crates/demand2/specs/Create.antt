@@ -4,14 +4,14 @@ use mathlib.Core.Path.{_≡_, refl, sym, ap, _∙_}
 use mathlib.Core.Logic.{_≢_, ⊎-elim}
 use mathlib.Core.Bool.{Bool, true, false, cond, not, _||_}
 use mathlib.Core.Option.{Option, some}
-use mathlib.Core.List.{List, [], _∷_, _++_, List·Memᴰ, List·Memᴰ·not-nil, append-assoc}
+use mathlib.Core.List.{List, [], _∷_, _++_, List·Memᴰ, append-assoc}
 use native.Mathlib.Omega.{arith}
 use lib.ListN.{length}
 use lib.Dec.{eqb, ltb, nltb→le, ltb→lt, lt→ltb}
 use borrow.Author.Tests.{lt-leb}
 use Rattle.format.specs.Bytes.{Bytes}
-use Rattle.format.specs.Ids.{NONE, rootId, firstFileId, isDirectoryId, firstBlockId, isInodeId}
-use Rattle.format.specs.Record.{recordSize, inodeRule, recordId}
+use Rattle.format.specs.Ids.{rootId, firstFileId, isDirectoryId, firstBlockId, isInodeId}
+use Rattle.format.specs.Record.{recordSize, recordId}
 use Rattle.format.specs.Reading.{areaClean}
 use Rattle.format.specs.Encoding.{inodeBytes}
 use Rattle.format_laws.specs.Crc.{Octets}
@@ -22,15 +22,15 @@ use Rattle.volume.specs.Path.{goodPath, pathNames}
 use Rattle.volume.specs.Tree.{found, absent, children, walk, lookupNames, isChild}
 use Rattle.volume.specs.Fate.{live, fateOf}
 use Rattle.volume.specs.Contents.{fileBlocks, textOf}
-use Rattle.volume_laws.specs.Tests.{eqb-false, not-is-false, or-is-false, true→T, T→true, not-T→false, eqb-differ}
+use Rattle.volume_laws.specs.Tests.{eqb-false, not-is-false, or-is-false, T→true, not-T→false, eqb-differ}
 use Rattle.volume_laws.specs.Counting.{counting-mem}
-use Rattle.volume_laws.specs.Tree.{lookup-append, mem-children}
-use Rattle.calls.specs.Refusal.{firstRefusal}
+use Rattle.volume_laws.specs.Tree.{lookup-append}
+use Rattle.calls.specs.Refusal.{Check, _refused-by_, firstRefusal}
 use Rattle.calls.specs.Areas.{areaBytes, fileAreas}
 use Rattle.calls.specs.Mount.{mostInodes, volume, mountNumber, acceptedRecords}
 use Rattle.calls.specs.Storing.{Store, spaces, placeAll, noPlace, namedIds}
 use Rattle.calls.specs.Attempt.{goes}
-use Rattle.calls.specs.Create.{lastName, namesBefore, isRoot, firstIdOf, newId, newInode, createIn, creating, createOf, imageCreated}
+use Rattle.calls.specs.Create.{lastName, namesBefore, isRoot, firstIdOf, newId, newInode, nameChecks, createIn, creating, createOf, imageCreated}
 use Rattle.calls.specs.declared.Descriptor.{Descriptor}
 use Rattle.calls.specs.Lookup.{resolve}
 use Rattle.calls.specs.Read.{given, refused, giveBlocks, giveFile, give, readGiven}
@@ -45,9 +45,9 @@ use Rattle.demand2.specs.Places.{place-found}
 use Rattle.calls_laws.specs.Unused.{Smallest, unused-smallest}
 use Rattle.demand2.specs.Unused.{Unused, unnamed-unused, named-used, few-named}
 use Rattle.demand2.specs.Names.{GoodName, good-name, last-mem, names-split}
-use Rattle.demand2.specs.Found.{passed-check, lookup-refused, root-there, found-lives, found-once}
+use Rattle.demand2.specs.Found.{passed-check, lookup-refused, root-there, directory-low, free-child, found-lives, found-once}
 use Rattle.demand2.specs.Found.{resolved, resolve-alike, read-given, read-kept}
-use Rattle.demand2.specs.NewRecord.{IsInode, inode-made, WrittenOne, one-placed, octets-one, no-blocks}
+use Rattle.demand2.specs.NewRecord.{child-rule, IsInode, inode-made, WrittenOne, one-placed, octets-one, no-blocks}
 
 -- a read of no block: "position equal to size reads 0 bytes; one more is 14"
 empty-given : (position room : ℕ) → giveFile (some []) position room ≡ cond (eqb position 0) (given [] 0) (refused 14)
@@ -55,6 +55,15 @@ unfolding giveBlocks textOf
 empty-given zero zero = refl
 empty-given zero (suc room) = refl
 empty-given (suc position) room = rw (lt-leb (suc position) 0 (omega arith), eqb-differ (suc position) 0 (λ e. omega arith))
+
+-- a new name that was not refused: below a directory, where it is free
+pub name-checked : (v : Volume Bytes) (d : ℕ) (n : Bytes) (l : List Check) → firstRefusal (nameChecks v d n ++ l) ≡ 0
+    → (isDirectoryId d ≡ true) × (length (children byBytes v d n) ≡ 0) × (firstRefusal l ≡ 0)
+unfolding firstRefusal
+name-checked v d n l e =
+    let a = passed-check (not (isDirectoryId d)) 10 _ e in
+    let b = passed-check (ltb 0 (length (children byBytes v d n))) 11 _ (a .1) in
+    (not-is-false (isDirectoryId d) (a .0), omega (arith, nltb→le 0 (length (children byBytes v d n)) (rw (b .0) tt)), b .1)
 
 -- what an accepted create found
 pub record CreateGoes (image : Bytes) (ds : List Descriptor) (base path : Bytes) (kind : ℕ) : Type 0 where
@@ -87,13 +96,13 @@ module _ (image : Bytes) (ds : List Descriptor) (base path : Bytes) (kind : ℕ)
       × (l : List Store) × (placing d ≡ some l)
   unfolding createIn firstRefusal
   checked d e =
-      let a = passed-check (not (isDirectoryId d)) 10 _ e in
-      let b = passed-check (ltb 0 (length (children byBytes before d (lastName names)))) 11 _ (a .1) in
-      let c = passed-check (ltb mostInodes (suc (length (inodeIds byBytes before)))) 4 _ (b .1) in
+      let a = name-checked before d (lastName names)
+      ((ltb mostInodes (suc (length (inodeIds byBytes before))) refused-by 5) ∷ (noPlace (placing d) refused-by 15) ∷ []) e in
+      let c = passed-check (ltb mostInodes (suc (length (inodeIds byBytes before)))) 4 _ (a .2) in
       let f = passed-check (noPlace (placing d)) 14 0 (c .1) in
       let g = place-found (placing d) (f .0) in (
-        not-is-false (isDirectoryId d) (a .0),
-        omega (arith, nltb→le 0 (length (children byBytes before d (lastName names))) (rw (b .0) tt)),
+        a .0,
+        a .1,
         nltb→le mostInodes (suc (length (inodeIds byBytes before))) (rw (c .0) tt),
         g .0,
         g .1,
@@ -215,23 +224,15 @@ module _ (image : Bytes) (ds : List Descriptor) (base path : Bytes) (kind : ℕ)
   called = good-name base path octets-base octets-path (g .good) name (last-mem (pathNames base path) (g .named))
 
   low : g .directory < firstFileId
-  unfolding isDirectoryId
-  low = ltb→lt (g .directory) firstFileId (true→T (g .is-directory))
+  low = directory-low (g .directory) (g .is-directory)
 
   meant : MeantInode id 0 (g .directory) name
-  unfolding inodeRule isInodeId
   meant = record {
     id-fits = omega (arith, ranged .0);
     sequence-fits = omega arith;
     parent-fits = omega (arith, low);
     name-fits = called .fits;
-    rule = rw (
-      T→true {b = ltb id firstBlockId} (lt→ltb id firstBlockId (ranged .0)),
-      eqb-differ id rootId no-root,
-      eqb-differ (g .directory) NONE (λ e. omega (arith, low)),
-      g .is-directory,
-      T→true {b = ltb 0 (length name)} (lt→ltb 0 (length name) (called .some-bytes)),
-    );
+    rule = child-rule id (g .directory) (length name) (ranged .0) no-root (g .is-directory) (called .some-bytes);
     good = called .good;
     octets = called .octets;
   }
@@ -277,11 +278,7 @@ module _ (image : Bytes) (ds : List Descriptor) (base path : Bytes) (kind : ℕ)
   above-lives = rw (is .parent-is) (found-lives byBytes v (root .0) (root .1) (namesBefore (pathNames base path)) (g .directory) (g .found-there))
 
   free-name : (j : ℕ) → isChild byBytes v (byBytes .parent b) (byBytes .name b) j ≡ false
-  free-name j = rw (is .parent-is, is .name-is) (not-T→false (λ t. none-in _ (g .name-free) (mem-children byBytes v (g .directory) name j t)))
-    where
-      none-in : (l : List ℕ) → length l ≡ 0 → List·Memᴰ j l → ⊥
-      none-in [] e m = List·Memᴰ·not-nil m
-      none-in (x ∷ l) e m = omega arith
+  free-name j = rw (is .parent-is, is .name-is) (free-child byBytes v (g .directory) name (g .name-free) j)
 
   born-other : (i : ℕ) → i ≢ id → i ≢ recordId b
   born-other i n e = n (e ∙ is .id-is)

@@ -5,7 +5,7 @@ use mathlib.Core.Path.{_≡_, refl, sym, ap, _∙_}
 use mathlib.Core.Logic.{inl, inr, _≢_}
 use mathlib.Core.Bool.{Bool, true, false, cond, not}
 use mathlib.Core.Option.{Option, none, some}
-use mathlib.Core.List.{List, [], _∷_, _++_, List·Memᴰ, List·Memᴰ·head, List·Memᴰ·eq-of-singleton, append-nil, append-assoc}
+use mathlib.Core.List.{List, [], _∷_, _++_, List·Memᴰ, List·Memᴰ·head, List·Memᴰ·not-nil, List·Memᴰ·eq-of-singleton, append-nil, append-assoc}
 use native.Mathlib.Omega.{arith}
 use lib.ListN.{length}
 use lib.Dec.{T, eqb, eqb→eq, ltb→lt}
@@ -13,15 +13,16 @@ use Rattle.format.specs.Bytes.{Bytes}
 use Rattle.format.specs.Ids.{NONE, rootId, firstFileId, isDirectoryId}
 use Rattle.volume.specs.Lists.{same, has, Only, nobody, several, one, only}
 use Rattle.volume.specs.View.{View, byBytes}
-use Rattle.volume.specs.Counting.{Volume, inodeOf}
-use Rattle.volume.specs.Fate.{live, isLive, ascend, climb, fateOf}
+use Rattle.volume.specs.Counting.{Volume, inodeOf, inodeIds}
+use Rattle.volume.specs.Fate.{live, isLive, ascend, climb, longestChain, fateOf, namesOf}
 use Rattle.volume.specs.Contents.{fileBlocks}
 use Rattle.volume.specs.Tree.{found, absent, onward, isEntry, isChild, children, walk, lookupNames}
 use Rattle.volume.specs.Path.{goodPath, pathNames}
-use Rattle.volume_laws.specs.Tests.{true→T, and-T, eqb-differ, has-some}
-use Rattle.volume_laws.specs.Lists.{same-eq}
-use Rattle.volume_laws.specs.Counting.{counting-mem}
-use Rattle.volume_laws.specs.Climb.{climb-stop, climb-on, is-live, fate-own}
+use Rattle.volume_laws.specs.Tests.{true→T, not-T→false, and-T, eqb-differ, has-some}
+use Rattle.volume_laws.specs.Lists.{keep-none, same-eq}
+use Rattle.volume_laws.specs.Once.{nodup-keep, alike-only}
+use Rattle.volume_laws.specs.Counting.{counting-mem, ids-of}
+use Rattle.volume_laws.specs.Climb.{climb-stop, climb-on, is-live, fate-own, live-within}
 use Rattle.volume_laws.specs.Tree.{mem-children, children-mem}
 use Rattle.volume_laws.specs.Sound.{Sound}
 use Rattle.calls.specs.Mount.{volume, noRoot, mountNumber}
@@ -42,6 +43,11 @@ root-there v e = go (inodeOf byBytes v rootId) refl e
     go : (o : Option Bytes) → inodeOf byBytes v rootId ≡ o → not (has (λ r. true) o) ≡ false → (r : Bytes) × (inodeOf byBytes v rootId ≡ some r)
     go none q z = let y : _≡_ {A = ℕ} 0 1 = cc in absurd (omega arith)
     go (some r) q z = (r, q)
+
+-- a directory has an id below those of files
+pub directory-low : (d : ℕ) → isDirectoryId d ≡ true → d < firstFileId
+unfolding isDirectoryId
+directory-low d e = ltb→lt d firstFileId (true→T e)
 
 module _ {A : Type 0} (F : View A) (v : Volume A) where
   -- the chain of parents ends at the root
@@ -82,6 +88,30 @@ module _ {A : Type 0} (F : View A) (v : Volume A) where
       go (y ∷ []) f g q = let z : y ≡ x = cc in rw (← z) (g y (List·Memᴰ·head refl), λ u t. List·Memᴰ·eq-of-singleton (f u t))
       go (y ∷ u ∷ es) f g q = let z : _≡_ {A = ℕ} 0 1 = cc in absurd (omega arith)
 
+  -- and back
+  pub sole-child : (d : ℕ) (n : Bytes) (x : ℕ) → T (isChild F v d n x) → ((y : ℕ) → T (isChild F v d n y) → y ≡ x)
+      → only (children F v d n) ≡ one x
+  unfolding only children
+  sole-child d n x t h = alike-only (children F v d n) (x ∷ []) (record {
+    nodup-l = nodup-keep (isChild F v d n) (inodeIds F v) (ids-of F (v .inodes) .nodup);
+    nodup-m = (List·Memᴰ·not-nil, tt);
+    to = λ y m. List·Memᴰ·head (h y (children-mem F v d n y m));
+    back = λ y m. rw (List·Memᴰ·eq-of-singleton m) (mem-children F v d n x t);
+  })
+
+  -- no child of a name
+  pub no-child : (d : ℕ) (n : Bytes) → ((y : ℕ) → ¬ T (isChild F v d n y)) → only (children F v d n) ≡ nobody
+  unfolding only children
+  no-child d n h = ap only (keep-none (isChild F v d n) (inodeIds F v) (λ y m. not-T→false (h y)))
+
+  -- a name that is free in a directory
+  pub free-child : (d : ℕ) (n : Bytes) → length (children F v d n) ≡ 0 → (y : ℕ) → isChild F v d n y ≡ false
+  free-child d n e y = not-T→false (λ t. none-in (children F v d n) e (mem-children F v d n y t))
+    where
+      none-in : (l : List ℕ) → length l ≡ 0 → ¬ List·Memᴰ y l
+      none-in [] e m = List·Memᴰ·not-nil m
+      none-in (x ∷ l) e m = omega arith
+
   pub child-lives : (d : ℕ) (n : Bytes) (x : ℕ) → T (isChild F v d n x) → fateOf F v x ≡ live
   unfolding isChild
   child-lives d n x t = is-live (fateOf F v x) (and-T (has (isEntry F d n) (inodeOf F v x)) (isLive (fateOf F v x)) t .1)
@@ -98,23 +128,22 @@ module _ {A : Type 0} (F : View A) (v : Volume A) where
   unfolding lookupNames
   found-lives r e ns j q = walk-lives rootId ns j (root-lives r e) q
 
-  -- the chain of parents goes on above an inode that has a parent
-  goes-on : Sound F v → (x : ℕ) (s : A) → inodeOf F v x ≡ some s → F .parent s ≢ NONE → ascend F (inodeOf F v x) ≡ inr s
+  -- the chain of parents goes on above an inode that is not the root and has a parent
+  pub goes-on : (x : ℕ) (s : A) → inodeOf F v x ≡ some s → F .id s ≢ rootId → F .parent s ≢ NONE → ascend F (inodeOf F v x) ≡ inr s
   unfolding ascend
-  goes-on sound x s e n =
-      let m = counting-mem F (v .inodes) x s e in
-      rw (e, ascend, eqb-differ (F .id s) rootId (λ z. n (sound .root-parent s (m .0) z)), eqb-differ (F .parent s) NONE n)
+  goes-on x s e r n = rw (e, ascend, eqb-differ (F .id s) rootId r, eqb-differ (F .parent s) NONE n)
 
   -- from a child to its directory
-  child-above : Sound F v → (d : ℕ) (n : Bytes) (x : ℕ) → isDirectoryId d ≡ true → T (isChild F v d n x)
+  pub child-above : Sound F v → (d : ℕ) (n : Bytes) (x : ℕ) → isDirectoryId d ≡ true → T (isChild F v d n x)
       → (s : A) × (ascend F (inodeOf F v x) ≡ inr s) × (F .parent s ≡ d) × (F .name s ≡ n)
-  unfolding isChild isEntry isDirectoryId
+  unfolding isChild isEntry
   child-above sound d n x e t =
       let h = has-some (isEntry F d n) (inodeOf F v x) (and-T (has (isEntry F d n) (inodeOf F v x)) (isLive (fateOf F v x)) t .0) in
       let u = and-T (eqb (F .parent (h .0)) d) (same (F .name (h .0)) n) (h .2) in
       let p : F .parent (h .0) ≡ d = eqb→eq (F .parent (h .0)) d (u .0) in
-      let low : d < firstFileId = ltb→lt d firstFileId (true→T e) in
-      (h .0, goes-on sound x (h .0) (h .1) (λ z. omega (arith, p, low)), p, same-eq (F .name (h .0)) n (u .1))
+      let m = counting-mem F (v .inodes) x (h .0) (h .1) .0 in
+      let some-parent : F .parent (h .0) ≢ NONE = λ z. omega (arith, p, directory-low d e) in
+      (h .0, goes-on x (h .0) (h .1) (λ z. some-parent (sound .root-parent (h .0) m z)) some-parent, p, same-eq (F .name (h .0)) n (u .1))
 
   -- the names gathered along at most k parents
   abbrev namesWithin : ℕ → ℕ → List Bytes
@@ -138,19 +167,19 @@ module _ {A : Type 0} (F : View A) (v : Volume A) where
       ap (λ m. namesWithin m j) count ∙ walk-names sound (suc k) (s .child) ns j (s .goes-on)
       ∙ ap (λ l. l ++ ns) one-more ∙ append-assoc (namesWithin k d) (n ∷ []) ns
 
-  -- an inode is found by one list of names
+  -- what is found has the names that it was found by
+  pub names-found : Sound F v → (r : A) → inodeOf F v rootId ≡ some r → (ns : List Bytes) (j : ℕ) → lookupNames F v ns ≡ found j → namesOf F v j ≡ ns
+  unfolding lookupNames namesOf
+  names-found sound r e ns j q =
+      let k = longestChain F v in
+      sym (live-within F (λ f. []) (λ r l. l ++ (F .name r ∷ [])) v (length ns + suc k) j (omega arith) (found-lives r e ns j q))
+      ∙ walk-names sound (suc k) rootId ns j q
+      ∙ ap (λ l. l ++ ns) (climb-stop F (λ f. []) (λ r l. l ++ (F .name r ∷ [])) (inodeOf F v) k rootId live (root-ends r e))
+
+  -- so that an inode is found by one list of names
   pub found-once : Sound F v → (r : A) → inodeOf F v rootId ≡ some r → (ns ms : List Bytes) (j : ℕ)
       → lookupNames F v ns ≡ found j → lookupNames F v ms ≡ found j → ns ≡ ms
-  unfolding lookupNames
-  found-once sound r e ns ms j p q =
-      let count : length ns + suc (length ms) ≡ length ms + suc (length ns) = omega arith in
-      sym (from ns (length ms) p) ∙ ap (λ m. namesWithin m j) count ∙ from ms (length ns) q
-    where
-      top : (k : ℕ) → namesWithin (suc k) rootId ≡ []
-      top k = climb-stop F (λ f. []) (λ r l. l ++ (F .name r ∷ [])) (inodeOf F v) k rootId live (root-ends r e)
-
-      from : (l : List Bytes) (k : ℕ) → walk F v rootId l ≡ found j → namesWithin (length l + suc k) j ≡ l
-      from l k f = walk-names sound (suc k) rootId l j f ∙ ap (λ m. m ++ l) (top k)
+  found-once sound r e ns ms j p q = sym (names-found sound r e ns j p) ∙ names-found sound r e ms j q
 
   walk-refused : (d : ℕ) (ns : List Bytes) (k : ℕ) → walk F v d ns ≡ absent k → 9 ≤ k
   unfolding walk
@@ -163,15 +192,34 @@ module _ {A : Type 0} (F : View A) (v : Volume A) where
       go true several q ih = let z : 10 ≡ k = cc in omega arith
       go true (one i) q ih = ih i q
 
-  pub lookup-refused : (ns : List Bytes) (k : ℕ) → lookupNames F v ns ≡ absent k → k ≢ 0
+  -- a lookup that finds nothing is answered by 9 at least
+  pub lookup-nine : (ns : List Bytes) (k : ℕ) → lookupNames F v ns ≡ absent k → 9 ≤ k
   unfolding lookupNames
-  lookup-refused ns k q z = omega (arith, walk-refused rootId ns k q)
+  lookup-nine = walk-refused rootId
+
+  pub lookup-refused : (ns : List Bytes) (k : ℕ) → lookupNames F v ns ≡ absent k → k ≢ 0
+  lookup-refused ns k q z = omega (arith, lookup-nine ns k q)
 
 -- a path in an image that mounts
 pub resolved : (image : Bytes) (ds : List Descriptor) (base p : Bytes) → mountNumber image ds ≡ 0
     → resolve image ds base p ≡ cond (goodPath base p) (lookupNames byBytes (volume image ds) (pathNames base p)) (absent 8)
 unfolding resolve
 resolved image ds base p m = rw (resolve, m)
+
+-- a good one is answered as its names are looked up
+pub resolve-good : (image : Bytes) (ds : List Descriptor) (base p : Bytes) → mountNumber image ds ≡ 0 → goodPath base p ≡ true
+    → resolve image ds base p ≡ lookupNames byBytes (volume image ds) (pathNames base p)
+resolve-good image ds base p m g = resolved image ds base p m ∙ rw g
+
+-- and one that finds an inode is good
+pub resolve-found : (image : Bytes) (ds : List Descriptor) (base p : Bytes) (j : ℕ) → mountNumber image ds ≡ 0 → resolve image ds base p ≡ found j
+    → (goodPath base p ≡ true) × (lookupNames byBytes (volume image ds) (pathNames base p) ≡ found j)
+resolve-found image ds base p j m e = go (goodPath base p) refl (sym (resolved image ds base p m) ∙ e)
+  where
+    go : (b : Bool) → goodPath base p ≡ b → cond b (lookupNames byBytes (volume image ds) (pathNames base p)) (absent 8) ≡ found j
+        → (goodPath base p ≡ true) × (lookupNames byBytes (volume image ds) (pathNames base p) ≡ found j)
+    go true g q = (g, q)
+    go false g q = let z : _≡_ {A = ℕ} 0 1 = cc in absurd (omega arith)
 
 -- two images that mount: where the lookups agree, the paths do
 pub resolve-alike : (image image′ : Bytes) (ds : List Descriptor) (base p : Bytes) → mountNumber image ds ≡ 0 → mountNumber image′ ds ≡ 0

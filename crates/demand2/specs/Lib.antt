@@ -13,6 +13,9 @@ pub mod Names
 -- one more record in a volume
 pub mod Added
 pub mod Found
+pub mod Lineage
+pub mod Newer
+pub mod Entered
 pub mod Mounted
 pub mod NewRecord
 pub mod Rewritten

@@ -131,6 +131,13 @@ names-split [] h = absurd (h refl)
 names-split (n ∷ []) h = refl
 names-split (n ∷ m ∷ ns) h = let e = names-split (m ∷ ns) (λ z. omega arith) in λ i. n ∷ e i
 
+-- the names before one more
+pub names-before : (ns : List Bytes) (n : Bytes) → namesBefore (ns ++ (n ∷ [])) ≡ ns
+unfolding namesBefore
+names-before [] n = refl
+names-before (m ∷ []) n = refl
+names-before (m ∷ o ∷ ns) n = let e = names-before (o ∷ ns) n in λ i. m ∷ e i
+
 pub last-mem : (ns : List Bytes) → length ns ≢ 0 → List·Memᴰ (lastName ns) ns
 unfolding lastName
 last-mem [] h = absurd (h refl)

@@ -1,26 +1,27 @@
 -- A new inode in a volume: it is live and found at its path, and all else is as it was.
 use Prim.Native.Nat.{ℕ, _≤_}
 use mathlib.Core.Path.{_≡_, refl, sym, ap, _∙_}
-use mathlib.Core.Logic.{inr, _≢_}
+use mathlib.Core.Logic.{_≢_}
 use mathlib.Core.Bool.{Bool, true, false, cond}
 use mathlib.Core.Option.{none, some}
-use mathlib.Core.List.{List, [], _∷_, _++_, List·Memᴰ, List·Memᴰ·head, List·Memᴰ·not-nil, List·Memᴰ·eq-of-singleton}
+use mathlib.Core.List.{List, [], _∷_, _++_, List·Memᴰ}
 use native.Mathlib.Omega.{arith}
 use lib.Dec.{T, eqb, eqb→eq}
 use Rattle.format.specs.Bytes.{Bytes}
 use Rattle.format.specs.Ids.{NONE, rootId, isDirectoryId}
-use Rattle.volume.specs.Lists.{same, has, Only, nobody, several, one, only}
+use Rattle.volume.specs.Lists.{same, has, nobody}
 use Rattle.volume.specs.View.{View}
-use Rattle.volume.specs.Counting.{Volume, inodeOf, inodeIds}
+use Rattle.volume.specs.Counting.{Volume, inodeOf}
 use Rattle.volume.specs.Fate.{Fate, live, orphan, isLive, ascend, climb, longestChain, fateOf}
-use Rattle.volume.specs.Tree.{found, absent, onward, isEntry, isChild, children, walk, lookupNames}
-use Rattle.volume_laws.specs.Tests.{T→true, true→T, not-T→false, and-T, eqb-self, eqb-differ, has-some}
-use Rattle.volume_laws.specs.Lists.{keep-none, same-refl, same-eq}
-use Rattle.volume_laws.specs.Once.{nodup-keep, alike-only}
-use Rattle.volume_laws.specs.Counting.{Agree, counting-mem, counting-absent, ids-of, fewer-ids}
+use Rattle.volume.specs.Tree.{found, absent, onward, isEntry, isChild, walk, lookupNames}
+use Rattle.volume_laws.specs.Tests.{not-T→false, and-T, eqb-differ, has-some}
+use Rattle.volume_laws.specs.Counting.{Agree, counting-mem, counting-absent, fewer-ids}
 use Rattle.volume_laws.specs.Climb.{closed-climb, fate-within, fate-own, fate-parent, live-no-orphan}
-use Rattle.volume_laws.specs.Tree.{lookup-append, only-same, mem-children, children-mem}
-use Rattle.demand2.specs.Added.{Added, Changed, split, added-changed}
+use Rattle.volume_laws.specs.Tree.{lookup-append}
+use Rattle.demand2.specs.Added.{Added, Changed, split, child-same, added-changed}
+use Rattle.demand2.specs.Found.{no-child, goes-on}
+use Rattle.demand2.specs.Lineage.{lookup-free}
+use Rattle.demand2.specs.Entered.{entered, entered-elsewhere}
 
 -- what a new inode r makes of the volume v
 pub record InodeNew {A : Type 0} (F : View A) (v w : Volume A) (r : A) : Type 0 where
@@ -62,10 +63,6 @@ module _ {A : Type 0} (F : View A) (v w : Volume A) (r : A) (a : Added F (v .ino
   unfolding fateOf
   fresh-fate j n = fresh-climb (λ f. f) (λ r f. f) (longestChain F w) j n ∙ fate-within F v (longestChain F w) j longer
 
-  child-other : (d : ℕ) (n : Bytes) (j : ℕ) → j ≢ F .id r → isChild F w d n j ≡ isChild F v d n j
-  unfolding isChild
-  child-other d n j q = rw (isChild, changed .others j q, fresh-fate j q)
-
   -- r is an inode below a live directory in which its name was free
   module _ (no-root : F .id r ≢ rootId) (parent : F .parent r ≢ NONE) (lives : fateOf F v (F .parent r) ≡ live)
       (directory : isDirectoryId (F .parent r) ≡ true) (free : (j : ℕ) → isChild F v (F .parent r) (F .name r) j ≡ false) where
@@ -76,77 +73,19 @@ module _ {A : Type 0} (F : View A) (v w : Volume A) (r : A) (a : Added F (v .ino
         live-no-orphan (sym lives ∙ rw e q)
 
     new-lives : fateOf F w (F .id r) ≡ live
-    unfolding ascend
-    new-lives = fate-parent F w (F .id r) r on ∙ fresh-fate (F .parent r) other-parent ∙ lives
-      where
-        on : ascend F (inodeOf F w (F .id r)) ≡ inr r
-        on = rw (changed .here, ascend, eqb-differ (F .id r) rootId no-root, eqb-differ (F .parent r) NONE parent)
+    new-lives = fate-parent F w (F .id r) r (goes-on F w (F .id r) r (changed .here) no-root parent)
+        ∙ fresh-fate (F .parent r) other-parent ∙ lives
 
-    -- its directory has it, and no other, under its name
-    alone : only (children F w (F .parent r) (F .name r)) ≡ one (F .id r)
-    unfolding only isChild isEntry children
-    alone = alike-only (children F w (F .parent r) (F .name r)) (F .id r ∷ []) (record {
-      nodup-l = nodup-keep (isChild F w (F .parent r) (F .name r)) (inodeIds F w) (ids-of F (w .inodes) .nodup);
-      nodup-m = (List·Memᴰ·not-nil, tt);
-      to = λ x m. to x (children-mem F w (F .parent r) (F .name r) x m);
-      back = λ x m. rw (List·Memᴰ·eq-of-singleton m) (mem-children F w (F .parent r) (F .name r) (F .id r) it);
-    })
-      where
-        it : T (isChild F w (F .parent r) (F .name r) (F .id r))
-        it = rw (
-          isChild,
-          changed .here,
-          new-lives,
-          isEntry,
-          eqb-self (F .parent r),
-          T→true {b = same (F .name r) (F .name r)}
-              (same-refl (F .name r)),
-        ) tt
-
-        to : (x : ℕ) → T (isChild F w (F .parent r) (F .name r) x) → List·Memᴰ x (F .id r ∷ [])
-        to = split F r (λ x. T (isChild F w (F .parent r) (F .name r) x) → List·Memᴰ x (F .id r ∷ [])) (λ t. List·Memᴰ·head refl)
-            (λ x n t. let e : isChild F w (F .parent r) (F .name r) x ≡ false = child-other (F .parent r) (F .name r) x n ∙ free x in absurd
-            (rw e at t))
-
-    none-yet : (d : ℕ) (n : Bytes) → isEntry F d n r ≡ true → only (children F v d n) ≡ nobody
-    unfolding isEntry only children
-    none-yet d n t =
-        let u = and-T (eqb (F .parent r) d) (same (F .name r) n) (true→T t) in
-        rw (← eqb→eq (F .parent r) d (u .0), ← same-eq (F .name r) n (u .1))
-        (ap only (keep-none (isChild F v (F .parent r) (F .name r)) (inodeIds F v) (λ x m. free x)))
-
-    not-there : (d : ℕ) (n : Bytes) → isEntry F d n r ≡ false → (i : ℕ) → isChild F w d n i ≡ isChild F v d n i
+    -- no live inode had its id
+    no-old : (d : ℕ) (n : Bytes) → ¬ T (isChild F v d n (F .id r))
     unfolding isChild
-    not-there d n t = split F r (λ i. isChild F w d n i ≡ isChild F v d n i) (rw (isChild, changed .here, unknown, t)) (child-other d n)
+    no-old d n t = rw (isChild, unknown) at t
 
-    -- every walk that was answered otherwise than by 9 is answered as before
-    fresh-walk : (d : ℕ) (ns : List Bytes) → walk F v d ns ≢ absent 9 → walk F w d ns ≡ walk F v d ns
-    unfolding walk
-    fresh-walk d [] q = refl
-    fresh-walk d (n ∷ ns) q = go (isEntry F d n r) refl (λ x. fresh-walk x ns)
-      where
-        here : (b : Bool) → onward b nobody (λ i. walk F v i ns) ≢ absent 9 → (o : Only ℕ)
-            → onward b o (λ i. walk F w i ns) ≡ onward b nobody (λ i. walk F v i ns)
-        here false q o = refl
-        here true q o = absurd (q refl)
-
-        there : (b : Bool) (o : Only ℕ) → onward b o (λ i. walk F v i ns) ≢ absent 9
-            → ((x : ℕ) → walk F v x ns ≢ absent 9 → walk F w x ns ≡ walk F v x ns)
-            → onward b o (λ i. walk F w i ns) ≡ onward b o (λ i. walk F v i ns)
-        there false o q ih = refl
-        there true nobody q ih = refl
-        there true several q ih = refl
-        there true (one i) q ih = ih i q
-
-        go : (b : Bool) → isEntry F d n r ≡ b → ((x : ℕ) → walk F v x ns ≢ absent 9 → walk F w x ns ≡ walk F v x ns)
-            → onward (isDirectoryId d) (only (children F w d n)) (λ i. walk F w i ns)
-            ≡ onward (isDirectoryId d) (only (children F v d n)) (λ i. walk F v i ns)
-        go true t ih = rw (none-yet d n t) (here (isDirectoryId d) (rw (none-yet d n t) at q) (only (children F w d n)))
-        go false t ih = rw (only-same F v w d n (not-there d n t)) (there (isDirectoryId d) (only (children F v d n)) q ih)
-
+    -- every lookup that was answered otherwise than by 9 is answered as before
     fresh-lookup : (ns : List Bytes) → lookupNames F v ns ≢ absent 9 → lookupNames F w ns ≡ lookupNames F v ns
-    unfolding lookupNames
-    fresh-lookup = fresh-walk rootId
+    fresh-lookup ns q = entered-elsewhere F v w r changed new-lives fresh-fate free ns
+        (λ ms rest f e. q (ap (lookupNames F v) e ∙ lookup-free F v (F .parent r) (F .name r) directory free ms rest f))
+        (λ ms n rest x e f d. no-old x n)
 
     -- and the new path finds the new inode
     new-found : (ns : List Bytes) → lookupNames F v ns ≡ found (F .parent r) → lookupNames F w (ns ++ (F .name r ∷ [])) ≡ found (F .id r)
@@ -154,58 +93,25 @@ module _ {A : Type 0} (F : View A) (v w : Volume A) (r : A) (a : Added F (v .ino
     new-found ns q =
         let u : lookupNames F w ns ≡ found (F .parent r)
         = fresh-lookup ns (λ z. let y : _≡_ {A = ℕ} 0 1 = cc in omega arith) ∙ q in
-        rw (lookup-append F w ns (F .name r ∷ []), u, alone, directory)
-
-    -- every walk that does not take the new name is answered as before
-    walk-elsewhere : (d : ℕ) (ns : List Bytes)
-        → ((ms rest : List Bytes) → walk F v d ms ≡ found (F .parent r) → ns ≢ ms ++ (F .name r ∷ rest)) → walk F w d ns ≡ walk F v d ns
-    unfolding walk isEntry
-    walk-elsewhere d [] q = refl
-    walk-elsewhere d (n ∷ ns) q = go (isEntry F d n r) refl (λ x. walk-elsewhere x ns)
-      where
-        there : (b : Bool) (o : Only ℕ) → isDirectoryId d ≡ b → only (children F v d n) ≡ o
-            → ((x : ℕ) → ((ms rest : List Bytes) → walk F v x ms ≡ found (F .parent r) → ns ≢ ms ++ (F .name r ∷ rest))
-            → walk F w x ns ≡ walk F v x ns)
-            → onward b o (λ i. walk F w i ns) ≡ onward b o (λ i. walk F v i ns)
-        there false o e c ih = refl
-        there true nobody e c ih = refl
-        there true several e c ih = refl
-        there true (one i) e c ih = ih i (λ ms rest f z. q (n ∷ ms) rest (rw (walk, e, c) f) (ap (λ l. n ∷ l) z))
-
-        go : (b : Bool) → isEntry F d n r ≡ b
-            → ((x : ℕ) → ((ms rest : List Bytes) → walk F v x ms ≡ found (F .parent r) → ns ≢ ms ++ (F .name r ∷ rest))
-            → walk F w x ns ≡ walk F v x ns)
-            → onward (isDirectoryId d) (only (children F w d n)) (λ i. walk F w i ns)
-            ≡ onward (isDirectoryId d) (only (children F v d n)) (λ i. walk F v i ns)
-        go true t ih =
-            let u = and-T (eqb (F .parent r) d) (same (F .name r) n) (true→T t) in
-            absurd (q [] ns (ap found (sym (eqb→eq (F .parent r) d (u .0)))) (ap (λ m. m ∷ ns) (sym (same-eq (F .name r) n (u .1)))))
-        go false t ih = rw (only-same F v w d n (not-there d n t)) (there (isDirectoryId d) (only (children F v d n)) refl refl ih)
-
-    lookup-elsewhere : (ns : List Bytes)
-        → ((ms rest : List Bytes) → lookupNames F v ms ≡ found (F .parent r) → ns ≢ ms ++ (F .name r ∷ rest))
-        → lookupNames F w ns ≡ lookupNames F v ns
-    unfolding lookupNames
-    lookup-elsewhere = walk-elsewhere rootId
+        rw (lookup-append F w ns (F .name r ∷ []), u, entered F v w r changed new-lives fresh-fate free, directory)
 
     -- the new inode has no child
     childless : (n : Bytes) (j : ℕ) → isChild F w (F .id r) n j ≡ false
     unfolding isChild isEntry
     childless n = split F r (λ j. isChild F w (F .id r) n j ≡ false)
         (rw (isChild, changed .here, isEntry, eqb-differ (F .parent r) (F .id r) other-parent))
-        (λ j q. child-other (F .id r) n j q ∙ not-T→false (no-child j))
+        (λ j q. child-same F v w (F .id r) n j (changed .others j q) (fresh-fate j q) ∙ not-T→false (no-parent-of j))
       where
-        no-child : (j : ℕ) → ¬ T (isChild F v (F .id r) n j)
-        no-child j t =
+        no-parent-of : (j : ℕ) → ¬ T (isChild F v (F .id r) n j)
+        no-parent-of j t =
             let h = has-some (isEntry F (F .id r) n) (inodeOf F v j)
             (and-T (has (isEntry F (F .id r) n) (inodeOf F v j)) (isLive (fateOf F v j)) t .0) in
             let u = and-T (eqb (F .parent (h .0)) (F .id r)) (same (F .name (h .0)) n) (h .2) in
             no-parent (h .0) (counting-mem F (v .inodes) j (h .0) (h .1) .0) (eqb→eq (F .parent (h .0)) (F .id r) (u .0))
 
     nothing-below : (n : Bytes) (ns : List Bytes) → walk F w (F .id r) (n ∷ ns) ≡ absent (cond (isDirectoryId (F .id r)) 9 11)
-    unfolding walk only children
-    nothing-below n ns =
-        rw (walk, children, keep-none (isChild F w (F .id r) n) (inodeIds F w) (λ x m. childless n x)) (go (isDirectoryId (F .id r)))
+    unfolding walk
+    nothing-below n ns = rw (walk, no-child F w (F .id r) n (λ j t. rw (childless n j) at t)) (go (isDirectoryId (F .id r)))
       where
         go : (b : Bool) → onward b nobody (λ i. walk F w i ns) ≡ absent (cond b 9 11)
         go true = refl
@@ -216,7 +122,7 @@ module _ {A : Type 0} (F : View A) (v w : Volume A) (r : A) (a : Added F (v .ino
       lives = new-lives;
       found-there = new-found;
       lookups = fresh-lookup;
-      elsewhere = lookup-elsewhere;
+      elsewhere = λ ns q. entered-elsewhere F v w r changed new-lives fresh-fate free ns q (λ ms n rest x e f d. no-old x n);
       below = nothing-below;
       counts = changed .here;
       inodes = changed .others;

@@ -1,5 +1,5 @@
 -- Records as writers make them: whole, of their kind, and with the fields that were meant.
-use Prim.Native.Nat.{ℕ}
+use Prim.Native.Nat.{ℕ, _≤_, _<_}
 use mathlib.Core.Path.{_≡_, refl, ap, _∙_}
 use mathlib.Core.Logic.{_≢_}
 use mathlib.Core.Bool.{true, false}
@@ -7,9 +7,10 @@ use mathlib.Core.Option.{Option, none, some}
 use mathlib.Core.List.{List, [], _∷_, append-nil, List·Memᴰ}
 use native.Mathlib.Omega.{arith}
 use lib.ListN.{length}
-use lib.Dec.{eqb}
+use lib.Dec.{eqb, ltb, lt→ltb}
 use Rattle.format.specs.Bytes.{Bytes}
-use Rattle.format.specs.Record.{inode, block, recordSize, recordId, recordSequence, acceptable}
+use Rattle.format.specs.Ids.{NONE, firstBlockId, rootId, isInodeId, isDirectoryId}
+use Rattle.format.specs.Record.{inode, block, recordSize, recordId, recordSequence, inodeRule, acceptable}
 use Rattle.format.specs.Encoding.{inodeBytes, blockBytes}
 use Rattle.format_laws.specs.Crc.{Octets}
 use Rattle.format_laws.specs.Record.{kind-magic, inode-lawful, block-lawful}
@@ -19,7 +20,7 @@ use Rattle.volume.specs.Lists.{keep, has, only}
 use Rattle.volume.specs.View.{View, byBytes}
 use Rattle.volume.specs.Counting.{Volume, blockOf, blockIds}
 use Rattle.volume.specs.Contents.{owns, owned, lastBlock, chainBack, fileBlocks}
-use Rattle.volume_laws.specs.Tests.{eqb-differ}
+use Rattle.volume_laws.specs.Tests.{T→true, eqb-differ}
 use Rattle.volume_laws.specs.Lists.{keep-none}
 use Rattle.volume_laws.specs.Counting.{counting-mem}
 use Rattle.calls.specs.Image.{put}
@@ -29,8 +30,20 @@ use Rattle.calls.specs.Storing.{Store, spaces, firstFit, placeAll, storeAll}
 use Rattle.calls.specs.declared.Descriptor.{Descriptor}
 use Rattle.demand2.specs.Octet.{octets-put, octets-inode, octets-block}
 use Rattle.demand2.specs.Area.{Whole}
+use Rattle.demand2.specs.Found.{directory-low}
 use Rattle.demand2.specs.Store.{freePlace, RecordFits, FirstWithRoom}
 use Rattle.demand2.specs.Places.{files-distinct, first-fitted, bound, prepended}
+
+-- an inode other than the root may have a directory as parent, and a name of some bytes
+pub child-rule : (id d n : ℕ) → id < firstBlockId → id ≢ rootId → isDirectoryId d ≡ true → 1 ≤ n → inodeRule id d n ≡ true
+unfolding inodeRule isInodeId
+child-rule id d n low no-root dir some-bytes = rw (
+  T→true {b = ltb id firstBlockId} (lt→ltb id firstBlockId low),
+  eqb-differ id rootId no-root,
+  eqb-differ d NONE (λ e. omega (arith, directory-low d dir)),
+  dir,
+  T→true {b = ltb 0 n} (lt→ltb 0 n some-bytes),
+)
 
 pub record IsInode (b : Bytes) (id sequence parent : ℕ) (name : Bytes) : Type 0 where
   pub whole : Whole recordSize b

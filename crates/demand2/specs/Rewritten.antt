@@ -4,9 +4,10 @@ use mathlib.Core.Path.{_≡_, sym, ap, _∙_}
 use mathlib.Core.Logic.{_≢_, ⊎-elim}
 use mathlib.Core.Bool.{true}
 use mathlib.Core.Option.{some}
-use mathlib.Core.List.{List, [], _∷_, List·Memᴰ, Memᴰ·cast}
+use mathlib.Core.List.{List, List·Memᴰ, Memᴰ·cast}
 use native.Mathlib.Omega.{arith}
 use lib.ListN.{length}
+use lib.Dec.{eqb}
 use Rattle.format.specs.Bytes.{Bytes}
 use Rattle.format.specs.Ids.{firstBlockId}
 use Rattle.format.specs.Reading.{areaClean}
@@ -16,17 +17,23 @@ use Rattle.format_laws.specs.Encoding.{MeantInode}
 use Rattle.volume.specs.View.{byBytes}
 use Rattle.volume.specs.Counting.{Volume, inodeOf, inodeIds}
 use Rattle.volume.specs.Contents.{fileBlocks}
+use Rattle.volume_laws.specs.Tests.{eqb-false}
+use Rattle.volume_laws.specs.Once.{alike-length}
 use Rattle.volume_laws.specs.Counting.{counting-mem, counting-top, ids-of}
 use Rattle.calls.specs.Areas.{areaBytes, fileAreas}
 use Rattle.calls.specs.Mount.{acceptedRecords, volume, mountNumber}
-use Rattle.calls.specs.Storing.{Store}
-use Rattle.calls.specs.Rewrite.{lastSequence, sequenceOf, rewritten, rewritePlan, imageRewritten}
+use Rattle.calls.specs.Refusal.{firstRefusal}
+use Rattle.calls.specs.Storing.{Store, noPlace}
+use Rattle.calls.specs.Rewrite.{lastSequence, sequenceOf, rewritten, rewritePlan, rewriteChecks, imageRewritten}
 use Rattle.calls.specs.declared.Descriptor.{Descriptor}
 use Rattle.calls_laws.specs.Checks.{Passes, passes}
 use Rattle.calls_laws.specs.Records.{volume-sound}
 use Rattle.demand2.specs.Store.{OneStored, one-stored, same-file-areas, same-clean}
+use Rattle.demand2.specs.Places.{place-found}
 use Rattle.demand2.specs.Octet.{le32-fits, record-octets}
-use Rattle.demand2.specs.Added.{Same, Added, Changed, added-changed, known-ids, same-count, same-contents}
+use Rattle.demand2.specs.Found.{passed-check}
+use Rattle.demand2.specs.Added.{Same, Added, Changed, same-count, same-contents}
+use Rattle.demand2.specs.Newer.{Newer, newer-counts, same-ids}
 use Rattle.demand2.specs.Mounted.{agreed-inodes, agreed-blocks, inode-accepted, accepted-kind, few-ids, ids-few, inodes-added, blocks-same}
 use Rattle.demand2.specs.Mounted.{still-passes}
 use Rattle.demand2.specs.NewRecord.{IsInode, inode-made, WrittenOne, one-placed, octets-one}
@@ -45,6 +52,16 @@ pub record Rewrites (image : Bytes) (ds : List Descriptor) (i parent : ℕ) (nam
   pub good : nameGood name ≡ true
   pub name-octets : Octets name
 
+-- the checks of a rewrite that was not refused
+pub rewrite-checked : (image : Bytes) (ds : List Descriptor) (i parent : ℕ) (name : Bytes) → firstRefusal (rewriteChecks image ds i parent name) ≡ 0
+    → (sequenceOf (inodeOf byBytes (volume image ds) i) ≢ lastSequence) × (l : List Store) × (rewritePlan image ds i parent name ≡ some l)
+unfolding firstRefusal
+rewrite-checked image ds i parent name e =
+    let a = passed-check (eqb (sequenceOf (inodeOf byBytes (volume image ds) i)) lastSequence) 15 _ e in
+    let b = passed-check (noPlace (rewritePlan image ds i parent name)) 14 0 (a .1) in
+    let c = place-found (rewritePlan image ds i parent name) (b .0) in
+    (eqb-false _ lastSequence (a .0), c .0, c .1)
+
 -- What it leaves: image′ is the image afterwards.
 pub record AfterRewrite (image image′ : Bytes) (ds : List Descriptor) (i parent : ℕ) (name : Bytes) : Type 0 where
   pub passes : Passes image′ ds
@@ -53,10 +70,8 @@ pub record AfterRewrite (image image′ : Bytes) (ds : List Descriptor) (i paren
   -- the clean file area that it went to: no other byte is changed
   pub went : WrittenOne image image′ ds (rewritten (volume image ds) i parent name)
   pub stored : OneStored image image′ ds (went .area) (rewritten (volume image ds) i parent name)
-  -- the inode records are the old ones and this one, newer than every other of its id
-  pub added : Added byBytes (volume image ds .inodes) (volume image′ ds .inodes) (rewritten (volume image ds) i parent name)
-  -- its id is no new one
-  pub known : List·Memᴰ (recordId (rewritten (volume image ds) i parent name)) (inodeIds byBytes (volume image ds))
+  -- the inode records are the old ones and this one, newer than every other of its id, which is no new one
+  pub newer : Newer byBytes (volume image ds) (volume image′ ds) (rewritten (volume image ds) i parent name)
   -- it counts, and of every other inode the record that did
   pub here : inodeOf byBytes (volume image′ ds) i ≡ some (rewritten (volume image ds) i parent name)
   pub others : (j : ℕ) → j ≢ i → inodeOf byBytes (volume image′ ds) j ≡ inodeOf byBytes (volume image ds) j
@@ -149,24 +164,27 @@ module _ (image : Bytes) (ds : List Descriptor) (i parent : ℕ) (name : Bytes) 
   one-more : Added byBytes (v .inodes) (w .inodes) b
   one-more = inodes-added stored-one (went-one .fits .file) newer (made .no-block)
 
-  -- and the block records as they were
-  kept-blocks : Same (v .blocks) (w .blocks)
-  kept-blocks = blocks-same stored-one (went-one .fits .file) newer (made .no-block)
-
   -- the id was there
   id-known : List·Memᴰ (recordId b) (inodeIds byBytes v)
   id-known = Memᴰ·cast (made .id-is) (ids-of byBytes (v .inodes) .each i (g .record-before) (g .counted))
+
+  one-newer : Newer byBytes v w b
+  one-newer = record { agreed = agreed-inodes image ds p; added = one-more; known = id-known }
+
+  -- and the block records as they were
+  kept-blocks : Same (v .blocks) (w .blocks)
+  kept-blocks = blocks-same stored-one (went-one .fits .file) newer (made .no-block)
 
   -- so that the image still mounts
   still : Passes image′ ds
   still = still-passes stored-one (went-one .fits .file) newer p
       (few-ids w
-      (omega (arith, known-ids byBytes (v .inodes) (w .inodes) b one-more (agreed-inodes image ds p) id-known, ids-few v (p .few) .0))
+      (omega (arith, alike-length (inodeIds byBytes w) (inodeIds byBytes v) (same-ids byBytes v w b one-newer), ids-few v (p .few) .0))
       (omega (arith, same-count byBytes (v .blocks) (w .blocks) kept-blocks (agreed-blocks image ds p), ids-few v (p .few) .1)))
 
   -- what counts
   changed : Changed byBytes (inodeOf byBytes v) (inodeOf byBytes w) b
-  changed = added-changed byBytes (v .inodes) (w .inodes) b one-more (agreed-inodes image ds p)
+  changed = newer-counts byBytes v w b one-newer
 
   -- all of it
   after-rewrite : AfterRewrite image image′ ds i parent name
@@ -175,8 +193,7 @@ module _ (image : Bytes) (ds : List Descriptor) (i parent : ℕ) (name : Bytes) 
     is = made;
     went = went-one;
     stored = stored-one;
-    added = one-more;
-    known = id-known;
+    newer = one-newer;
     here = ap (inodeOf byBytes w) (sym (made .id-is)) ∙ changed .here;
     others = λ j n. changed .others j (λ e. n (e ∙ made .id-is));
     same-blocks = kept-blocks;

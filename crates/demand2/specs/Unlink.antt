@@ -2,12 +2,12 @@
 use Prim.Native.Nat.{ℕ, suc}
 use mathlib.Core.Path.{_≡_, refl, sym, ap, _∙_}
 use mathlib.Core.Logic.{_≢_, _⊎_, inl, inr, ⊎-elim}
-use mathlib.Core.Bool.{Bool, true, false, cond, not, _||_}
-use mathlib.Core.Option.{Option, some}
+use mathlib.Core.Bool.{Bool, true, false, not, _||_}
+use mathlib.Core.Option.{some}
 use mathlib.Core.List.{List, [], _∷_, _++_, List·Memᴰ, List·Memᴰ·head, Memᴰ·cast}
 use native.Mathlib.Omega.{arith}
 use lib.ListN.{length}
-use lib.Dec.{T, eqb, ltb, lt→ltb}
+use lib.Dec.{T, ltb, lt→ltb}
 use Rattle.format.specs.Bytes.{Bytes}
 use Rattle.format.specs.Ids.{NONE, firstBlockId, rootId, isInodeId}
 use Rattle.format.specs.Reading.{areaClean}
@@ -24,10 +24,9 @@ use Rattle.volume.specs.Tree.{Found, found, absent, isChild, children, lookupNa
 use Rattle.volume_laws.specs.Tests.{T→true, eqb-false, eqb-differ, not-is-false, or-is-false}
 use Rattle.volume_laws.specs.Climb.{live-some}
 use Rattle.volume_laws.specs.Tree.{lookup-append}
-use Rattle.calls.specs.Refusal.{firstRefusal}
 use Rattle.calls.specs.Areas.{areaBytes, fileAreas}
 use Rattle.calls.specs.Mount.{volume, mountNumber}
-use Rattle.calls.specs.Storing.{Store, spaces, placeAll, noPlace}
+use Rattle.calls.specs.Storing.{Store, spaces, placeAll}
 use Rattle.calls.specs.Create.{isRoot}
 use Rattle.calls.specs.Lookup.{resolve}
 use Rattle.calls.specs.Read.{refused, give, readGiven}
@@ -39,13 +38,12 @@ use Rattle.calls_laws.specs.Checks.{Passes, passes, mounts}
 use Rattle.calls_laws.specs.Records.{volume-sound}
 use Rattle.calls_laws.specs.Attempt.{attempt-goes}
 use Rattle.demand2.specs.Store.{OneStored}
-use Rattle.demand2.specs.Places.{place-found}
-use Rattle.demand2.specs.Mounted.{agreed-inodes}
-use Rattle.demand2.specs.Found.{passed-check, lookup-refused, root-there, found-lives, found-once}
-use Rattle.demand2.specs.Found.{resolved, resolve-alike, read-given, read-kept}
-use Rattle.demand2.specs.Deletion.{found-no-root, found-sole, InodeGone, inode-gone}
+use Rattle.demand2.specs.Found.{lookup-refused, root-there, found-lives, found-once}
+use Rattle.demand2.specs.Found.{resolved, resolve-good, resolve-found, resolve-alike, read-given, read-kept}
+use Rattle.demand2.specs.Lineage.{found-no-root, found-sole}
+use Rattle.demand2.specs.Deletion.{InodeGone, inode-gone}
 use Rattle.demand2.specs.NewRecord.{IsInode, WrittenOne}
-use Rattle.demand2.specs.Rewritten.{Rewrites, AfterRewrite, inode-low, rewrite}
+use Rattle.demand2.specs.Rewritten.{Rewrites, rewrite-checked, AfterRewrite, inode-low, rewrite}
 
 -- what an accepted unlink found
 pub record UnlinkGoes (image : Bytes) (ds : List Descriptor) (base path : Bytes) : Type 0 where
@@ -66,24 +64,13 @@ module _ (image : Bytes) (ds : List Descriptor) (base path : Bytes) where
   abbrev names : List Bytes
   names = pathNames base path
 
-  abbrev placing : ℕ → Option (List Store)
-  placing i = placeAll (spaces image (fileAreas image ds)) (deletion before i ∷ [])
-
-  -- the checks of `unlinkOne`
-  checked : (i : ℕ) → unlinkOne image ds i ≡ 0 → (sequenceOf (inodeOf byBytes before i) ≢ lastSequence) × ((l : List Store) × (placing i ≡ some l))
-  unfolding unlinkOne rewriteNumber rewritePlan deletion firstRefusal
-  checked i e =
-      let a = passed-check (eqb (sequenceOf (inodeOf byBytes before i)) lastSequence) 15 _ e in
-      let b = passed-check (noPlace (placing i)) 14 0 (a .1) in
-      (eqb-false _ lastSequence (a .0), place-found (placing i) (b .0))
-
   pub unlink-goes : unlinkOf image ds base path ≡ 0 → UnlinkGoes image ds base path
-  unfolding unlinkOf unlinking
+  unfolding unlinkOf unlinking unlinkOne rewriteNumber rewritePlan deletion
   unlink-goes e =
       let w = attempt-goes (mountNumber image ds) (unlinkOne image ds) (not (goodPath base path) || isRoot names)
       (lookupNames byBytes before names) (lookup-refused byBytes before names) e in
       let o = or-is-false (not (goodPath base path)) (isRoot names) (w .good) in
-      let c = checked (w .inode) (w .checked) in
+      let c = rewrite-checked image ds (w .inode) NONE [] (w .checked) in
       record {
         mounted = w .mounted;
         good = not-is-false (goodPath base path) (o .0);
@@ -91,8 +78,8 @@ module _ (image : Bytes) (ds : List Descriptor) (base path : Bytes) where
         inode = w .inode;
         found-there = w .found-there;
         not-last = c .0;
-        stores = c .1 .0;
-        placed = c .1 .1;
+        stores = c .1;
+        placed = c .2;
         goes = w .goes-on;
       }
 
@@ -218,7 +205,7 @@ module _ (image : Bytes) (ds : List Descriptor) (base path : Bytes) (octets-imag
   lived = ap (fateOf byBytes v) id-is ∙ lives
 
   now : InodeGone byBytes v w b
-  now = inode-gone byBytes v w b (done .added) (agreed-inodes image ds p) (volume-sound image ds) not-root (done .is .parent-is) lived (done .known)
+  now = inode-gone byBytes v w b (done .newer) (volume-sound image ds) not-root (done .is .parent-is) lived
 
   outside : (j : ℕ) → ¬ List·Memᴰ i (lineage byBytes v j) → fateOf byBytes w j ≡ fateOf byBytes v j
   outside j n = now .outside j (other j n)
@@ -226,16 +213,8 @@ module _ (image : Bytes) (ds : List Descriptor) (base path : Bytes) (octets-imag
   below : (j : ℕ) → List·Memᴰ i (lineage byBytes v j) → fateOf byBytes w j ≡ dead
   below j m = now .below j (own j m)
 
-  found-names : (c q : Bytes) (j : ℕ) → resolve image ds c q ≡ found j → (goodPath c q ≡ true) × (lookupNames byBytes v (pathNames c q) ≡ found j)
-  found-names c q j e = go (goodPath c q) refl (sym (resolved image ds c q (g .mounted)) ∙ e)
-    where
-      go : (t : Bool) → goodPath c q ≡ t → cond t (lookupNames byBytes v (pathNames c q)) (absent 8) ≡ found j
-          → (goodPath c q ≡ true) × (lookupNames byBytes v (pathNames c q) ≡ found j)
-      go true r z = (r, z)
-      go false r z = let y : _≡_ {A = ℕ} 0 1 = cc in absurd (omega arith)
-
   answers : (c q : Bytes) (o : Found) → goodPath c q ≡ true → lookupNames byBytes w (pathNames c q) ≡ o → resolve image′ ds c q ≡ o
-  answers c q o r z = resolved image′ ds c q still ∙ rw r z
+  answers c q o r z = resolve-good image′ ds c q still r ∙ z
 
   gone : lookupNames byBytes w (pathNames base path) ≡ absent 9
   unfolding lineage
@@ -247,16 +226,16 @@ module _ (image : Bytes) (ds : List Descriptor) (base path : Bytes) (octets-imag
   after-unlink = record {
     mounts = still;
     inode = i;
-    found-at-path = resolved image ds base path (g .mounted) ∙ rw (g .good) (g .found-there);
+    found-at-path = resolve-good image ds base path (g .mounted) (g .good) ∙ g .found-there;
     path-lost = λ c q ns r e. answers c q (absent 9) r (ap (lookupNames byBytes w) e ∙ lookup-append byBytes w (pathNames base path) ns ∙ rw gone);
     elsewhere = same-elsewhere;
     bad-paths = λ c q r. resolved image′ ds c q still ∙ rw r;
     dies = below;
-    lost = λ c q j e m. let f = found-names c q j e in
+    lost = λ c q j e m. let f = resolve-found image ds c q j (g .mounted) e in
         answers c q (absent 9) (f .0) (now .lost (pathNames c q) j (f .1)
         (own j m));
     unread = λ j m position room. read-given image′ ds still j position room ∙ rw (give, below j m);
-    paths = λ c q j e n. let f = found-names c q j e in
+    paths = λ c q j e n. let f = resolve-found image ds c q j (g .mounted) e in
         answers c q (found j) (f .0) (now .stays (pathNames c q) j (f .1)
         (other j n));
     reads = λ j n. read-kept image image′ ds (g .mounted) still j (outside j n) (done .contents j);
@@ -294,7 +273,7 @@ module _ (image : Bytes) (ds : List Descriptor) (base path : Bytes) (octets-imag
         where
           go : (t : Bool) → goodPath c q ≡ t → (resolve image′ ds c q ≡ resolve image ds c q) ⊎ (resolve image′ ds c q ≡ absent 9)
           go true r = ⊎-elim
-              (λ z. inl (answers c q (lookupNames byBytes v (pathNames c q)) r z ∙ sym (resolved image ds c q (g .mounted) ∙ rw r)))
+              (λ z. inl (answers c q (lookupNames byBytes v (pathNames c q)) r z ∙ sym (resolve-good image ds c q (g .mounted) r)))
               (λ z. inr (answers c q (absent 9) r z))
               (now .either alone (pathNames c q))
           go false r = inl (resolved image′ ds c q still ∙ rw r (sym (resolved image ds c q (g .mounted) ∙ rw r)))

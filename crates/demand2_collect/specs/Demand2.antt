@@ -17,6 +17,7 @@ use Rattle.calls.specs.Format.{formatNumber, imageFormatted}
 use Rattle.calls.specs.Create.{createOf, imageCreated}
 use Rattle.calls.specs.Append.{appendOf, imageAppended}
 use Rattle.calls.specs.Unlink.{unlinkOf, imageUnlinked}
+use Rattle.calls.specs.Rename.{renameOf, imageRenamed}
 use Rattle.calls.specs.Collect.{collectOf, imageCollected}
 use Rattle.calls.specs.declared.Descriptor.{Descriptor}
 use Rattle.calls_laws.specs.Checks.{passes}
@@ -25,6 +26,7 @@ use Rattle.demand2.specs.Format.{AfterFormat, format}
 use Rattle.demand2.specs.Create.{AfterCreate, create}
 use Rattle.demand2.specs.Append.{AfterAppend, append, append-nothing}
 use Rattle.demand2.specs.Unlink.{AfterUnlink, unlink}
+use Rattle.demand2_rename.specs.Rename.{AfterRename, rename}
 use Rattle.demand2.specs.Refused.{RefusedCalls, refused-calls}
 use Rattle.demand2_collect.specs.Collect.{AfterCollect, collect}
 
@@ -72,6 +74,9 @@ pub record Demand2 (image : Bytes) (ds : List Descriptor) : Type 0 where
   pub appends-nothing : (base path : Bytes) → imageAppended image ds base path [] ≡ image
   pub unlinks : (base path : Bytes) → Octets image → unlinkOf image ds base path ≡ 0
       → AfterUnlink image (imageUnlinked image ds base path) ds base path
+  -- document 02, T-01: "Everything that isn't the moved object or below it keeps its path and contents. The moved file keeps its contents."
+  pub renames : (base old new : Bytes) → Octets image → Octets base → Octets new → renameOf image ds base old new ≡ 0
+      → AfterRename image (imageRenamed image ds base old new) ds base old new
   pub collects : collectOf image ds ≡ 0 → AfterCollect image (imageCollected image ds) ds
   -- and of each refused one
   pub refused : RefusedCalls image ds
@@ -85,6 +90,7 @@ demand2 image ds = record {
   appends = append image ds;
   appends-nothing = append-nothing image ds;
   unlinks = unlink image ds;
+  renames = rename image ds;
   collects = collect image ds;
   refused = refused-calls image ds;
 }

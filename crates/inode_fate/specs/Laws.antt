@@ -1,7 +1,7 @@
 -- The laws of fates by a table: one step up a chain of parents, the live ids, and the volume whose inodes the rows are.
 use Prim.Native.Nat.{ℕ, suc, _+_, _-_, _≤_, _<_}
-use mathlib.Core.Path.{_≡_, sym, ap, _∙_}
-use mathlib.Core.Logic.{_≢_}
+use mathlib.Core.Path.{_≡_, refl, sym, ap, _∙_}
+use mathlib.Core.Logic.{_⊎_, inl, inr, _≢_}
 use mathlib.Core.Bool.{Bool, true, false}
 use mathlib.Core.Option.{Option, none, some}
 use mathlib.Core.List.{List}
@@ -12,43 +12,64 @@ use Rattle.format.specs.Ids.{NONE, rootId}
 use Rattle.volume.specs.Lists.{keep}
 use Rattle.volume.specs.View.{View}
 use Rattle.volume.specs.Counting.{Volume, inodeOf, inodeIds}
-use Rattle.volume.specs.Fate.{live, dead, orphan, isLive, ascend, climb, fateWithin, fateOf, liveIds}
+use Rattle.volume.specs.Fate.{Fate, live, dead, orphan, isLive, ascend, climb, fateWithin, fateOf, liveIds}
 use Rattle.volume_laws.specs.Lists.{keep-cong}
 use Rattle.volume_laws.specs.Steps.{front-step, front-end}
-use Rattle.volume_laws.specs.Climb.{fate-stop, fate-on, climb-same}
+use Rattle.volume_laws.specs.Climb.{climb-stop, climb-on, climb-same}
 use Rattle.table_rows.specs.Table.{found, Rows}
 use Rattle.table_rows.specs.Laws.{rows-number}
-use Rattle.inode_fate.specs.Fates.{fateBy, liveBy, liveRows}
+use Rattle.inode_fate.specs.Fates.{parentUp, fateBy, liveBy, liveRows}
 
 -- ---- one step up
 
-module _ (F : View ℕ) (c : ℕ → Option ℕ) (k i : ℕ) where
-  -- no inodes are left to look at: the chain loops
-  pub up-ends : k ≤ 0 → fateWithin F c k i ≡ orphan
-  unfolding climb
-  up-ends h = let z : k ≡ 0 = omega arith in rw z
-
-  suc-less : 0 < k → k ≡ suc (k - 1)
-  suc-less h = omega arith
-
-  pub up-missing : 0 < k → c i ≡ none → fateWithin F c k i ≡ orphan
+module _ (F : View ℕ) (o : Option ℕ) where
+  pub step-missing : o ≡ none → inl orphan ≡ parentUp F (ascend F o)
   unfolding ascend
-  up-missing h e = rw (suc-less h) (fate-stop F c (k - 1) i orphan (rw e))
+  step-missing e = rw e
 
-  module _ (r : ℕ) (there : c i ≡ some r) where
-    pub up-root : 0 < k → F .id r ≡ rootId → fateWithin F c k i ≡ live
+  module _ (r : ℕ) (there : o ≡ some r) where
+    pub step-root : F .id r ≡ rootId → inl live ≡ parentUp F (ascend F o)
     unfolding ascend
-    up-root h e = rw (suc-less h) (fate-stop F c (k - 1) i live (rw (there, eq-eqb (F .id r) rootId e)))
+    step-root e = rw (there, eq-eqb (F .id r) rootId e)
 
-    pub up-deleted : 0 < k → F .id r ≢ rootId → F .parent r ≡ NONE → fateWithin F c k i ≡ dead
+    pub step-deleted : F .id r ≢ rootId → F .parent r ≡ NONE → inl dead ≡ parentUp F (ascend F o)
     unfolding ascend
-    up-deleted h n e = rw (suc-less h) (fate-stop F c (k - 1) i dead (rw (there, ne-eqb (F .id r) rootId n, eq-eqb (F .parent r) NONE e)))
+    step-deleted n e = rw (there, ne-eqb (F .id r) rootId n, eq-eqb (F .parent r) NONE e)
 
-    pub up-on : 0 < k → F .id r ≢ rootId → F .parent r ≢ NONE → fateWithin F c k i ≡ fateWithin F c (k - 1) (F .parent r)
+    pub step-above : F .id r ≢ rootId → F .parent r ≢ NONE → inr (F .parent r) ≡ parentUp F (ascend F o)
     unfolding ascend
-    up-on h n e =
-        ap (λ (j : ℕ). fateWithin F c j i) (suc-less h)
-        ∙ fate-on F c (k - 1) i r (rw (there, ne-eqb (F .id r) rootId n, ne-eqb (F .parent r) NONE e))
+    step-above n e = rw (there, ne-eqb (F .id r) rootId n, ne-eqb (F .parent r) NONE e)
+
+-- ---- what is gathered along the chain, a step at a time: k inodes are left to look at
+
+module _ {X : Type 0} (F : View ℕ) (stop : Fate → X) (on : ℕ → X → X) (c : ℕ → Option ℕ) (k i : ℕ) where
+  -- none is left: the chain loops
+  pub up-loops : k ≤ 0 → climb F stop on c k i ≡ stop orphan
+  unfolding climb
+  up-loops h = let z : k ≡ 0 = omega arith in rw z
+
+  module _ (h : 0 < k) where
+    suc-less : k ≡ suc (k - 1)
+    suc-less = omega arith
+
+    -- it ends
+    pub up-ends : (f : Fate) → inl f ≡ parentUp F (ascend F (c i)) → climb F stop on c k i ≡ stop f
+    up-ends f e = go (ascend F (c i)) refl e
+      where
+        go : (x : Fate ⊎ ℕ) → ascend F (c i) ≡ x → inl f ≡ parentUp F x → climb F stop on c k i ≡ stop f
+        go (inl g) q e = let z : f ≡ g = cc in rw suc-less (climb-stop F stop on c (k - 1) i f (q ∙ ap inl (sym z)))
+        go (inr r) q e = let z : _≡_ {A = ℕ} 0 1 = cc in absurd (omega arith)
+
+    -- it goes on above the record of i, with its parent p
+    pub up-on : (p : ℕ) → inr p ≡ parentUp F (ascend F (c i))
+        → (r : ℕ) × (F .parent r ≡ p) × (climb F stop on c k i ≡ on r (climb F stop on c (k - 1) p))
+    up-on p e = go (ascend F (c i)) refl e
+      where
+        go : (x : Fate ⊎ ℕ) → ascend F (c i) ≡ x → inr p ≡ parentUp F x
+            → (r : ℕ) × (F .parent r ≡ p) × (climb F stop on c k i ≡ on r (climb F stop on c (k - 1) p))
+        go (inl g) q e = let z : _≡_ {A = ℕ} 0 1 = cc in absurd (omega arith)
+        go (inr r) q e = let z : F .parent r ≡ p = cc in
+            (r, z, ap (λ j. climb F stop on c j i) suc-less ∙ climb-on F stop on c (k - 1) i r q ∙ ap (λ j. on r (climb F stop on c (k - 1) j)) z)
 
 -- ---- the live among the first n ids, an id at a time
 

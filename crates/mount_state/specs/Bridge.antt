@@ -8,8 +8,9 @@ use lib.Seq.{getD-take}
 use Rattle.format.specs.Bytes.{Bytes}
 use Rattle.volume.specs.View.{byBytes}
 use Rattle.volume.specs.Counting.{inodeOf, inodeIds, volumeOf}
+use Rattle.volume.specs.Fate.{lineage}
 use Rattle.volume.specs.Tree.{children, lookupNames}
-use Rattle.volume_laws.specs.Map.{over, overVolume, lookupNames-map, children-map, inodeOf-map, inodeIds-map}
+use Rattle.volume_laws.specs.Map.{over, overVolume, lookupNames-map, children-map, inodeOf-map, inodeIds-map, lineage-map}
 use Rattle.record_places.specs.Place.{byPlace, bytesAt, AllLie}
 use Rattle.record_places.specs.Laws.{place-views}
 use Rattle.calls.specs.Areas.{mostAreas, fileAreas}
@@ -36,6 +37,9 @@ module _ (image : Bytes) (ds : List Descriptor) where
 
   pub inode-is : (i : ℕ) → inodeOf byBytes (volume image ds) i ≡ over (bytesAt image) (inodeOf (byPlace image) (placedVolume image ds) i)
   inode-is i = rw (volume-places image ds) (inodeOf-map (byPlace image) byBytes (bytesAt image) (place-views image) (placedVolume image ds) i)
+
+  pub lineage-is : (i : ℕ) → lineage (byPlace image) (placedVolume image ds) i ≡ lineage byBytes (volume image ds) i
+  lineage-is i = sym (rw (volume-places image ds) (lineage-map (byPlace image) byBytes (bytesAt image) (place-views image) (placedVolume image ds) i))
 
   pub ids-are : inodeIds (byPlace image) (placedVolume image ds) ≡ inodeIds byBytes (volume image ds)
   ids-are = sym (rw (volume-places image ds) (inodeIds-map (byPlace image) byBytes (bytesAt image) (place-views image) (placedVolume image ds)))

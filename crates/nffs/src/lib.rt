@@ -10,6 +10,7 @@ ghost use Rattle.calls.specs.Read.{readGiven, readAnswer, bufferAfter, handleAf
 ghost use Rattle.calls.specs.Create.{createOf, imageCreated};
 ghost use Rattle.calls.specs.Append.{appendOf, imageAppended};
 ghost use Rattle.calls.specs.Unlink.{unlinkOf, imageUnlinked};
+ghost use Rattle.calls.specs.Rename.{renameOf, imageRenamed};
 ghost use Rattle.calls.specs.Collect.{collectOf, imageCollected};
 ghost use Rattle.calls.specs.Areas.{listed};
 use area_structs::areas_of;
@@ -22,6 +23,7 @@ use call_entries::lookup_of;
 use call_entries::open_of;
 use call_entries::read_at_of;
 use call_entries::read_of;
+use call_entries::rename_of;
 use call_entries::report_of;
 use call_entries::unlink_of;
 use calls::AreaReport;
@@ -163,6 +165,21 @@ pub extern "C" fn nffs_unlink<'a>(
     ensures image { λ _. ⌜ now (image .exit) ≡ imageUnlinked (now (image .entry)) (listed (now (areas .entry))) (now (base .entry)) (now (path .entry)) ⌝ }
 {
     unlink_of(image, areas_of(areas), base, path)
+}
+
+// Renames what the old path leads to, and with a directory all below it: the number of refusal, or 0. A refused rename changes no byte.
+#[no_mangle]
+pub extern "C" fn nffs_rename<'a>(
+    image: &mut [u8],
+    areas: &[Descriptor],
+    base: &'a [u8],
+    old: &'a [u8],
+    new: &'a [u8],
+) -> u32
+    ensures number { λ r. ⌜ r ≡ renameOf (now (image .entry)) (listed (now (areas .entry))) (now (base .entry)) (now (old .entry)) (now (new .entry)) ⌝ }
+    ensures image { λ _. ⌜ now (image .exit) ≡ imageRenamed (now (image .entry)) (listed (now (areas .entry))) (now (base .entry)) (now (old .entry)) (now (new .entry)) ⌝ }
+{
+    rename_of(image, areas_of(areas), base, old, new)
 }
 
 // Moves what counts of one file area to the scratch area, and makes that file area the scratch area: the number of refusal, or 0.

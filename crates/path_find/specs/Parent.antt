@@ -1,24 +1,24 @@
 -- The last name of a path and those before it, a name at a time. Document 01, "create walks all but the last name".
 use Prim.Native.Nat.{ℕ, _<_}
 use mathlib.Core.Path.{_≡_, refl, sym, ap, _∙_}
-use mathlib.Core.Bool.{Bool, true, false, cond, not, _||_}
+use mathlib.Core.Bool.{Bool, true, false, cond}
 use mathlib.Core.List.{List, [], _∷_}
 use native.Mathlib.Omega.{arith}
 use lib.ListN.{length}
-use borrow.Author.Tests.{eq-eqb, ne-eqb}
 use Rattle.format.specs.Bytes.{Bytes}
 use Rattle.volume.specs.View.{View}
 use Rattle.volume.specs.Counting.{Volume}
 use Rattle.volume.specs.Path.{goodPath, pathNames}
 use Rattle.volume.specs.Tree.{Found, found, absent, walk, lookupNames}
 use Rattle.path_names.specs.Names.{namesFrom, anyNames, oneName, firstName, restNames, Reached, Started, Named, Stepped}
-use Rattle.path_names.specs.Walking.{names-none, names-some, still}
+use Rattle.path_names.specs.Walking.{still}
 use Rattle.path_names.specs.declared.Walk.{Walk}
-use Rattle.calls.specs.Create.{lastName, namesBefore, isRoot}
+use Rattle.calls.specs.Create.{lastName, namesBefore}
 use Rattle.path_walk.specs.Resolved.{stepOf}
 use Rattle.path_walk.specs.Laws.{walk-fails, walk-goes-on}
 use Rattle.path_walk.specs.declared.Resolved.{Resolved}
 use Rattle.path_walk.specs.declared.Resolved.the-variants.{Inode, Absent}
+use Rattle.path_find.specs.Below.{notBelow}
 
 -- a name that a record may bear
 abbrev pub ShortName : Bytes → Type 0
@@ -100,10 +100,9 @@ module _ (F : View ℕ) (v : Volume ℕ) (base path : Bytes) (w : Walk) where
 
 -- ---- where the last name is to stand
 
--- "creating or unlinking the root" is 8; then the walk
+-- 8, and then the walk
 abbrev pub parentOf : {A : Type 0} → View A → Volume A → Bytes → Bytes → Found
-parentOf F v base path =
-    cond (not (goodPath base path) || isRoot (pathNames base path)) (absent 8) (lookupNames F v (namesBefore (pathNames base path)))
+parentOf F v base path = cond (notBelow base path) (absent 8) (lookupNames F v (namesBefore (pathNames base path)))
 
 -- something was found only for a good path that has a last name
 abbrev pub Below : Bytes → Bytes → Resolved → Type 0
@@ -117,19 +116,3 @@ below-any base path (Absent n) g a = tt
 pub below-found : (base path : Bytes) (r : Resolved) → Below base path r → (i : ℕ) (d : Bool) → r ≡ Inode i d
     → (goodPath base path ≡ true) × (anyNames (pathNames base path) ≡ true)
 below-found base path r b i d e = rw e at b
-
-module _ {A : Type 0} (F : View A) (v : Volume A) (base path : Bytes) where
-  pub parent-bad : goodPath base path ≡ false → absent 8 ≡ parentOf F v base path
-  parent-bad e = rw e
-
-  module _ (e : goodPath base path ≡ true) (ns : List Bytes) (q : ns ≡ pathNames base path) where
-    pub parent-root : anyNames ns ≡ false → absent 8 ≡ parentOf F v base path
-    parent-root a =
-        let z : isRoot (pathNames base path) ≡ true = eq-eqb (length (pathNames base path)) 0 (ap length (sym q ∙ names-none ns a)) in
-        rw (e, z)
-
-    pub parent-some : anyNames ns ≡ true → lookupNames F v (namesBefore (pathNames base path)) ≡ parentOf F v base path
-    parent-some a =
-        let z : isRoot (pathNames base path) ≡ false =
-        ne-eqb (length (pathNames base path)) 0 (λ h. absurd (omega (arith, h, ap length (sym q ∙ names-some ns a)))) in
-        rw (e, z)

@@ -1,12 +1,11 @@
 -- What a path leads to, and the sequence of an inode, by the tables of a mounted volume. Document 01, refusals 8 to 11.
-use Prim.Native.Nat.{ℕ, _+_, _-_}
+use Prim.Native.Nat.{ℕ}
 use mathlib.Core.Path.{_≡_, sym, ap, _∙_}
-use mathlib.Core.Bool.{Bool, true, false, cond, not, _||_}
+use mathlib.Core.Bool.{true, false, cond}
 use mathlib.Core.Option.{Option, none, some}
 use mathlib.Core.List.{List}
-use native.Mathlib.Omega.{arith}
-use lib.ListN.{length, take, drop}
-use borrow.Author.Tests.{eq-eqb, ne-eqb}
+use lib.ListN.{length}
+use borrow.Author.Tests.{eq-eqb}
 use Rattle.format.specs.Bytes.{Bytes}
 use Rattle.volume.specs.View.{View, byBytes}
 use Rattle.volume.specs.Counting.{Volume, inodeOf}
@@ -17,11 +16,8 @@ use Rattle.record_places.specs.Laws.{place-views}
 use Rattle.table_rows.specs.Table.{found, spotOf}
 use Rattle.table_rows.specs.declared.Spot.{Spot}
 use Rattle.table_rows.specs.declared.Spot.the-variants.{At, Nowhere}
-use Rattle.path_names.specs.Names.{anyNames}
-use Rattle.path_names.specs.Walking.{names-none, names-some}
 use Rattle.calls.specs.Mount.{volume, mountNumber}
 use Rattle.calls.specs.Lookup.{resolve}
-use Rattle.calls.specs.Create.{isRoot}
 use Rattle.calls.specs.Rewrite.{sequenceOf}
 use Rattle.calls.specs.declared.Descriptor.{Descriptor}
 use Rattle.area_pass.specs.Bridge.{placedVolume}
@@ -29,25 +25,11 @@ use Rattle.table_rows.specs.Rows.{InodeTable, RowsOf, found-in}
 use Rattle.mount_state.specs.State.{Holds}
 use Rattle.mount_state.specs.Bridge.{inode-is}
 use Rattle.mount_state.specs.declared.Mounted.{Mounted}
+use Rattle.path_find.specs.Below.{notBelow}
 
--- what a path leads to that is not the root; "creating or unlinking the root" is 8
+-- what a path leads to that is not the root
 abbrev pub belowRoot : {A : Type 0} → View A → Volume A → Bytes → Bytes → Found
-belowRoot F v base path = cond (not (goodPath base path) || isRoot (pathNames base path)) (absent 8) (lookupNames F v (pathNames base path))
-
-module _ {A : Type 0} (F : View A) (v : Volume A) (base path : Bytes) where
-  pub below-bad : goodPath base path ≡ false → absent 8 ≡ belowRoot F v base path
-  below-bad e = rw e
-
-  module _ (e : goodPath base path ≡ true) (ns : List Bytes) (q : ns ≡ pathNames base path) where
-    pub below-root : anyNames ns ≡ false → absent 8 ≡ belowRoot F v base path
-    below-root a =
-        let z : isRoot (pathNames base path) ≡ true = eq-eqb (length (pathNames base path)) 0 (ap length (sym q ∙ names-none ns a)) in
-        rw (e, z)
-
-    pub below-some : anyNames ns ≡ true → lookupNames F v (pathNames base path) ≡ belowRoot F v base path
-    below-some a =
-        let z : isRoot (pathNames base path) ≡ false = ne-eqb (length (pathNames base path)) 0 (λ h. absurd (omega (arith, h, ap length (sym q ∙ names-some ns a)))) in
-        rw (e, z)
+belowRoot F v base path = cond (notBelow base path) (absent 8) (lookupNames F v (pathNames base path))
 
 -- ---- what a path leads to
 

@@ -1,7 +1,7 @@
 // What lookup, open and the writes of a mounted volume ask first: what a path leads to, the parent and the last name of a path, the sequence of an inode.
 ghost use mathlib.Core.Path.{_≡_};
 ghost use mathlib.Core.List.{List};
-ghost use mathlib.Core.Bool.{true};
+ghost use mathlib.Core.Bool.{true, not};
 ghost use Prim.Native.Nat.{ℕ};
 ghost use Rattle.volume.specs.View.{byBytes};
 ghost use Rattle.volume.specs.Counting.{Volume, inodeOf};
@@ -18,6 +18,7 @@ ghost use Rattle.path_names.specs.Names.{anyNames};
 ghost use Rattle.table_rows.specs.Rows.{InodeTable};
 ghost use Rattle.path_walk.specs.Resolved.{InodesOf, onlyOf, meaning, Kinded};
 ghost use Rattle.mount_state.specs.State.{Safe, Holds};
+ghost use Rattle.path_find.specs.Below.{notBelow};
 ghost use Rattle.path_find.specs.Tree.{belowRoot};
 ghost use Rattle.path_find.specs.Parent.{ShortName, parentOf, Below};
 ghost use Rattle.path_find.specs.NewName.{anyOf};
@@ -80,6 +81,17 @@ pub fn find_path<'a>(
     walk(image, tables, m, base, path)
 }
 
+// Whether a path is good and names something below the root.
+pub fn is_below_root<'a>(base: &'a [u8], path: &'a [u8]) -> bool
+    ensures { λ r. ⌜ r ≡ not (notBelow (now (base .entry)) (now (path .entry))) ⌝ }
+{
+    if good_path(base, path) {} else {
+        return false;
+    }
+    let w = start(base, path);
+    has_name(base, path, w)
+}
+
 // What a path leads to that is not the root.
 pub fn find_below<'a>(
     image: &[u8],
@@ -91,11 +103,7 @@ pub fn find_below<'a>(
     requires { ⌜ Safe (now image) m (now tables) ⌝ }
     ensures { λ r. ⌜ ((ds : List Descriptor) → Holds (now (image .entry)) ds m (now (tables .entry)) → meaning r ≡ belowRoot byBytes (volume (now (image .entry)) ds) (now (base .entry)) (now (path .entry))) ⌝ }
 {
-    if good_path(base, path) {} else {
-        return Resolved::Absent(BAD_PATH);
-    }
-    let w = start(base, path);
-    if has_name(base, path, w) {} else {
+    if is_below_root(base, path) {} else {
         return Resolved::Absent(BAD_PATH);
     }
     walk(image, tables, m, base, path)
@@ -176,11 +184,7 @@ pub fn find_parent<'a>(
     ensures means { λ r. ⌜ ((ds : List Descriptor) → Holds (now (image .entry)) ds m (now (tables .entry)) → meaning r ≡ parentOf byBytes (volume (now (image .entry)) ds) (now (base .entry)) (now (path .entry))) ⌝ }
     ensures good { λ r. ⌜ Below (now (base .entry)) (now (path .entry)) r ⌝ }
 {
-    if good_path(base, path) {} else {
-        return Resolved::Absent(BAD_PATH);
-    }
-    let w = start(base, path);
-    if has_name(base, path, w) {} else {
+    if is_below_root(base, path) {} else {
         return Resolved::Absent(BAD_PATH);
     }
     let ids_end = INODE_IDS + m.inodes;

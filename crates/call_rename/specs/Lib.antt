@@ -1,0 +1,2 @@
+-- Rename by the tables of a mounted volume.
+pub mod Renaming

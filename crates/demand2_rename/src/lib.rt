@@ -1,0 +1,1 @@
+// Theorems only, in specs/: what rename makes of a file system.
