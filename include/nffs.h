@@ -38,7 +38,7 @@
 #include <string.h>
 
 /* Of the calls and their declarations here. */
-#define NFFS_VERSION "0.5.1"
+#define NFFS_VERSION "0.6.0"
 
 /* An answer that nobody looks at may be a refusal. */
 #if defined(__cplusplus) && __cplusplus >= 201703L
@@ -74,16 +74,17 @@ enum {
     NFFS_TOO_MANY_IDS = 5,        /* more than 256 inode ids or 1,024 block ids */
     NFFS_CONFLICT = 6,            /* two records of one id, same sequence, different bytes */
     NFFS_NO_ROOT = 7,             /* no record of the root */
-    NFFS_BAD_PATH = 8,            /* bad path or name; over 8,192 bytes to append; creating or unlinking the root */
+    NFFS_BAD_PATH = 8,            /* bad path or name; over 8,192 bytes to append; creating or unlinking the root, or renaming to it */
     NFFS_NOT_FOUND = 9,           /* no such child, or a handle's id is not live */
     NFFS_AMBIGUOUS = 10,          /* two or more live children of that name */
     NFFS_WRONG_KIND = 11,         /* a file where a directory is needed, or the reverse */
-    NFFS_EXISTS = 12,             /* create: the name is there */
+    NFFS_EXISTS = 12,             /* create, rename: the name is there */
     NFFS_BROKEN = 13,             /* read or append of a broken file */
     NFFS_PAST_END = 14,           /* read begins after the end */
     NFFS_NO_ROOM = 15,            /* a record fits in no clean file area */
-    NFFS_LAST_SEQUENCE = 16,      /* unlink: the sequence is at its greatest */
-    NFFS_NO_SOURCE = 17           /* collect: no file area is as long as the scratch area */
+    NFFS_LAST_SEQUENCE = 16,      /* unlink, rename: the sequence is at its greatest */
+    NFFS_NO_SOURCE = 17,          /* collect: no file area is as long as the scratch area */
+    NFFS_INTO_ITSELF = 18         /* rename: the root, or a directory moved below itself */
 };
 
 /* What nffs_lookup finds and nffs_create is told. To nffs_create every number but 0 is a file. */
@@ -209,6 +210,17 @@ NFFS_ANSWERS uint32_t nffs_append(uint8_t *image, size_t image_length, const nff
 NFFS_ANSWERS uint32_t nffs_unlink(uint8_t *image, size_t image_length, const nffs_area *areas, size_t areas_count,
                      const uint8_t *base, size_t base_length, const uint8_t *path, size_t path_length);
 
+/* Gives a file or a directory another name, another directory, or both; one base serves both paths. Its inode is written anew with the same
+   id, so that a file keeps its contents, handles to it stay right, and what lies below a directory goes with it. What has the new name already
+   is not replaced: 12. Where the new record is damaged, or comes back stale, the one before it counts: the old name is back, or answers 10
+   where something else has it by now; or nothing leads there any more, as where that record was collected: 9 (docs/LINKING.md, "Swap a
+   table"). Checks in order: 1 to 7, 8 of either path and for a new path "/", then 9, 10 or 11 at the first step of the old path that
+   fails, then the same at the first step of the new path before its last name that fails, 11 where that name is asked for below a file,
+   12, 18, 16, 15. */
+NFFS_ANSWERS uint32_t nffs_rename(uint8_t *image, size_t image_length, const nffs_area *areas, size_t areas_count,
+                     const uint8_t *base, size_t base_length, const uint8_t *old_path, size_t old_length,
+                     const uint8_t *new_path, size_t new_length);
+
 /* Copies what counts in one file area into scratch and erases that area, which becomes scratch: superseded records leave room, deleted
    ones as soon as nothing else names them, and the damage of that area goes. One call collects one area: of the file areas as long as
    scratch the first that none of them precedes, by the counts in their headers, where 255 precedes 0; if there is none, the first
@@ -241,7 +253,7 @@ static inline const char *nffs_meaning(uint32_t number) {
     case NFFS_TOO_MANY_IDS: return "more than 256 inode ids or 1,024 block ids";
     case NFFS_CONFLICT: return "two records of one id, same sequence, different bytes";
     case NFFS_NO_ROOT: return "no record of the root";
-    case NFFS_BAD_PATH: return "bad path or name, too much to append, or creating or unlinking the root";
+    case NFFS_BAD_PATH: return "bad path or name, too much to append, or creating or unlinking the root, or renaming to it";
     case NFFS_NOT_FOUND: return "no such child, or a handle's id is not live";
     case NFFS_AMBIGUOUS: return "two or more live children of that name";
     case NFFS_WRONG_KIND: return "a file where a directory is needed, or the reverse";
@@ -251,6 +263,7 @@ static inline const char *nffs_meaning(uint32_t number) {
     case NFFS_NO_ROOM: return "a record fits in no clean file area";
     case NFFS_LAST_SEQUENCE: return "the sequence is at its greatest";
     case NFFS_NO_SOURCE: return "no file area is as long as the scratch area";
+    case NFFS_INTO_ITSELF: return "renaming the root, or moving a directory below itself";
     default: return "a number that this version does not know";
     }
 }
@@ -287,7 +300,7 @@ static inline size_t nffs_text_length(const char *text) {
     nffs_bytes_to_write((v)->image, (v)->image_length), (v)->image_length, nffs_areas((v)->areas, (v)->areas_count), (v)->areas_count
 #define NFFS_TEXT_(t) nffs_bytes(t, nffs_text_length(t)), nffs_text_length(t)
 
-/* The calls on a volume. base and path are C strings; a null base is an empty one. */
+/* The calls on a volume. base and paths are C strings; a null base is an empty one. */
 
 NFFS_ANSWERS static inline uint32_t nffs_volume_format(const nffs_volume *v) {
     return nffs_format(NFFS_IMAGE_(v));
@@ -333,6 +346,10 @@ NFFS_ANSWERS static inline uint32_t nffs_volume_append(const nffs_volume *v, con
 
 NFFS_ANSWERS static inline uint32_t nffs_volume_unlink(const nffs_volume *v, const char *base, const char *path) {
     return nffs_unlink(NFFS_IMAGE_(v), NFFS_TEXT_(base), NFFS_TEXT_(path));
+}
+
+NFFS_ANSWERS static inline uint32_t nffs_volume_rename(const nffs_volume *v, const char *base, const char *old_path, const char *new_path) {
+    return nffs_rename(NFFS_IMAGE_(v), NFFS_TEXT_(base), NFFS_TEXT_(old_path), NFFS_TEXT_(new_path));
 }
 
 NFFS_ANSWERS static inline uint32_t nffs_volume_collect(const nffs_volume *v) {

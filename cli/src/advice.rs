@@ -5,7 +5,7 @@ use nffs::Refusal;
 /// Number; what to do, in the words of docs/LINKING.md (a test holds them together); what this
 /// program offers for it.
 #[rustfmt::skip]
-const TABLE: [(u32, &str, &str); 17] = [
+const TABLE: [(u32, &str, &str); 18] = [
     (1, "Give the areas that the volume was formatted with: 1 to 16, of 128 to 65,536 bytes, inside the image, none overlapping. The image has at most 65,536 bytes. Of the report of an area: ask for an index below their number.",
         "`nffs areas IMAGE` prints the areas whose valid headers it sees; --at names the place of a volume in a longer file."),
     (2, "Give the areas that the volume was formatted with. If they are these, the header of an area is damaged, by a single bit perhaps, or power was lost during a collection, for which there is no recovery call yet. Nothing can be read or written. Keep the image: the files may all be whole.",
@@ -20,26 +20,28 @@ const TABLE: [(u32, &str, &str); 17] = [
         ""),
     (7, "No record of the root is read: it or the header of its area is damaged, by a single bit perhaps, or another writer left a reserved byte in one of them other than 0, which versions before 0.4.0 did not mind, or power was lost during a format, or these are not all areas of the volume. Nothing can be read or written. Give all areas, and keep the image: the files may all be whole.",
         "`nffs areas IMAGE` prints the areas whose valid headers it sees."),
-    (8, "Mend the path: \"/\", or names of 1 to 255 bytes behind single slashes, 1,024 bytes in all. At most 8,192 bytes are appended at a time. The root is neither created nor unlinked.",
+    (8, "Mend the path: \"/\", or names of 1 to 255 bytes behind single slashes, 1,024 bytes in all. At most 8,192 bytes are appended at a time. The root is neither created nor unlinked, and nothing is renamed to it.",
         ""),
-    (9, "Nothing is there: look at the path, name by name, or create it. Of a handle: the file was unlinked, open it again. Where something should be there, ask for a report: its record, or one above it, may be damaged.",
+    (9, "Nothing is there: look at the path, name by name, or create it. Of a handle: the file was unlinked, open it again. Where something should be there, ask for a report: its record, or one above it, may be damaged; what was renamed may have its old name again.",
         "`nffs check IMAGE` lists what is live."),
-    (10, "Two live children have this name, so that it leads to neither. Unlinking the directory above takes both away; the root cannot be unlinked.",
+    (10, "Two live children have this name, so that it leads to neither: damage can bring a deleted or an earlier name back. Unlinking the directory above takes both away, and renaming it leaves its name for a new one; the root can be neither unlinked nor renamed.",
         ""),
-    (11, "A file stands where a directory is needed, or the reverse: look at the path, and at the kind of what it leads to. Where that is a surprise, ask for a report: damage can bring a deleted name back.",
+    (11, "A file stands where a directory is needed, or the reverse: look at the path, and at the kind of what it leads to. Where that is a surprise, ask for a report: damage can bring a deleted or an earlier name back.",
         "`nffs lookup IMAGE PATH` prints the kind."),
-    (12, "Take another name, or unlink what has this one first. Where nothing should be there, ask for a report: damage can bring a deleted name back.",
-        "--replace does so for a file."),
+    (12, "Take another name, or unlink what has this one first. Where nothing should be there, ask for a report: damage can bring a deleted or an earlier name back.",
+        "--replace, of put and import, replaces a file."),
     (13, "Blocks of this file are lost. Other files can be read. Unlink it and store it anew.",
         "`nffs put IMAGE PATH FILE --replace` does both."),
     (14, "Begin the read inside the file, or just at its end. Where the file was longer, ask for a report: its last blocks may be lost.",
         "`nffs check IMAGE` prints sizes."),
     (15, "No room in a clean file area. Ask for a report first: a stretch may mean that an older version counts, and a collection of its area removes the stretch. Then collect and call again; each call collects one area.",
         "--collect collects until it fits; `nffs rm` gives a collection something to free."),
-    (16, "The inode cannot be deleted: its sequence number is at its greatest. Unlink the directory above it, or format the volume.",
+    (16, "The inode can be neither deleted nor renamed: its sequence number is at its greatest. Unlink or rename the directory above it, or format the volume.",
         ""),
     (17, "No area can be collected into scratch: all file areas are shorter. Copy the files out, and format with areas of one length.",
         "`nffs export IMAGE FOLDER` copies all files out."),
+    (18, "Take another new path: the root cannot be renamed, and a directory cannot be moved below itself. What lies in it can be moved, one by one.",
+        ""),
 ];
 
 /// What to do, and what this program offers for it; nothing for a number that it does not know.

@@ -26,13 +26,14 @@ usage: nffs COMMAND IMAGE [WORDS] [OPTIONS]
   append IMAGE PATH [FILE]    append FILE, or standard input, to a file that is there
   import IMAGE FOLDER [PATH]  store what lies in FOLDER below PATH, or the root
   mkdir IMAGE PATH            create a directory
+  mv IMAGE OLD NEW            give what the path OLD leads to the path NEW, which must be free
   rm IMAGE PATH               unlink a file, or a directory with what lies below it
   collect IMAGE               collect one area
 
   --areas AREAS    OFFSET:LENGTH,.. or LENGTHxCOUNT (COUNT areas, one behind the other), or
                    @FILE, which holds such a list; without it, areas are found by their headers
   --at OFFSET      the volume begins there in a longer file; areas are counted from there
-  --collect        of put, append, import, mkdir, rm: collect until it fits
+  --collect        of put, append, import, mkdir, mv, rm: collect until it fits
   --replace        of put, import, export: replace a file that is there
   -q, --quiet      no notes and no progress; warnings, hints and failures are still told
   -h, --help, -V, --version; -- ends the options
@@ -171,8 +172,11 @@ impl Arguments {
             return Err(usage(format!("{name}: too many words")));
         }
         if self.words.len() < least {
-            let folder = command.name == "import" || command.name == "export";
-            let what = if folder { "no folder" } else { "no path" };
+            let what = match (name, self.words.len()) {
+                ("import" | "export", _) => "no folder",
+                ("mv", 1) => "no new path",
+                _ => "no path",
+            };
             return Err(usage(format!("{name}: {what}")));
         }
         Ok(())
@@ -205,10 +209,12 @@ impl Arguments {
         self.word(place).map_or(b"/", OsStr::as_bytes)
     }
 
-    /// The command as a message names it: with its image and the word that follows.
+    /// The command as a message names it: with its image and the word that follows, of a rename
+    /// both.
     pub fn what(&self) -> String {
         let mut what = format!("{} {}", self.command, self.image.display());
-        if let Some(word) = self.word(0) {
+        let named = if self.command == "mv" { 2 } else { 1 };
+        for word in self.words.iter().take(named) {
             what = format!("{what} {}", shown(word.as_bytes()));
         }
         what

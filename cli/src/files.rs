@@ -2,7 +2,7 @@
 
 use crate::areas;
 use crate::arguments::{usage, Arguments};
-use crate::console::{print, say};
+use crate::console::{print, say, shown};
 use crate::failure::Failure;
 use crate::hints::Hints;
 use crate::image_file::{self, failed, Held, MOST};
@@ -29,13 +29,25 @@ fn change(
     let held = Held::of(&arguments.image, arguments.number("--at")?)?;
     let areas = areas::take_to_change(arguments, held.image())?;
     let mut work = Work::new(arguments, held.image(), &areas);
-    calls(&mut work).map_err(|refusal| work.refused(arguments.what(), refusal))?;
+    calls(&mut work).map_err(|refusal| work.refused(what(arguments, &work, refusal), refusal))?;
     let (image, collections) = work.done();
     held.replace(&image)?;
     if !collections.is_empty() && !arguments.given("--quiet") {
         say(&format!("done{collections}"));
     }
     Ok(())
+}
+
+/// The command as a message names it; where two paths are given, with the one that is refused.
+fn what(arguments: &Arguments, work: &Work, refusal: Refusal) -> String {
+    let (old, new) = (arguments.path(0), arguments.path(1));
+    let of_a_path = (Refusal::BAD_PATH..=Refusal::EXISTS).contains(&refusal);
+    if arguments.command != "mv" || !of_a_path {
+        return arguments.what();
+    }
+    // the old one is walked first, as a lookup walks it
+    let is_old = nffs::lookup(&work.image, work.areas, b"", old) == Err(refusal);
+    format!("{}: {}", arguments.what(), shown(if is_old { old } else { new }))
 }
 
 pub fn areas_seen(arguments: &Arguments) -> Result<(), Failure> {
@@ -128,18 +140,16 @@ fn image_size(areas: &[Area]) -> usize {
 pub fn put(arguments: &Arguments) -> Result<(), Failure> {
     let data = data(arguments.word(1))?;
     let path = arguments.path(0);
-    change(arguments, |work| {
-        if arguments.given("--replace") {
-            work.remove_file(path)?;
-        }
-        work.store(path, &data)
+    change(arguments, |work| match arguments.given("--replace") {
+        true => work.store_or_replace(path, &data),
+        false => work.store(path, &data),
     })
 }
 
 pub fn append(arguments: &Arguments) -> Result<(), Failure> {
     let data = data(arguments.word(1))?;
     let path = arguments.path(0);
-    change(arguments, |work| work.make(|image, areas| append_all(image, areas, path, &data)))
+    change(arguments, |work| work.make(|image, areas| append_all(image, areas, b"", path, &data)))
 }
 
 pub fn mkdir(arguments: &Arguments) -> Result<(), Failure> {
@@ -147,6 +157,11 @@ pub fn mkdir(arguments: &Arguments) -> Result<(), Failure> {
     change(arguments, |work| {
         work.make(|image, areas| nffs::create(image, areas, b"", path, Kind::Directory).map(|_| ()))
     })
+}
+
+pub fn mv(arguments: &Arguments) -> Result<(), Failure> {
+    let (old, new) = (arguments.path(0), arguments.path(1));
+    change(arguments, |work| work.make(|image, areas| nffs::rename(image, areas, b"", old, new)))
 }
 
 pub fn rm(arguments: &Arguments) -> Result<(), Failure> {

@@ -103,13 +103,7 @@ fn store(work: &mut Work, source: &Source, replace: bool) -> Result<Stored, Refu
     match there {
         Ok(bytes) if bytes == *data => Ok(Stored::ThereAlready),
         Ok(_) | Err(Refusal::BROKEN) if replace => {
-            // both or none: without the new file the old one stays
-            let before = work.image.clone();
-            let stored = work.remove_file(path).and_then(|()| work.store(path, data));
-            if stored.is_err() {
-                work.image = before;
-            }
-            stored.map(|()| Stored::Replaced)
+            work.replace(path, data).map(|()| Stored::Replaced)
         }
         Ok(_) | Err(Refusal::BROKEN) => Err(Refusal::EXISTS),
         Err(Refusal::NOT_FOUND) => work.store(path, data).map(|()| Stored::New),

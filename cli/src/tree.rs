@@ -104,6 +104,13 @@ pub fn below(directory: &[u8], name: &[u8]) -> Vec<u8> {
     [parent, b"/", name].concat()
 }
 
+/// The directory and the name of a path that begins with a slash and is not the root's.
+pub fn parted(path: &[u8]) -> (&[u8], &[u8]) {
+    let slash = path.iter().rposition(|b| *b == b'/').unwrap_or(0);
+    let (directory, name) = path.split_at(slash);
+    (if directory.is_empty() { b"/" } else { directory }, name.get(1..).unwrap_or_default())
+}
+
 /// A path and those above it, from above; without the root, which is always there.
 pub fn prefixes(path: &[u8]) -> impl Iterator<Item = &[u8]> {
     let ends = (1..path.len()).filter(|k| path[*k] == b'/').chain([path.len()]);

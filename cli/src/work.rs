@@ -4,6 +4,7 @@ use crate::areas::header;
 use crate::arguments::Arguments;
 use crate::console::{count, Progress};
 use crate::failure::Failure;
+use crate::tree::parted;
 use nffs::{Area, Kind, Refusal, MOST_AREAS};
 
 /// No volume is collected oftener for one call. Counts that are all among 128 numbers in a row (0
@@ -11,6 +12,9 @@ use nffs::{Area, Kind, Refusal, MOST_AREAS};
 /// one of at most 255 nested inodes: some 6,030 in all. More are made only where counts keep an
 /// area from its turn.
 pub const COLLECTIONS_MOST: u32 = 512 * MOST_AREAS as u32;
+
+/// The most bytes of a name.
+const NAME_MOST: usize = 255;
 
 /// Collections of one volume, as long as they can give something. They give nothing more once
 /// every area has been collected since records went the last time.
@@ -157,28 +161,85 @@ impl<'a> Work<'a> {
     pub fn store(&mut self, path: &[u8], data: &[u8]) -> Result<(), Refusal> {
         self.make(|image, areas| {
             nffs::create(image, areas, b"", path, Kind::File)?;
-            append(image, areas, path, data)
+            append(image, areas, b"", path, data)
         })
     }
 
-    /// Unlinks a file where there is one. A directory is refused, as open refuses it: it would go
-    /// with all that lies below it.
-    pub fn remove_file(&mut self, path: &[u8]) -> Result<(), Refusal> {
+    /// Stores a file, in the place of one that is there. A directory is refused, as open refuses it:
+    /// it would go with all that lies below it.
+    pub fn store_or_replace(&mut self, path: &[u8], data: &[u8]) -> Result<(), Refusal> {
         match nffs::open(&self.image, self.areas, b"", path) {
-            Ok(_) => self.make(|image, areas| nffs::unlink(image, areas, b"", path)),
-            Err(Refusal::NOT_FOUND) => Ok(()),
+            Ok(_) => self.replace(path, data),
+            Err(Refusal::NOT_FOUND) => self.store(path, data),
             Err(refusal) => Err(refusal),
+        }
+    }
+
+    /// Stores a file in the place of one that is there: beside it first, and then it takes its name.
+    /// Where the volume cannot hold both, the old one is unlinked before. Both or none either way:
+    /// without the new file the old one stays.
+    pub fn replace(&mut self, path: &[u8], data: &[u8]) -> Result<(), Refusal> {
+        match self.make(|image, areas| swap(image, areas, path, data)) {
+            // 17 is that of a collection
+            Err(Refusal::NO_ROOM | Refusal::TOO_MANY_IDS | Refusal::NO_SOURCE) => {}
+            swapped => return swapped,
+        }
+        let before = self.image.clone();
+        let unlinked = self.make(|image, areas| nffs::unlink(image, areas, b"", path));
+        let stored = unlinked.and_then(|()| self.store(path, data));
+        if stored.is_err() {
+            self.image = before;
+        }
+        stored
+    }
+}
+
+/// Stores a file beside the one that a path leads to, unlinks that, and gives the new one its name.
+/// The directory is the base, so that a longer name than the path's own makes no path too long.
+fn swap(image: &mut [u8], areas: &[Area], path: &[u8], data: &[u8]) -> Result<(), Refusal> {
+    let (directory, name) = parted(path);
+    let beside = free_name(image, areas, directory, name)?;
+    nffs::create(image, areas, directory, &beside, Kind::File)?;
+    append(image, areas, directory, &beside, data)?;
+    nffs::unlink(image, areas, directory, name)?;
+    nffs::rename(image, areas, directory, &beside, name)
+}
+
+/// A name that nothing in the directory has: the file's own and ".new", or ".new2" and so on. The
+/// file's own is cut where the whole would be longer than a name may be. One of them is free, since
+/// no volume has more than 256 inodes.
+fn free_name(
+    image: &[u8],
+    areas: &[Area],
+    directory: &[u8],
+    name: &[u8],
+) -> Result<Vec<u8>, Refusal> {
+    let mut number = 1;
+    loop {
+        let end = if number == 1 { ".new".to_string() } else { format!(".new{number}") };
+        let kept = &name[..name.len().min(NAME_MOST - end.len())];
+        let beside = [kept, end.as_bytes()].concat();
+        match nffs::lookup(image, areas, directory, &beside) {
+            Err(Refusal::NOT_FOUND) => return Ok(beside),
+            Ok(_) | Err(Refusal::AMBIGUOUS) => number += 1,
+            Err(refusal) => return Err(refusal),
         }
     }
 }
 
 /// Appends data of any length, by as many calls as it takes; one at least, so that a path is asked
 /// for where there is no data.
-pub fn append(image: &mut [u8], areas: &[Area], path: &[u8], data: &[u8]) -> Result<(), Refusal> {
+pub fn append(
+    image: &mut [u8],
+    areas: &[Area],
+    base: &[u8],
+    path: &[u8],
+    data: &[u8],
+) -> Result<(), Refusal> {
     let (first, rest) = data.split_at(data.len().min(nffs::APPEND_MOST));
-    nffs::append(image, areas, b"", path, first)?;
+    nffs::append(image, areas, base, path, first)?;
     for piece in rest.chunks(nffs::APPEND_MOST) {
-        nffs::append(image, areas, b"", path, piece)?;
+        nffs::append(image, areas, base, path, piece)?;
     }
     Ok(())
 }

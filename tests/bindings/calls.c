@@ -93,16 +93,17 @@ static uint32_t number_of(int call, const nffs_area *list, size_t count) {
     case 5: return nffs_create(image, sizeof image, list, count, path, 0, path, 1, NFFS_FILE).number;
     case 6: return nffs_append(image, sizeof image, list, count, path, 0, path, 1, &byte, 0);
     case 7: return nffs_unlink(image, sizeof image, list, count, path, 0, path, 1);
-    case 8: return nffs_collect(image, sizeof image, list, count);
-    case 9: return nffs_area_report(image, sizeof image, list, count, 0, 0).number;
-    case 10: return nffs_area_report(image, sizeof image, list, count, 1, 0).number;
+    case 8: return nffs_rename(image, sizeof image, list, count, path, 0, path, 1, (const uint8_t *)"/a", 2);
+    case 9: return nffs_collect(image, sizeof image, list, count);
+    case 10: return nffs_area_report(image, sizeof image, list, count, 0, 0).number;
+    case 11: return nffs_area_report(image, sizeof image, list, count, 1, 0).number;
     default: return nffs_format(image, sizeof image, list, count);
     }
 }
 
 static void area_lists(void) {
     /* what each call answers about the root of a good volume, and whether it leaves the image as it is */
-    static const uint32_t of_root[] = {NFFS_OK, NFFS_OK, NFFS_WRONG_KIND, NFFS_WRONG_KIND, NFFS_WRONG_KIND, NFFS_BAD_PATH, NFFS_WRONG_KIND, NFFS_BAD_PATH};
+    static const uint32_t of_root[] = {NFFS_OK, NFFS_OK, NFFS_WRONG_KIND, NFFS_WRONG_KIND, NFFS_WRONG_KIND, NFFS_BAD_PATH, NFFS_WRONG_KIND, NFFS_BAD_PATH, NFFS_INTO_ITSELF};
     enum { MOST = 20 };
     nffs_area list[MOST];
     keep();
@@ -113,19 +114,19 @@ static void area_lists(void) {
         /* the mark at each place, and behind it what would be bad; then the same list with its end there */
         list[end].length = 0;
         const uint32_t expected = end == 0 ? NFFS_BAD_AREAS : end == 1 ? NFFS_NO_FILE_OR_SCRATCH : end == 2 ? NFFS_OK : NFFS_BAD_AREAS;
-        for (int call = 0; call < 8; call++) {
+        for (int call = 0; call < 9; call++) {
             const uint32_t number = expected == NFFS_OK ? of_root[call] : expected;
             CHECK(number_of(call, list, MOST) == number);
             CHECK(number_of(call, list, end + 1) == number);
             CHECK(number_of(call, list, end) == number);
         }
         if (expected != NFFS_OK) {
-            CHECK(number_of(8, list, MOST) == expected && number_of(8, list, end) == expected);
-            CHECK(number_of(11, list, MOST) == expected && number_of(11, list, end) == expected);
+            CHECK(number_of(9, list, MOST) == expected && number_of(9, list, end) == expected);
+            CHECK(number_of(12, list, MOST) == expected && number_of(12, list, end) == expected);
         }
         /* of the check for 3 an area's report knows nothing; a list of one entry has no second */
-        for (int call = 9; call < 11; call++) {
-            const uint32_t number = expected == NFFS_NO_FILE_OR_SCRATCH ? (call == 9 ? NFFS_OK : NFFS_BAD_AREAS) : expected;
+        for (int call = 10; call < 12; call++) {
+            const uint32_t number = expected == NFFS_NO_FILE_OR_SCRATCH ? (call == 10 ? NFFS_OK : NFFS_BAD_AREAS) : expected;
             CHECK(number_of(call, list, MOST) == number && number_of(call, list, end) == number);
         }
         CHECK(same());
@@ -164,12 +165,14 @@ static void empty_slices(void) {
     CHECK(nffs_volume_create(&nothing, NULL, NULL, NFFS_FILE).number == NFFS_BAD_AREAS);
     CHECK(nffs_volume_append(&nothing, NULL, NULL, NULL, 0) == NFFS_BAD_AREAS);
     CHECK(nffs_volume_unlink(&nothing, NULL, NULL) == NFFS_BAD_AREAS);
+    CHECK(nffs_volume_rename(&nothing, NULL, NULL, NULL) == NFFS_BAD_AREAS);
     CHECK(nffs_volume_collect(&nothing) == NFFS_BAD_AREAS);
     CHECK(byte == 7 && handle.id == 3 && handle.position == 4);
 
     CHECK(nffs_volume_lookup(&flash, NULL, NULL).number == NFFS_BAD_PATH);
     CHECK(nffs_volume_lookup(&flash, "/", "").number == NFFS_BAD_PATH);
     CHECK(nffs_volume_lookup(&flash, NULL, "a").number == NFFS_BAD_PATH);
+    CHECK(nffs_volume_rename(&flash, NULL, NULL, "/a") == NFFS_BAD_PATH && nffs_volume_rename(&flash, NULL, "/a", NULL) == NFFS_BAD_PATH);
 }
 
 static void paths(void) {
@@ -311,10 +314,10 @@ static void collection(void) {
 }
 
 static void meanings(void) {
-    for (uint32_t n = 0; n <= NFFS_NO_SOURCE; n++) {
+    for (uint32_t n = 0; n <= NFFS_INTO_ITSELF; n++) {
         CHECK(strcmp(nffs_meaning(n), nffs_meaning(n + 1)) != 0);
     }
-    CHECK(strcmp(nffs_meaning(NFFS_NO_SOURCE + 1), nffs_meaning(UINT32_MAX)) == 0);
+    CHECK(strcmp(nffs_meaning(NFFS_INTO_ITSELF + 1), nffs_meaning(UINT32_MAX)) == 0);
 }
 
 int main(void) {

@@ -40,8 +40,9 @@ static void *copied(const void *bytes, size_t size, int at_end) {
     return memcpy(guarded(size, at_end), bytes, size);
 }
 
-/* Each call once over these slices; whether all is as it should be. */
-static int all_calls(uint8_t *image, const nffs_area *areas, const uint8_t *path, const uint8_t *data, uint8_t *buffer, nffs_handle *handle) {
+/* Each call once over these slices; whether all is as it should be. The file is renamed to the second path. */
+static int all_calls(uint8_t *image, const nffs_area *areas, const uint8_t *path, const uint8_t *second, const uint8_t *data, uint8_t *buffer,
+                     nffs_handle *handle) {
     static const uint8_t none[1];
     int good = nffs_format(image, IMAGE, areas, AREAS) == NFFS_OK;
     good &= nffs_create(image, IMAGE, areas, AREAS, none, 0, path, 2, NFFS_FILE).number == NFFS_OK;
@@ -58,8 +59,9 @@ static int all_calls(uint8_t *image, const nffs_area *areas, const uint8_t *path
     const nffs_read_answer read = nffs_read(image, IMAGE, areas, AREAS, handle, buffer, DATA);
     good &= read.number == NFFS_OK && read.given == DATA && memcmp(buffer, data, DATA) == 0 && handle->position == DATA;
     good &= nffs_read_at(image, IMAGE, areas, AREAS, opened.id, 1, buffer, DATA).given == DATA - 1;
+    good &= nffs_rename(image, IMAGE, areas, AREAS, none, 0, path, 2, second, 2) == NFFS_OK;
     good &= nffs_collect(image, IMAGE, areas, AREAS) == NFFS_OK;
-    good &= nffs_unlink(image, IMAGE, areas, AREAS, none, 0, path, 2) == NFFS_OK;
+    good &= nffs_unlink(image, IMAGE, areas, AREAS, none, 0, second, 2) == NFFS_OK;
     return good & (nffs_report(image, IMAGE, areas, AREAS).live == 1);
 }
 
@@ -68,8 +70,8 @@ static uint8_t data[DATA];
 
 static void guards(int at_end) {
     check(at_end ? "slices before a page that cannot be touched" : "slices behind a page that cannot be touched",
-          all_calls(guarded(IMAGE, at_end), copied(areas, sizeof areas, at_end), copied("/a", 2, at_end), copied(data, DATA, at_end),
-                    guarded(DATA, at_end), guarded(sizeof(nffs_handle), at_end)));
+          all_calls(guarded(IMAGE, at_end), copied(areas, sizeof areas, at_end), copied("/a", 2, at_end), copied("/b", 2, at_end),
+                    copied(data, DATA, at_end), guarded(DATA, at_end), guarded(sizeof(nffs_handle), at_end)));
 }
 
 /* Lists of few and of too many areas: nothing is looked at behind the last entry. */
@@ -93,11 +95,11 @@ static void lists(void) {
 /* Slices of bytes may begin anywhere. */
 static void odd_addresses(void) {
     for (size_t by = 1; by < 16; by++) {
-        uint8_t *const image = malloc(IMAGE + by), *const text = malloc(DATA + by), *const buffer = malloc(DATA + by), path[] = "................/a";
+        uint8_t *const image = malloc(IMAGE + by), *const text = malloc(DATA + by), *const buffer = malloc(DATA + by), paths[] = "................/a/b";
         nffs_handle handle;
         memcpy(text + by, data, DATA);
-        memcpy(path + by, "/a", 2);
-        check("odd addresses", all_calls(image + by, areas, path + by, text + by, buffer + by, &handle));
+        memcpy(paths + by, "/a/b", 4);
+        check("odd addresses", all_calls(image + by, areas, paths + by, paths + by + 2, text + by, buffer + by, &handle));
         free(image);
         free(text);
         free(buffer);
@@ -121,6 +123,8 @@ static void long_lengths(void) {
     check("a path of 2^32 bytes more", nffs_lookup(image, IMAGE, areas, AREAS, none, 0, far, ((size_t)1 << 32) + 1).number == NFFS_BAD_PATH);
     const uint32_t id = nffs_create(image, IMAGE, areas, AREAS, none, 0, path, 2, NFFS_FILE).id;
     check("data of 2^32 bytes", nffs_append(image, IMAGE, areas, AREAS, none, 0, path, 2, far, (size_t)1 << 32) == NFFS_BAD_PATH);
+    check("a new path of 2^32 bytes more", nffs_rename(image, IMAGE, areas, AREAS, none, 0, path, 2, far, ((size_t)1 << 32) + 1) == NFFS_BAD_PATH);
+    check("an old path of 2^32 bytes more", nffs_rename(image, IMAGE, areas, AREAS, none, 0, far, ((size_t)1 << 32) + 1, path, 2) == NFFS_BAD_PATH);
     check("an append", nffs_append(image, IMAGE, areas, AREAS, none, 0, path, 2, data, DATA) == NFFS_OK);
     const nffs_read_answer read = nffs_read_at(image, IMAGE, areas, AREAS, id, 0, far, huge);
     check("a buffer of 2^32 bytes more", read.number == NFFS_OK && read.given == DATA && memcmp(far, data, DATA) == 0);

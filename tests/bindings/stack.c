@@ -13,6 +13,7 @@
 #define nffs_create entered_nffs_create
 #define nffs_append entered_nffs_append
 #define nffs_unlink entered_nffs_unlink
+#define nffs_rename entered_nffs_rename
 #define nffs_collect entered_nffs_collect
 #include "nffs.h"
 
@@ -27,6 +28,7 @@ STUB("nffs_read_at");
 STUB("nffs_create");
 STUB("nffs_append");
 STUB("nffs_unlink");
+STUB("nffs_rename");
 STUB("nffs_collect");
 
 #include <stdio.h>
@@ -49,6 +51,9 @@ static uint32_t number;
 /* A name of 24 bytes: every mount checks one slice so long, for which the check makes its tables on the stack. */
 #define HOME "/with-twenty-four-letters"
 
+/* And one so long for the name that a rename writes. */
+#define RENAMED "twenty-four-letters-more"
+
 static void format(void) { number = nffs_volume_format(&flash); }
 static void report(void) { number = nffs_volume_report(&flash).number; }
 static void area_report(void) { number = nffs_volume_area_report(&flash, 1, 0).number; }
@@ -58,7 +63,8 @@ static void read(void) { number = nffs_volume_read(&flash, &handle, data, sizeof
 static void read_at(void) { number = nffs_volume_read_at(&flash, handle.id, 0, data, sizeof data).number; }
 static void create(void) { number = nffs_volume_create(&flash, HOME, "f", NFFS_FILE).number; }
 static void append(void) { number = nffs_volume_append(&flash, HOME, "f", data, sizeof data); }
-static void unlink_(void) { number = nffs_volume_unlink(&flash, HOME, "f"); }
+static void unlink_(void) { number = nffs_volume_unlink(&flash, HOME, RENAMED); }
+static void rename_(void) { number = nffs_volume_rename(&flash, HOME, "f", RENAMED); }
 static void collect(void) { number = nffs_volume_collect(&flash); }
 
 /* A directory for the file of the calls below. */
@@ -92,7 +98,8 @@ int main(void) {
         {"nffs_format", format},   {"nffs_create", create}, {"nffs_append", append},
         {"nffs_lookup", lookup},   {"nffs_open", open},     {"nffs_read", read},
         {"nffs_read_at", read_at}, {"nffs_area_report", area_report},
-        {"nffs_unlink", unlink_},  {"nffs_collect", collect}, {"nffs_report", report},
+        {"nffs_rename", rename_},  {"nffs_unlink", unlink_}, {"nffs_collect", collect},
+        {"nffs_report", report},
     };
     for (uint32_t i = 0; i < AREAS; i++) {
         areas[i].offset = i * SIZE;

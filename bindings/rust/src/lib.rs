@@ -486,6 +486,44 @@ pub fn unlink(image: &mut [u8], areas: &[Area], base: &[u8], path: &[u8]) -> Res
     Refusal::check(raw::unlink(image, areas, base, path))
 }
 
+/// Gives a file or a directory another name, another directory, or both; one base serves both paths.
+/// Its inode is written anew with the same id, so that a file keeps its contents, handles to it stay
+/// right, and what lies below a directory goes with it. What has the new name already is not
+/// replaced.
+///
+/// Where the new record is damaged, or comes back stale, the one before it counts: the old name is
+/// back, or answers 10 where something else has it by now; or nothing leads there any more, as
+/// where that record was collected: 9 (`docs/LINKING.md`, "Swap a table").
+///
+/// Checks in order: 1 to 7, 8 of either path and for a new path "/", then 9, 10 or 11 at the first
+/// step of the old path that fails, then the same at the first step of the new path before its last
+/// name that fails, 11 where that name is asked for below a file, 12, 18, 16, 15.
+///
+/// ```
+/// # use nffs::{Area, Kind, Refusal};
+/// # let mut flash = [0; 2 * 4096];
+/// # let areas = Area::row::<2>(4096);
+/// # nffs::format(&mut flash, &areas)?;
+/// nffs::create(&mut flash, &areas, b"", b"/tables", Kind::Directory)?;
+/// let id = nffs::create(&mut flash, &areas, b"", b"/dose.new", Kind::File)?;
+/// nffs::rename(&mut flash, &areas, b"", b"/dose.new", b"/tables/dose")?;
+/// assert_eq!(nffs::lookup(&flash, &areas, b"", b"/tables/dose")?.id, id);
+/// assert_eq!(nffs::lookup(&flash, &areas, b"", b"/dose.new"), Err(Refusal::NOT_FOUND));
+///
+/// let into_itself = nffs::rename(&mut flash, &areas, b"", b"/tables", b"/tables/old");
+/// assert_eq!(into_itself, Err(Refusal::INTO_ITSELF));
+/// # Ok::<(), Refusal>(())
+/// ```
+pub fn rename(
+    image: &mut [u8],
+    areas: &[Area],
+    base: &[u8],
+    old_path: &[u8],
+    new_path: &[u8],
+) -> Result<(), Refusal> {
+    Refusal::check(raw::rename(image, areas, base, old_path, new_path))
+}
+
 /// Copies what counts in one file area into scratch and erases that area, which becomes scratch:
 /// superseded records leave room, deleted ones as soon as nothing else names them, and the damage
 /// of that area goes. One call collects one area: of the file areas as long as scratch the first

@@ -170,6 +170,18 @@ mod exports {
             path: *const u8,
             path_length: usize,
         ) -> u32;
+        pub fn nffs_rename(
+            image: *mut u8,
+            size: usize,
+            areas: *const Area,
+            areas_count: usize,
+            base: *const u8,
+            base_length: usize,
+            old_path: *const u8,
+            old_length: usize,
+            new_path: *const u8,
+            new_length: usize,
+        ) -> u32;
         pub fn nffs_collect(
             image: *mut u8,
             size: usize,
@@ -334,6 +346,30 @@ pub fn unlink(image: &mut [u8], areas: &[Area], base: &[u8], path: &[u8]) -> u32
             base.len(),
             path.as_ptr(),
             path.len(),
+        )
+    }
+}
+
+pub fn rename(
+    image: &mut [u8],
+    areas: &[Area],
+    base: &[u8],
+    old_path: &[u8],
+    new_path: &[u8],
+) -> u32 {
+    // SAFETY: slices as the call needs them, see above.
+    unsafe {
+        exports::nffs_rename(
+            image.as_mut_ptr(),
+            image.len(),
+            areas.as_ptr(),
+            areas.len(),
+            base.as_ptr(),
+            base.len(),
+            old_path.as_ptr(),
+            old_path.len(),
+            new_path.as_ptr(),
+            new_path.len(),
         )
     }
 }

@@ -14,15 +14,16 @@ use crate::{Area, AreaReport, Found, Given, Handle, Kind, Refusal, Report, Stret
 /// volume.format()?;
 /// volume.create(b"", b"/dose", Kind::File)?;
 /// volume.append(b"", b"/dose", b"20 mSv")?;
+/// volume.rename(b"/", b"dose", b"limit")?;
 ///
 /// let volume = Volume::new(&flash[..], &areas);
-/// let mut file = volume.open(b"", b"/dose")?;
+/// let mut file = volume.open(b"", b"/limit")?;
 /// let mut buffer = [0; 64];
 /// let given = volume.read(&mut file, &mut buffer)?;
 /// assert_eq!(&buffer[..given.bytes], b"20 mSv");
 ///
-/// // root, file and block, and no damage
-/// assert_eq!(volume.area_report(1, 0)?.records, 3);
+/// // root, file, block and the file's new name, and no damage
+/// assert_eq!(volume.area_report(1, 0)?.records, 4);
 /// assert_eq!(volume.stretches(1)?.len(), 0);
 /// # Ok::<(), nffs::Refusal>(())
 /// ```
@@ -103,6 +104,11 @@ impl<Image: AsMut<[u8]>> Volume<'_, Image> {
     /// See [`crate::unlink`].
     pub fn unlink(&mut self, base: &[u8], path: &[u8]) -> Result<(), Refusal> {
         crate::unlink(self.image.as_mut(), self.areas, base, path)
+    }
+
+    /// See [`crate::rename`].
+    pub fn rename(&mut self, base: &[u8], old_path: &[u8], new_path: &[u8]) -> Result<(), Refusal> {
+        crate::rename(self.image.as_mut(), self.areas, base, old_path, new_path)
     }
 
     /// See [`crate::collect`].

@@ -90,6 +90,7 @@ fn a_read_only_image_is_not_replaced() {
     folder.good(&["report", "image"], b"");
     for words in [
         &["put", "image", "/dose"][..],
+        &["mv", "image", "/dose", "/limit"],
         &["collect", "image"],
         &["import", "image", "."],
         &["format", "image", "--force", "--areas", "4096x2"],

@@ -76,7 +76,7 @@ fn records_in_no_area_that_was_found() {
     let mut bytes = this_year(&folder);
     bytes[8192] ^= 1;
     folder.write("image", &bytes);
-    let hint = gap_hint("3 records stand", 4096, 8192);
+    let hint = gap_hint("4 records stand", 4096, 8192);
     for words in [
         &["areas", "image"][..],
         &["report", "image"],
@@ -92,10 +92,10 @@ fn records_in_no_area_that_was_found() {
     let text = page(&folder, &[], 3);
     assert!(text.contains(&format!("\nH{hint}")) && !text.contains(NONE_WRONG), "{text}");
     let map = folder.text(&["map", "image"]);
-    let line = "\n 8192+4096   not in list    -      -        3 ";
+    let line = "\n 8192+4096   not in list    -      -        4 ";
     assert!(map.contains(line), "{map}");
     let gaps = "v['gaps'], v['headers_inside']";
-    let told = "[{'offset': 8192, 'length': 4096, 'records': 3}] []";
+    let told = "[{'offset': 8192, 'length': 4096, 'records': 4}] []";
     assert_eq!(python(&page(&folder, &["--json"], 3), gaps), told);
     assert_eq!(python(&folder.text(&["map", "image", "--json"]), gaps), told);
 }
@@ -112,6 +112,7 @@ fn nothing_is_changed_where_records_are_in_no_area_that_was_found() {
         &["append", "image", "/dose"],
         &["import", "image", "folder"],
         &["mkdir", "image", "/new"],
+        &["mv", "image", "/dose", "/new"],
         &["rm", "image", "/dose"],
         &["collect", "image"],
     ] {
@@ -136,18 +137,18 @@ fn an_area_of_the_list_that_is_passed_over() {
     let listed = ["--areas", "4096x4"];
     let warning =
         "nffs: warning: the area at 8192 (length 4096) has no valid header and is passed \
-                   over, with 3 records in it: what is live";
+                   over, with 4 records in it: what is live";
     for words in [&["report", "image"][..], &["areas", "image"], &["map", "image"]] {
         let said = said(&folder, &[words, &listed].concat(), 0);
         assert!(said.starts_with(warning) && said.lines().count() == 1, "{said}");
     }
     let text = page(&folder, &listed, 3);
-    let row = "\n   8192+4096  no valid header of this length: passed over, with 3 records in it\n";
-    assert!(text.contains(row) && text.contains("\nPassed over: 3 records lie where"), "{text}");
+    let row = "\n   8192+4096  no valid header of this length: passed over, with 4 records in it\n";
+    assert!(text.contains(row) && text.contains("\nPassed over: 4 records lie where"), "{text}");
     assert!(!text.contains(NONE_WRONG) && hints(&text) == 0, "{text}");
     let row = "[v['areas'][2][k] for k in ('kind', 'records', 'blank')]";
     let json = page(&folder, &["--json", listed[0], listed[1]], 3);
-    assert_eq!(python(&json, row), "['none', 3, False]");
+    assert_eq!(python(&json, row), "['none', 4, False]");
 
     // with other bytes alone, and blank
     bytes[8192..12_288].fill(0);

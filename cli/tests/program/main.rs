@@ -9,6 +9,8 @@ mod folder;
 mod folders;
 mod lost;
 mod map;
+mod moves;
 mod records;
 mod refusals;
+mod replaced;
 mod reserved;

@@ -34,6 +34,7 @@ pub fn cases(folder: &Folder) -> Vec<(u32, Vec<u8>, Vec<&'static str>)> {
         (15, fresh, vec!["put", "image", "/a", "image"]),
         (16, image(&[deepest]), vec!["rm", "image", "/a"]),
         (17, folder.bytes("short"), vec!["collect", "image"]),
+        (18, image(&[]), vec!["mv", "image", "/", "/a"]),
     ]
 }
 
@@ -51,17 +52,18 @@ fn broken(folder: &Folder) -> Vec<u8> {
 fn each_number_says_what_it_means_and_what_to_do() {
     let folder = Folder::new("numbers");
     let cases = cases(&folder);
-    assert!(cases.iter().map(|case| case.0).eq(1..=17));
+    assert!(cases.iter().map(|case| case.0).eq(1..=18));
     let document = include_str!("../../../docs/LINKING.md");
     for (number, image, words) in cases {
         folder.write("image", &image);
         let said = folder.refused(&[&words[..], &["-q"]].concat(), b"");
         let mut lines = said.lines();
         let first = lines.next().unwrap();
-        let start = format!("nffs: {}: refused with {number}, ", words[..2].join(" "));
-        let named =
-            format!("nffs: {}: refused with {number}, ", words[..3.min(words.len())].join(" "));
-        assert!(first.starts_with(&start) || first.starts_with(&named), "{number}: {said}");
+        let starts = |named: usize| {
+            let words = words[..named.min(words.len())].join(" ");
+            first.starts_with(&format!("nffs: {words}: refused with {number}, "))
+        };
+        assert!(starts(if words[0] == "mv" { 4 } else { 3 }) || starts(2), "{number}: {said}");
         assert!(!first.contains("does not know"), "{said}");
         let advice = lines.next().unwrap_or_default().trim_start();
         assert!(document.contains(&format!("\n| {number} | {advice} |\n")), "{number}: {advice}");

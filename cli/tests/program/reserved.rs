@@ -91,12 +91,13 @@ fn every_command_that_reads_hints_at_an_area_that_is_passed_over() {
 }
 
 /// Each command that changes an image, on what `with_area` holds.
-const CHANGES: [&[&str]; 7] = [
+const CHANGES: [&[&str]; 8] = [
     &["put", "image", "/new"],
     &["put", "image", "/dose", "--replace", "--collect"],
     &["append", "image", "/dose"],
     &["import", "image", "folder"],
     &["mkdir", "image", "/new"],
+    &["mv", "image", "/dose", "/new"],
     &["rm", "image", "/dose"],
     &["collect", "image"],
 ];

@@ -1,0 +1,318 @@
+/* nffs_rename from C: what it refuses, in which order, what it writes and what it keeps; and what docs/LINKING.md, 12, says of a new record that
+   is damaged or comes back stale. Ends with the count. */
+#include "nffs.h"
+
+#include <stdio.h>
+#include <string.h>
+
+static unsigned passed, failed;
+
+static void check(int holds, const char *what, int line) {
+    if (holds) {
+        passed++;
+    } else {
+        failed++;
+        printf("FAILED: line %d: %s\n", line, what);
+    }
+}
+
+#define CHECK(what) check(what, #what, __LINE__)
+/* what a case stands on; counted only where it does not hold */
+#define NEED(what) ((what) ? (void)0 : check(0, #what, __LINE__))
+
+enum { SIZE = 4096, IMAGE = 2 * SIZE, FILE_ID = 0x10000000, HEADER = 20 };
+static uint8_t image[IMAGE];
+static uint8_t kept[IMAGE];
+static const nffs_area areas[] = {{0, SIZE}, {SIZE, SIZE}};
+static const nffs_volume flash = {image, IMAGE, areas, 2};
+
+static uint32_t at(const char *path) {
+    return nffs_volume_lookup(&flash, NULL, path).number;
+}
+
+static int leads(const char *path, uint32_t id) {
+    const nffs_lookup_answer found = nffs_volume_lookup(&flash, NULL, path);
+    return found.number == NFFS_OK && found.id == id;
+}
+
+static uint32_t moved(const char *old_path, const char *new_path) {
+    return nffs_volume_rename(&flash, NULL, old_path, new_path);
+}
+
+static void directory(const char *path) {
+    NEED(nffs_volume_create(&flash, NULL, path, NFFS_DIRECTORY).number == NFFS_OK);
+}
+
+static void file(const char *path, const char *text) {
+    NEED(nffs_volume_create(&flash, NULL, path, NFFS_FILE).number == NFFS_OK);
+    NEED(nffs_volume_append(&flash, NULL, path, text, strlen(text)) == NFFS_OK);
+}
+
+static int reads(const char *path, const char *text) {
+    nffs_handle handle;
+    uint8_t buffer[32];
+    if (nffs_volume_open(&flash, NULL, path, &handle) != NFFS_OK) {
+        return 0;
+    }
+    const nffs_read_answer read = nffs_volume_read(&flash, &handle, buffer, sizeof buffer);
+    return read.number == NFFS_OK && read.given == strlen(text) && memcmp(buffer, text, read.given) == 0;
+}
+
+/* The index of the file area, which is scratch's after each collection, and where its free space begins in the image. */
+static uint32_t file_area(void) {
+    return nffs_volume_area_report(&flash, 0, 0).kind == NFFS_AREA_FILE ? 0 : 1;
+}
+
+static size_t free_from(void) {
+    const uint32_t index = file_area();
+    return areas[index].offset + SIZE - nffs_volume_area_report(&flash, index, 0).free;
+}
+
+/* Renames, and gives the place of the new record. */
+static size_t moved_at(const char *old_path, const char *new_path) {
+    const size_t place = free_from();
+    NEED(moved(old_path, new_path) == NFFS_OK);
+    return place;
+}
+
+/* One bit of a record's header is altered: it is surely read no more. */
+static void damage(size_t place) {
+    image[place + 5] ^= 1;
+}
+
+/* A volume with directories /d and /d/e, files /d/f and /g, and two files /d/e/t: of the first the deletion is damaged. */
+static void filled(void) {
+    NEED(nffs_volume_format(&flash) == NFFS_OK);
+    directory("/d");
+    directory("/d/e");
+    file("/d/f", "abc");
+    file("/g", "");
+    file("/d/e/t", "");
+    const size_t deletion = free_from();
+    NEED(nffs_volume_unlink(&flash, NULL, "/d/e/t") == NFFS_OK);
+    file("/d/e/t", "");
+    damage(deletion);
+    NEED(at("/d/e/t") == NFFS_AMBIGUOUS);
+}
+
+/* Each refusal of a path, alone and before later ones; none changes a byte. */
+static void refusals(void) {
+    static const struct {
+        const char *old_path, *new_path;
+        uint32_t number;
+    } cases[] = {
+        /* bad paths, before any walk */
+        {"", "/x", NFFS_BAD_PATH}, {"d/f", "/x", NFFS_BAD_PATH}, {"/d/f", "/x/", NFFS_BAD_PATH}, {"/d/f", "/", NFFS_BAD_PATH},
+        {"/none", "/", NFFS_BAD_PATH}, {"/none", "//x", NFFS_BAD_PATH}, {"/", "/", NFFS_BAD_PATH},
+        /* the old path's walk, before the new one's */
+        {"/none", "/x", NFFS_NOT_FOUND}, {"/none", "/g/x", NFFS_NOT_FOUND}, {"/none", "/g", NFFS_NOT_FOUND}, {"/d/none/f", "/g", NFFS_NOT_FOUND},
+        {"/d/e/t", "/x", NFFS_AMBIGUOUS}, {"/d/e/t", "/none/x", NFFS_AMBIGUOUS}, {"/d/e/t/x", "/g", NFFS_AMBIGUOUS},
+        {"/g/x", "/x", NFFS_WRONG_KIND}, {"/g/x", "/none/x", NFFS_WRONG_KIND}, {"/d/f/x", "/g", NFFS_WRONG_KIND},
+        /* the new path's */
+        {"/d/f", "/none/x", NFFS_NOT_FOUND}, {"/", "/none/x", NFFS_NOT_FOUND}, {"/d", "/d/none/x", NFFS_NOT_FOUND},
+        {"/d/f", "/d/e/t/x", NFFS_AMBIGUOUS}, {"/d", "/d/e/t/x", NFFS_AMBIGUOUS},
+        {"/d/f", "/g/x", NFFS_WRONG_KIND}, {"/d", "/d/f/x", NFFS_WRONG_KIND}, {"/", "/g/x", NFFS_WRONG_KIND}, {"/d/f", "/g/x/y", NFFS_WRONG_KIND},
+        /* the new name is there, once or oftener; the present name is */
+        {"/d/f", "/g", NFFS_EXISTS}, {"/d/f", "/d/e", NFFS_EXISTS}, {"/d/f", "/d/e/t", NFFS_EXISTS}, {"/d/f", "/d/f", NFFS_EXISTS},
+        {"/d", "/d", NFFS_EXISTS}, {"/d", "/d/e", NFFS_EXISTS}, {"/", "/g", NFFS_EXISTS}, {"/", "/d/e/t", NFFS_EXISTS},
+        /* the root, and a directory moved below itself */
+        {"/", "/x", NFFS_INTO_ITSELF}, {"/", "/d/e/x", NFFS_INTO_ITSELF}, {"/d", "/d/x", NFFS_INTO_ITSELF}, {"/d", "/d/e/x", NFFS_INTO_ITSELF},
+        /* nothing else is wrong, and the only file area is damaged */
+        {"/d/f", "/x", NFFS_NO_ROOM}, {"/d/e", "/d/x", NFFS_NO_ROOM}, {"/d/e", "/e", NFFS_NO_ROOM},
+    };
+    filled();
+    memcpy(kept, image, IMAGE);
+    for (size_t i = 0; i < sizeof cases / sizeof cases[0]; i++) {
+        const uint32_t number = moved(cases[i].old_path, cases[i].new_path);
+        if (number != cases[i].number) {
+            printf("%s to %s is %u, not %u\n", cases[i].old_path, cases[i].new_path, (unsigned)number, (unsigned)cases[i].number);
+        }
+        CHECK(number == cases[i].number && memcmp(kept, image, IMAGE) == 0);
+    }
+    /* one base for both, and only where a path is relative */
+    CHECK(nffs_volume_rename(&flash, "/d", "none", "f") == NFFS_NOT_FOUND && nffs_volume_rename(&flash, "/d", "f", "e") == NFFS_EXISTS);
+    CHECK(nffs_volume_rename(&flash, "d", "/d/f", "/g") == NFFS_EXISTS && nffs_volume_rename(&flash, "d", "/d/f", "g") == NFFS_BAD_PATH);
+    CHECK(memcmp(kept, image, IMAGE) == 0);
+}
+
+/* What is written is one record at the start of free space: same id, sequence plus one, new parent, new name. */
+static void record(void) {
+    NEED(nffs_volume_format(&flash) == NFFS_OK);
+    directory("/d");
+    file("/f", "abc");
+    memcpy(kept, image, IMAGE);
+    const size_t place = moved_at("/f", "/d/name");
+    static const uint8_t fields[] = {0xc0, 0x8b, 0x5f, 0x92, 0, 0, 0, 0x10, 1, 0, 0, 0, 1, 0, 0, 0, 0, 4};
+    CHECK(memcmp(image + place, fields, sizeof fields) == 0 && memcmp(image + place + HEADER, "name", 4) == 0);
+    CHECK(free_from() == place + HEADER + 4);
+    CHECK(memcmp(image, kept, place) == 0 && memcmp(image + place + HEADER + 4, kept + place + HEADER + 4, IMAGE - place - HEADER - 4) == 0);
+}
+
+/* Names and places change; id, contents, handles and what lies below stay, through a collection too. */
+static void moves(void) {
+    nffs_handle handle;
+    uint8_t buffer[4];
+    NEED(nffs_volume_format(&flash) == NFFS_OK);
+    directory("/d");
+    directory("/d/e");
+    file("/d/e/f", "abcd");
+    file("/g", "other");
+    CHECK(nffs_volume_open(&flash, NULL, "/d/e/f", &handle) == NFFS_OK);
+    CHECK(nffs_volume_read(&flash, &handle, buffer, 2).given == 2);
+    CHECK(nffs_volume_rename(&flash, "/d/e", "f", "h") == NFFS_OK && at("/d/e/f") == NFFS_NOT_FOUND && leads("/d/e/h", FILE_ID));
+    CHECK(moved("/d/e", "/k") == NFFS_OK && at("/d/e") == NFFS_NOT_FOUND && at("/d/e/h") == NFFS_NOT_FOUND && leads("/k/h", FILE_ID));
+    CHECK(moved("/d", "/k/d") == NFFS_OK && at("/k/d") == NFFS_OK);
+    CHECK(moved("/k/h", "/d") == NFFS_OK && leads("/d", FILE_ID) && reads("/d", "abcd"));
+    CHECK(nffs_volume_read(&flash, &handle, buffer, 4).given == 2 && memcmp(buffer, "cd", 2) == 0 && handle.id == FILE_ID);
+    /* an old name is free again */
+    CHECK(nffs_volume_create(&flash, NULL, "/k/h", NFFS_FILE).number == NFFS_OK && reads("/k/h", ""));
+    for (int i = 0; i < 2; i++) {
+        CHECK(nffs_volume_collect(&flash) == NFFS_OK && reads("/d", "abcd") && reads("/g", "other") && at("/k/d") == NFFS_OK);
+    }
+    CHECK(nffs_volume_report(&flash).live == 6 && nffs_volume_report(&flash).inodes == 6);
+}
+
+/* No id is new: with all of them used a rename is still accepted. The longest name is. */
+static void limits(void) {
+    enum { MOST = 256, LENGTH = 16384 };
+    static uint8_t wide[2 * LENGTH];
+    static const nffs_area two[] = {{0, LENGTH}, {LENGTH, LENGTH}};
+    const nffs_volume volume = {wide, sizeof wide, two, 2};
+    char name[258] = "/";
+    NEED(nffs_volume_format(&volume) == NFFS_OK);
+    for (int i = 1; i < MOST; i++) {
+        snprintf(name + 1, 8, "%d", i);
+        NEED(nffs_volume_create(&volume, NULL, name, NFFS_FILE).number == NFFS_OK);
+    }
+    CHECK(nffs_volume_create(&volume, NULL, "/x", NFFS_FILE).number == NFFS_TOO_MANY_IDS);
+    CHECK(nffs_volume_rename(&volume, NULL, "/1", "/x") == NFFS_OK);
+    memset(name + 1, 'n', 256);
+    CHECK(nffs_volume_rename(&volume, NULL, "/x", name) == NFFS_BAD_PATH);
+    name[256] = '\0';
+    CHECK(nffs_volume_rename(&volume, NULL, "/x", name) == NFFS_OK && nffs_volume_lookup(&volume, NULL, name).id == FILE_ID);
+    CHECK(nffs_volume_report(&volume).inodes == MOST && nffs_volume_report(&volume).live == MOST);
+}
+
+/* The update of a table up to its end, in a directory of its own; gives the places of the deletion and of the new name. */
+static void updated(size_t *deletion, size_t *renamed) {
+    NEED(nffs_volume_format(&flash) == NFFS_OK);
+    directory("/dose");
+    file("/dose/table", "old");
+    file("/dose/table.new", "new");
+    *deletion = free_from();
+    NEED(nffs_volume_unlink(&flash, NULL, "/dose/table") == NFFS_OK);
+    *renamed = moved_at("/dose/table.new", "/dose/table");
+    NEED(reads("/dose/table", "new") && at("/dose/table.new") == NFFS_NOT_FOUND);
+}
+
+/* What damage to the last records of an update leaves. */
+static void damaged_update(void) {
+    size_t deletion, renamed;
+    /* the new name is lost, and the old one back: finished once more, when a collection has made the area clean */
+    updated(&deletion, &renamed);
+    damage(renamed);
+    CHECK(at("/dose/table") == NFFS_NOT_FOUND && reads("/dose/table.new", "new") && nffs_volume_report(&flash).stretches == 1);
+    CHECK(moved("/dose/table.new", "/dose/table") == NFFS_NO_ROOM && nffs_volume_collect(&flash) == NFFS_OK);
+    CHECK(moved("/dose/table.new", "/dose/table") == NFFS_OK && reads("/dose/table", "new"));
+    /* the deletion is lost, and the old table back: two have the name */
+    updated(&deletion, &renamed);
+    damage(deletion);
+    CHECK(at("/dose/table") == NFFS_AMBIGUOUS && at("/dose/table.new") == NFFS_NOT_FOUND && nffs_volume_report(&flash).stretches == 1);
+    CHECK(moved("/dose/table", "/dose/x") == NFFS_AMBIGUOUS && nffs_volume_unlink(&flash, NULL, "/dose/table") == NFFS_AMBIGUOUS);
+    CHECK(nffs_volume_collect(&flash) == NFFS_OK && moved("/dose", "/lost") == NFFS_OK && at("/dose/table") == NFFS_NOT_FOUND);
+    /* both are */
+    updated(&deletion, &renamed);
+    damage(deletion);
+    damage(renamed);
+    CHECK(reads("/dose/table", "old") && reads("/dose/table.new", "new"));
+    /* the new name is lost after the next update has begun: two have the old one */
+    updated(&deletion, &renamed);
+    file("/dose/table.new", "next");
+    damage(renamed);
+    CHECK(at("/dose/table") == NFFS_NOT_FOUND && at("/dose/table.new") == NFFS_AMBIGUOUS);
+    /* stale: the bytes are those from before the rename, and no stretch tells it */
+    updated(&deletion, &renamed);
+    memset(image + renamed, 0xff, free_from() - renamed);
+    CHECK(at("/dose/table") == NFFS_NOT_FOUND && reads("/dose/table.new", "new") && nffs_volume_report(&flash).stretches == 0);
+}
+
+/* Power that is lost in the middle of the rename: of its record only the first bytes are stored. All is as before it, and when a collection has
+   made the area clean, it is finished. */
+static void torn_update(void) {
+    const size_t size = HEADER + strlen("table");
+    size_t deletion, renamed;
+    for (size_t stored = 1; stored < size; stored++) {
+        updated(&deletion, &renamed);
+        memset(image + renamed + stored, 0xff, size - stored);
+        CHECK(at("/dose/table") == NFFS_NOT_FOUND && reads("/dose/table.new", "new") && nffs_volume_report(&flash).stretches == 1);
+        CHECK(moved("/dose/table.new", "/dose/table") == NFFS_NO_ROOM && nffs_volume_collect(&flash) == NFFS_OK);
+        CHECK(moved("/dose/table.new", "/dose/table") == NFFS_OK && reads("/dose/table", "new"));
+    }
+}
+
+/* What else an updater is told: handles, a first table, and several tables at once in a directory. */
+static void updates(void) {
+    nffs_handle old, new;
+    uint8_t byte;
+    NEED(nffs_volume_format(&flash) == NFFS_OK);
+    file("/table", "old");
+    file("/table.new", "new");
+    NEED(nffs_volume_open(&flash, NULL, "/table", &old) == NFFS_OK && nffs_volume_open(&flash, NULL, "/table.new", &new) == NFFS_OK);
+    CHECK(nffs_volume_unlink(&flash, NULL, "/table") == NFFS_OK && nffs_volume_read(&flash, &old, &byte, 1).number == NFFS_NOT_FOUND);
+    /* a collection in between changes nothing of what is found */
+    CHECK(nffs_volume_collect(&flash) == NFFS_OK && at("/table") == NFFS_NOT_FOUND && reads("/table.new", "new"));
+    CHECK(moved("/table.new", "/table") == NFFS_OK && nffs_volume_read(&flash, &new, &byte, 1).given == 1 && byte == 'n');
+    /* the first table of all, in part: it looks as if the old one had been unlinked */
+    NEED(nffs_volume_format(&flash) == NFFS_OK);
+    file("/table.new", "n");
+    CHECK(at("/table") == NFFS_NOT_FOUND && at("/table.new") == NFFS_OK);
+
+    NEED(nffs_volume_format(&flash) == NFFS_OK);
+    directory("/tables");
+    file("/tables/a", "old a");
+    file("/tables/b", "old b");
+    directory("/tables.new");
+    file("/tables.new/a", "new a");
+    file("/tables.new/b", "new b");
+    CHECK(reads("/tables/a", "old a") && reads("/tables/b", "old b") && nffs_volume_unlink(&flash, NULL, "/tables") == NFFS_OK);
+    CHECK(moved("/tables.new", "/tables") == NFFS_OK && reads("/tables/a", "new a") && reads("/tables/b", "new b"));
+}
+
+/* Where nothing leads to it any more: the record before it was collected, or names a directory that is deleted, or lies below it by now. */
+static void lost(void) {
+    NEED(nffs_volume_format(&flash) == NFFS_OK);
+    file("/a", "abc");
+    CHECK(moved("/a", "/other") == NFFS_OK && nffs_volume_collect(&flash) == NFFS_OK && reads("/other", "abc"));
+    /* the first record that was copied is the root's, the second the file's block, and then comes its name */
+    damage(free_from() - HEADER - 5);
+    CHECK(at("/other") == NFFS_NOT_FOUND && at("/a") == NFFS_NOT_FOUND && nffs_volume_report(&flash).inodes == 1);
+
+    NEED(nffs_volume_format(&flash) == NFFS_OK);
+    directory("/d");
+    file("/d/f", "abc");
+    size_t renamed = moved_at("/d/f", "/f");
+    CHECK(nffs_volume_unlink(&flash, NULL, "/d") == NFFS_OK && reads("/f", "abc"));
+    damage(renamed);
+    CHECK(at("/f") == NFFS_NOT_FOUND && nffs_volume_report(&flash).live == 1);
+
+    NEED(nffs_volume_format(&flash) == NFFS_OK);
+    directory("/d");
+    directory("/d/e");
+    renamed = moved_at("/d/e", "/e");
+    CHECK(moved("/d", "/e/d") == NFFS_OK && at("/e/d") == NFFS_OK);
+    damage(renamed);
+    CHECK(at("/e") == NFFS_NOT_FOUND && at("/d") == NFFS_NOT_FOUND && nffs_volume_report(&flash).live == 1);
+}
+
+int main(void) {
+    refusals();
+    record();
+    moves();
+    limits();
+    damaged_update();
+    torn_update();
+    updates();
+    lost();
+    printf("%u passed, %u failed\n", passed, failed);
+    return failed != 0;
+}
