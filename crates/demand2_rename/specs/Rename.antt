@@ -149,7 +149,8 @@ pub record AfterRename (image image′ : Bytes) (ds : List Descriptor) (base old
   -- "Moving a directory below itself, or the root" and "the new name being there" are refused: neither path begins with the other
   pub new-apart : (ns : List Bytes) → pathNames base new ≢ pathNames base old ++ ns
   pub old-apart : (ns : List Bytes) → pathNames base old ≢ pathNames base new ++ ns
-  -- every path at or below the new one, which found nothing, answers what the same rest below the old one answered, whatever the answer
+  -- every good path at or below the new one, which found nothing, answers what the same rest below the old one answered, whatever the answer;
+  -- where the new names are longer than the old ones, what lies deep below may have no good path any more (it is read by its id as before)
   pub was-free : (b p : Bytes) (ns : List Bytes) → goodPath b p ≡ true → pathNames b p ≡ pathNames base new ++ ns → resolve image ds b p ≡ absent 9
   pub at-new : (b p : Bytes) (ns : List Bytes) → goodPath b p ≡ true → pathNames b p ≡ pathNames base new ++ ns
       → resolve image′ ds b p ≡ lookupNames byBytes (volume image ds) (pathNames base old ++ ns)
@@ -163,7 +164,8 @@ pub record AfterRename (image image′ : Bytes) (ds : List Descriptor) (base old
   -- "Everything that isn't the moved object or below it keeps its path": what was found there is found there
   pub paths : (b p : Bytes) (j : ℕ) → resolve image ds b p ≡ found j → ¬ List·Memᴰ inode (lineage byBytes (volume image ds) j)
       → resolve image′ ds b p ≡ found j
-  -- what is the moved object or below it was found by a path at or below the old one, and is found by the same rest below the new one
+  -- what is the moved object or below it was found by a path at or below the old one, and is found by every good path of the same rest below the
+  -- new one
   pub moved-paths : (b p : Bytes) (j : ℕ) → resolve image ds b p ≡ found j → List·Memᴰ inode (lineage byBytes (volume image ds) j)
       → (ns : List Bytes) × (pathNames b p ≡ pathNames base old ++ ns)
       × ((c q : Bytes) → goodPath c q ≡ true → pathNames c q ≡ pathNames base new ++ ns → resolve image′ ds c q ≡ found j)
