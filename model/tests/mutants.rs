@@ -152,6 +152,10 @@ impl Engine for Wrapped {
         MODEL.unlink(image, areas, base, path)
     }
 
+    fn rename(&self, i: &mut [u8], areas: &[u32], base: &[u8], old: &[u8], new: &[u8]) -> u32 {
+        MODEL.rename(i, areas, base, old, new)
+    }
+
     fn collect(&self, image: &mut [u8], areas: &[u32]) -> u32 {
         let before = image.to_vec();
         let number = MODEL.collect(image, areas);
