@@ -18,7 +18,7 @@ fn tally(seeds: std::ops::Range<u64>) -> Tally {
 }
 
 /// The numbers that the documents allow each call.
-const ANSWERS: [(&str, &[u32]); 11] = [
+const ANSWERS: [(&str, &[u32]); 12] = [
     ("Format", &[0, 1, 3]),
     ("Report", &[0, 1, 2, 3, 4, 5, 6, 7]),
     ("AreaReport", &[0, 1]),
@@ -29,6 +29,7 @@ const ANSWERS: [(&str, &[u32]); 11] = [
     ("Create", &[0, 1, 2, 3, 4, 5, 6, 7, 8, 9, 10, 11, 12, 15]),
     ("Append", &[0, 1, 2, 3, 4, 5, 6, 7, 8, 9, 10, 11, 13, 15]),
     ("Unlink", &[0, 1, 2, 3, 4, 5, 6, 7, 8, 9, 10, 11, 15, 16]),
+    ("Rename", &[0, 1, 2, 3, 4, 5, 6, 7, 8, 9, 10, 11, 12, 15, 16, 18]),
     ("Collect", &[0, 1, 2, 3, 4, 5, 6, 7, 17]),
 ];
 
