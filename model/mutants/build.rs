@@ -8,7 +8,7 @@ use std::path::Path;
 use std::{env, fs};
 
 /// Each module that has edits, and which are copied for them.
-const COPIED: [(&str, &[&str]); 9] = [
+const COPIED: [(&str, &[&str]); 10] = [
     (
         "layout",
         &["layout", "area", "mount", "area_report", "lookup", "file", "write", "rename", "collect"],
@@ -20,6 +20,7 @@ const COPIED: [(&str, &[&str]); 9] = [
     ("lookup", &["lookup", "file", "write", "rename"]),
     ("file", &["file", "write"]),
     ("write", &["write", "rename"]),
+    ("rename", &["rename"]),
     ("collect", &["collect"]),
 ];
 
