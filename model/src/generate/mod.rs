@@ -13,6 +13,7 @@ mod renames;
 mod stretches;
 mod tables;
 
+pub use paths::names_of;
 pub use random::Random;
 
 use crate::compare::Case;

@@ -30,12 +30,15 @@ pub enum Rule {
     Room,
 }
 
-/// A rename, with the names of its paths where they are good.
+/// A rename, with the names of its paths where they are good, and where they lead.
 struct Rename<'a> {
     fs: &'a FileSystem,
     old: Option<Vec<Vec<u8>>>,
     /// Not of "/".
     new: Option<Vec<Vec<u8>>>,
+    moved: Option<Result<u32, Refusal>>,
+    /// Where the new name is to stand and isn't yet.
+    parent: Option<Result<u32, Refusal>>,
 }
 
 /// The rules that a rename breaks, each asked by itself and for names alone where
@@ -47,14 +50,19 @@ pub fn broken_rules(fs: &FileSystem, base: &[u8], old: &[u8], new: &[u8]) -> Vec
 
 impl Rename<'_> {
     fn of<'a>(fs: &'a FileSystem, base: &[u8], old: &[u8], new: &[u8]) -> Rename<'a> {
+        let old = path::names(base, old).ok();
         let new = path::names(base, new).ok().filter(|names| !names.is_empty());
-        Rename { fs, old: path::names(base, old).ok(), new }
+        let moved = old.as_ref().map(|names| walk(fs, names));
+        let parent = new.as_ref().and_then(|names| names.split_last()).map(|(name, above)| {
+            walk(fs, above).and_then(|parent| name_is_new(fs, parent, name).map(|()| parent))
+        });
+        Rename { fs, old, new, moved, parent }
     }
 
     fn broken(&self) -> Vec<(Rule, u32)> {
         let bad = self.old.is_none() || self.new.is_none();
-        let old_walk = self.moved().and_then(Result::err);
-        let new_walk = self.parent().and_then(Result::err);
+        let old_walk = self.moved.and_then(Result::err);
+        let new_walk = self.parent.and_then(Result::err);
         let mut rules = vec![
             (Rule::Path, bad.then_some(Refusal::BadRequest)),
             (Rule::OldWalk, old_walk),
@@ -69,20 +77,9 @@ impl Rename<'_> {
         rules.into_iter().filter_map(|(rule, broken)| Some((rule, broken?.number()))).collect()
     }
 
-    fn moved(&self) -> Option<Result<u32, Refusal>> {
-        self.old.as_ref().map(|names| walk(self.fs, names))
-    }
-
     /// The counting record of what is to be moved.
     fn inode(&self) -> Option<&Inode> {
-        self.fs.inode(self.moved()?.ok()?)
-    }
-
-    /// Where the new name is to stand and isn't yet.
-    fn parent(&self) -> Option<Result<u32, Refusal>> {
-        let (name, above) = self.new.as_ref()?.split_last()?;
-        let asked = |parent: u32| name_is_new(self.fs, parent, name).map(|()| parent);
-        Some(walk(self.fs, above).and_then(asked))
+        self.fs.inode(self.moved?.ok()?)
     }
 
     /// By how many names the new path is longer than the old one with which it
@@ -137,7 +134,7 @@ fn refused(rules: &[(Rule, u32)]) -> Vec<Made> {
 }
 
 fn in_accepted(rename: &Rename) -> Vec<Made> {
-    let (Some(inode), Some(Ok(parent))) = (rename.inode(), rename.parent()) else {
+    let (Some(inode), Some(Ok(parent))) = (rename.inode(), rename.parent) else {
         return Vec::new();
     };
     let fs = rename.fs;

@@ -169,17 +169,14 @@ fn strange_names(r: &mut Random) -> Names {
 
 /// Names that are free, taken, below the old path, below a file or nowhere.
 fn new_names(r: &mut Random, fs: &FileSystem, live: &[u32], old: &[Vec<u8>]) -> Names {
-    let moved = walk(fs, old).unwrap_or(ROOT);
-    let within: Vec<u32> =
-        live.iter().copied().filter(|id| moved == ROOT || is_within(fs, *id, moved)).collect();
     let (directories, files): (Vec<u32>, Vec<u32>) =
         live.iter().copied().partition(|id| is_directory(*id));
     let mut names = match r.below(24) {
         0..=3 => old[..old.len().saturating_sub(1)].to_vec(),
         4..=9 => names_of(fs, r.pick(&directories)),
         10 | 11 => old[..r.below(old.len().max(1))].to_vec(),
-        12..=15 => below(r, fs, &within),
-        16 => return names_of(fs, if within.is_empty() { ROOT } else { r.pick(&within) }),
+        12..=15 => below(r, fs, &directories, old),
+        16 => return within(r, fs, live, old),
         17 => return names_of(fs, taken(r, fs, live)),
         18 => return old.to_vec(),
         19 => names_of(fs, if files.is_empty() { ROOT } else { r.pick(&files) }),
@@ -203,16 +200,26 @@ fn taken(r: &mut Random, fs: &FileSystem, live: &[u32]) -> u32 {
     r.pick(&twins)
 }
 
-/// A directory among these, which lie below one another: any, or the deepest.
-fn below(r: &mut Random, fs: &FileSystem, within: &[u32]) -> Names {
-    let directories: Vec<u32> = within.iter().copied().filter(|id| is_directory(*id)).collect();
-    if directories.is_empty() {
-        return Names::new();
-    }
+/// What is to be moved or lies below it, of these ids; the root if there is none.
+fn within(r: &mut Random, fs: &FileSystem, of: &[u32], old: &[Vec<u8>]) -> Names {
+    let moved = walk(fs, old).unwrap_or(ROOT);
+    let within: Vec<u32> =
+        of.iter().copied().filter(|id| moved == ROOT || is_within(fs, *id, moved)).collect();
+    names_of(fs, if within.is_empty() { ROOT } else { r.pick(&within) })
+}
+
+/// A directory below what is to be moved: any, or a deep one.
+fn below(r: &mut Random, fs: &FileSystem, directories: &[u32], old: &[Vec<u8>]) -> Names {
+    let one = within(r, fs, directories, old);
     if r.chance(50) {
-        return names_of(fs, r.pick(&directories));
+        return one;
     }
-    directories.iter().map(|id| names_of(fs, *id)).max_by_key(Vec::len).unwrap_or_default()
+    let other = within(r, fs, directories, old);
+    if other.len() > one.len() {
+        other
+    } else {
+        one
+    }
 }
 
 /// A name; where there is little room, oftener one whose record just fits or is
