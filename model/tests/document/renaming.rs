@@ -625,6 +625,28 @@ fn a_damaged_record_gives_ten() {
     assert_eq!(find(&flipped(&flash, start + 20, 0), "/a"), Err(10));
 }
 
+/// "may": where the old record is collected by now, or its directory unlinked,
+/// nothing has the old name, and by id nothing is read.
+#[test]
+fn a_damaged_record_leaves_nothing() {
+    let mut flash = tree();
+    assert_eq!(rename(&mut flash, "/a", "/b"), 0);
+    assert_eq!(collect(&mut flash), 0);
+    let record = Inode::new(B, 1, ROOT, b"b").bytes();
+    let at = flash.image.windows(record.len()).position(|bytes| bytes == record).expect("a copy");
+    flash.image[at] ^= 1;
+    let names = ["/a", "/b"].map(|path| find(&flash, path));
+    assert_eq!((names, read(&flash, B, 0, 9).0.number, report(&flash).inodes), ([Err(9); 2], 9, 6));
+
+    let mut flash = tree();
+    let start = flash.next(1);
+    assert_eq!(rename(&mut flash, "/d/e/f", "/f"), 0);
+    assert_eq!(unlink(&mut flash, "/d"), 0);
+    assert_eq!(contents(&flash, "/f"), Ok(b"dose".to_vec()));
+    let damaged = flipped(&flash, start + 20, 0);
+    assert_eq!((find(&damaged, "/f"), read(&damaged, A, 0, 9).0.number), (Err(9), 9));
+}
+
 /// The updater's: with the unlink's record damaged "table" is there twice, 10; with
 /// the rename's damaged besides, the old table alone.
 #[test]
