@@ -25,8 +25,7 @@ const COPIED: [(&str, &[&str]); 10] = [
 ];
 
 /// The modules whose functions an engine calls.
-const CALLED: [&str; 7] =
-    ["mount", "area_report", "lookup", "file", "write", "rename", "collect"];
+const CALLED: [&str; 7] = ["mount", "area_report", "lookup", "file", "write", "rename", "collect"];
 
 fn main() {
     println!("cargo::rerun-if-changed=edits");
