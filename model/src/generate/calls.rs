@@ -147,7 +147,7 @@ impl Maker {
     }
 
     /// Where a table is about full, oftener a call that needs a place in it; where
-    /// directories lie deep, oftener a rename.
+    /// directories lie deep or a sequence is the last one, oftener a rename.
     fn kind_of_call(&mut self) -> usize {
         let (inodes, blocks) = self.places_left();
         if inodes <= ABOUT_FULL && self.r.chance(40) {
