@@ -8,20 +8,24 @@ use std::path::Path;
 use std::{env, fs};
 
 /// Each module that has edits, and which are copied for them.
-const COPIED: [(&str, &[&str]); 9] = [
-    ("layout", &["layout", "area", "mount", "area_report", "lookup", "file", "write", "collect"]),
-    ("area", &["area", "mount", "area_report", "lookup", "file", "write", "collect"]),
-    ("mount", &["mount", "area_report", "lookup", "file", "write", "collect"]),
+const COPIED: [(&str, &[&str]); 10] = [
+    (
+        "layout",
+        &["layout", "area", "mount", "area_report", "lookup", "file", "write", "rename", "collect"],
+    ),
+    ("area", &["area", "mount", "area_report", "lookup", "file", "write", "rename", "collect"]),
+    ("mount", &["mount", "area_report", "lookup", "file", "write", "rename", "collect"]),
     ("area_report", &["area_report"]),
-    ("path", &["path", "lookup", "file", "write"]),
-    ("lookup", &["lookup", "file", "write"]),
+    ("path", &["path", "lookup", "file", "write", "rename"]),
+    ("lookup", &["lookup", "file", "write", "rename"]),
     ("file", &["file", "write"]),
-    ("write", &["write"]),
+    ("write", &["write", "rename"]),
+    ("rename", &["rename"]),
     ("collect", &["collect"]),
 ];
 
 /// The modules whose functions an engine calls.
-const CALLED: [&str; 6] = ["mount", "area_report", "lookup", "file", "write", "collect"];
+const CALLED: [&str; 7] = ["mount", "area_report", "lookup", "file", "write", "rename", "collect"];
 
 fn main() {
     println!("cargo::rerun-if-changed=edits");

@@ -36,6 +36,7 @@ pub trait Engine {
     fn append(&self, image: &mut [u8], areas: &[u32], base: &[u8], path: &[u8], data: &[u8])
         -> u32;
     fn unlink(&self, image: &mut [u8], areas: &[u32], base: &[u8], path: &[u8]) -> u32;
+    fn rename(&self, image: &mut [u8], areas: &[u32], base: &[u8], old: &[u8], new: &[u8]) -> u32;
     fn collect(&self, image: &mut [u8], areas: &[u32]) -> u32;
 }
 
@@ -94,6 +95,9 @@ impl Engine for Model {
     }
     fn unlink(&self, image: &mut [u8], areas: &[u32], base: &[u8], path: &[u8]) -> u32 {
         crate::unlink(image, areas, base, path)
+    }
+    fn rename(&self, image: &mut [u8], areas: &[u32], base: &[u8], old: &[u8], new: &[u8]) -> u32 {
+        crate::rename(image, areas, base, old, new)
     }
     fn collect(&self, image: &mut [u8], areas: &[u32]) -> u32 {
         crate::collect(image, areas)
@@ -155,6 +159,12 @@ pub enum Call {
         base: Vec<u8>,
         path: Vec<u8>,
     },
+    /// The base serves both paths.
+    Rename {
+        base: Vec<u8>,
+        old: Vec<u8>,
+        new: Vec<u8>,
+    },
     Collect,
 }
 
@@ -174,6 +184,7 @@ impl Call {
             Call::Create { .. } => "Create",
             Call::Append { .. } => "Append",
             Call::Unlink { .. } => "Unlink",
+            Call::Rename { .. } => "Rename",
             Call::Collect => "Collect",
         }
     }
@@ -221,7 +232,6 @@ impl Side {
                 image.iter_mut().skip(*offset).zip(bytes).for_each(|(old, new)| *old = *new);
             }
             Call::Handle { id, position } => self.handle = Handle { id: *id, position: *position },
-            Call::Format => return vec![engine.format(image, areas)],
             Call::Report => return reported(&engine.report(image, areas)),
             Call::AreaReport { index, stretch } => {
                 return area_reported(&engine.area_report(image, areas, *index, *stretch))
@@ -241,17 +251,27 @@ impl Side {
                 return self.read_at(engine, *id, *position, *length)
             }
             Call::Read { length } => return self.read(engine, *length),
+            write => return self.write(engine, write),
+        }
+        Vec::new()
+    }
+
+    /// A call that may change the image.
+    fn write(&mut self, engine: &dyn Engine, call: &Call) -> Answer {
+        let Side { image, areas, .. } = self;
+        let number = match call {
+            Call::Format => engine.format(image, areas),
             Call::Create { base, path, kind } => {
                 let created = engine.create(image, areas, base, path, *kind);
                 return vec![created.number, created.id];
             }
-            Call::Append { base, path, data } => {
-                return vec![engine.append(image, areas, base, path, data)]
-            }
-            Call::Unlink { base, path } => return vec![engine.unlink(image, areas, base, path)],
-            Call::Collect => return vec![engine.collect(image, areas)],
-        }
-        Vec::new()
+            Call::Append { base, path, data } => engine.append(image, areas, base, path, data),
+            Call::Unlink { base, path } => engine.unlink(image, areas, base, path),
+            Call::Rename { base, old, new } => engine.rename(image, areas, base, old, new),
+            Call::Collect => engine.collect(image, areas),
+            _ => return Vec::new(),
+        };
+        vec![number]
     }
 
     fn read_at(&mut self, engine: &dyn Engine, id: u32, position: u32, length: usize) -> Answer {
@@ -409,6 +429,10 @@ fn show_call(call: &Call) -> String {
         Call::Lookup { base, path } => format!("Call::Lookup {{ {} }}", two(base, path)),
         Call::Open { base, path } => format!("Call::Open {{ {} }}", two(base, path)),
         Call::Unlink { base, path } => format!("Call::Unlink {{ {} }}", two(base, path)),
+        Call::Rename { base, old, new } => {
+            let (base, old, new) = (text(base), text(old), text(new));
+            format!("Call::Rename {{ base: {base}, old: {old}, new: {new} }}")
+        }
         Call::Create { base, path, kind } => {
             format!("Call::Create {{ {}, kind: {kind} }}", two(base, path))
         }

@@ -1,6 +1,6 @@
 //! An ordinary Rust model of document 01 (NFFS version 0 over a lent image) as
-//! T-03, T-06, T-08 and T-14 of document 02 amend it, written from the documents
-//! alone, to be compared with the implementation.
+//! T-01, T-03, T-06, T-08 and T-14 of document 02 amend it, written from the
+//! documents alone, to be compared with the implementation.
 //!
 //! Every call answers from the bytes alone, as if the image were mounted anew.
 //! `areas` holds offset and length in turn. `number` is 0 or a refusal; a
@@ -23,6 +23,7 @@ pub mod lookup;
 pub mod mount;
 pub mod path;
 pub mod refusal;
+pub mod rename;
 mod shrink;
 pub mod write;
 
@@ -131,6 +132,11 @@ pub fn append(image: &mut [u8], areas: &[u32], base: &[u8], path: &[u8], data: &
 
 pub fn unlink(image: &mut [u8], areas: &[u32], base: &[u8], path: &[u8]) -> u32 {
     write::unlink(image, areas, base, path)
+}
+
+/// One base serves both paths.
+pub fn rename(image: &mut [u8], areas: &[u32], base: &[u8], old: &[u8], new: &[u8]) -> u32 {
+    rename::rename(image, areas, base, old, new)
 }
 
 pub fn collect(image: &mut [u8], areas: &[u32]) -> u32 {

@@ -20,7 +20,7 @@ pub enum Refusal {
     /// no record of id 0
     NoRoot = 7,
     /// bad path or name; over 8,192 bytes to append; creating or unlinking the
-    /// root
+    /// root; rename: "A new path "/" is 8" (document 02, T-01)
     BadRequest = 8,
     /// no such child, or a handle's id isn't live
     Absent = 9,
@@ -28,7 +28,8 @@ pub enum Refusal {
     Ambiguous = 10,
     /// a file where a directory is needed, or the reverse
     WrongKind = 11,
-    /// create: the name is there (once or oftener)
+    /// create: the name is there (once or oftener); rename: "the new name being
+    /// there is 12" (T-01)
     NameTaken = 12,
     /// read or append of a broken file
     Broken = 13,
@@ -36,10 +37,13 @@ pub enum Refusal {
     AfterEnd = 14,
     /// a record fits in no clean file area
     NoRoom = 15,
-    /// unlink: sequence is ffffffff
+    /// unlink, rename (T-01): sequence is ffffffff
     LastSequence = 16,
     /// collect: no file area is as long as the scratch area
     NoSource = 17,
+    /// rename: "Moving a directory below itself, or the root, gets a new number,
+    /// 18, checked after 12" (T-01)
+    BelowItself = 18,
 }
 
 impl Refusal {

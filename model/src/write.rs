@@ -83,13 +83,13 @@ struct Room {
 
 /// The records of one call with their places in the image, "all pieces or
 /// none".
-struct Plan {
+pub struct Plan {
     rooms: Vec<Room>,
     puts: Vec<(usize, Vec<u8>)>,
 }
 
 impl Plan {
-    fn new(fs: &FileSystem) -> Plan {
+    pub fn new(fs: &FileSystem) -> Plan {
         let clean = fs.file_areas.iter().filter(|area| area.reading.is_clean());
         let room =
             |area: &FileArea| Room { at: area.at.start + area.reading.free, end: area.at.end };
@@ -98,7 +98,7 @@ impl Plan {
 
     /// "Each record goes to the first clean file area, in descriptor order,
     /// with room, at the start of its free space", or 15.
-    fn add(&mut self, record: Vec<u8>) -> Result<(), Refusal> {
+    pub fn add(&mut self, record: Vec<u8>) -> Result<(), Refusal> {
         let room = self.rooms.iter_mut().find(|room| room.end - room.at >= record.len());
         let Some(room) = room else { return Err(Refusal::NoRoom) };
         let at = room.at;
@@ -107,7 +107,7 @@ impl Plan {
         Ok(())
     }
 
-    fn write(self, image: &mut [u8]) {
+    pub fn write(self, image: &mut [u8]) {
         for (at, record) in self.puts {
             put(image, at, &record);
         }
@@ -146,7 +146,7 @@ fn try_create(
 
 /// "a name asked for below a file is 11 ... create's last name included; ...
 /// for that name, in a directory, only 12 is asked."
-fn name_is_new(fs: &FileSystem, parent: u32, name: &[u8]) -> Result<(), Refusal> {
+pub fn name_is_new(fs: &FileSystem, parent: u32, name: &[u8]) -> Result<(), Refusal> {
     if !is_directory(parent) {
         return Err(Refusal::WrongKind);
     }

@@ -4,7 +4,7 @@
 use std::collections::BTreeSet;
 use std::time::Instant;
 
-use nffs_model::compare::{bytes, compare, hex, run, Call, Case, Model, Tally};
+use nffs_model::compare::{bytes, compare, hex, run, show, Call, Case, Model, Tally};
 use nffs_model::generate::{self, made};
 
 /// Fewer without optimisation.
@@ -18,7 +18,7 @@ fn tally(seeds: std::ops::Range<u64>) -> Tally {
 }
 
 /// The numbers that the documents allow each call.
-const ANSWERS: [(&str, &[u32]); 11] = [
+const ANSWERS: [(&str, &[u32]); 12] = [
     ("Format", &[0, 1, 3]),
     ("Report", &[0, 1, 2, 3, 4, 5, 6, 7]),
     ("AreaReport", &[0, 1]),
@@ -29,6 +29,7 @@ const ANSWERS: [(&str, &[u32]); 11] = [
     ("Create", &[0, 1, 2, 3, 4, 5, 6, 7, 8, 9, 10, 11, 12, 15]),
     ("Append", &[0, 1, 2, 3, 4, 5, 6, 7, 8, 9, 10, 11, 13, 15]),
     ("Unlink", &[0, 1, 2, 3, 4, 5, 6, 7, 8, 9, 10, 11, 15, 16]),
+    ("Rename", &[0, 1, 2, 3, 4, 5, 6, 7, 8, 9, 10, 11, 12, 15, 16, 18]),
     ("Collect", &[0, 1, 2, 3, 4, 5, 6, 7, 17]),
 ];
 
@@ -94,11 +95,16 @@ fn a_pasted_case() {
             Call::Damage { offset: 4096 + 103, bytes: bytes("01") },
             Call::Damage { offset: 4096 + 70, bytes: bytes("01") },
             Call::Read { length: 20 },
+            Call::Rename { base: bytes("2f"), old: bytes("61"), new: bytes("62") },
         ],
     };
     let mut tally = Tally::default();
     assert!(run(&case, &Model, &Model, &mut tally).is_none());
-    assert_eq!(tally.calls, 6);
+    assert_eq!(tally.calls, 7);
     assert_eq!(tally.answers.get(&("Read", 13)), Some(&1));
     assert_eq!(tally.answers.get(&("AreaReport", 1)), Some(&1));
+    // The one file area has damage.
+    assert_eq!(tally.answers.get(&("Rename", 15)), Some(&1));
+    let text = "Call::Rename { base: bytes(\"2f\"), old: bytes(\"61\"), new: bytes(\"62\") },";
+    assert!(show(&case, &Model, &Model).contains(text));
 }

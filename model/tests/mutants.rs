@@ -37,6 +37,10 @@ enum Impostor {
     FormatErasesEverything,
     WalkBeforeEight,
     SeventeenthEntryIgnored,
+    RenameStoresNothing,
+    RenameByCreateAndUnlink,
+    RefusedRenameWrites,
+    NoNumber18,
 }
 
 struct Wrapped(Impostor);
@@ -152,6 +156,22 @@ impl Engine for Wrapped {
         MODEL.unlink(image, areas, base, path)
     }
 
+    fn rename(&self, i: &mut [u8], areas: &[u32], base: &[u8], old: &[u8], new: &[u8]) -> u32 {
+        let before = i.to_vec();
+        let number = MODEL.rename(i, areas, base, old, new);
+        match self.0 {
+            Impostor::RenameStoresNothing => i.copy_from_slice(&before),
+            Impostor::RenameByCreateAndUnlink if number == 0 => {
+                i.copy_from_slice(&before);
+                return copied(i, areas, base, old, new);
+            }
+            Impostor::RefusedRenameWrites if number > 7 => i[0] ^= 1,
+            Impostor::NoNumber18 if number == 18 => return 8,
+            _ => {}
+        }
+        number
+    }
+
     fn collect(&self, image: &mut [u8], areas: &[u32]) -> u32 {
         let before = image.to_vec();
         let number = MODEL.collect(image, areas);
@@ -160,6 +180,18 @@ impl Engine for Wrapped {
         }
         number
     }
+}
+
+/// A new file with the contents of the old one, which is unlinked.
+fn copied(image: &mut [u8], areas: &[u32], base: &[u8], old: &[u8], new: &[u8]) -> u32 {
+    let Lookup { id, kind, .. } = MODEL.lookup(image, areas, base, old);
+    let mut data = vec![0; 8192];
+    let given = MODEL.read_at(image, areas, id, 0, &mut data).given;
+    let created = MODEL.create(image, areas, base, new, kind).number;
+    if kind == 1 {
+        MODEL.append(image, areas, base, new, &data[..given as usize]);
+    }
+    created.max(MODEL.unlink(image, areas, base, old))
 }
 
 #[test]
@@ -184,6 +216,10 @@ fn impostors_at_the_call() {
         Impostor::FormatErasesEverything,
         Impostor::WalkBeforeEight,
         Impostor::SeventeenthEntryIgnored,
+        Impostor::RenameStoresNothing,
+        Impostor::RenameByCreateAndUnlink,
+        Impostor::RefusedRenameWrites,
+        Impostor::NoNumber18,
     ] {
         found(&format!("{impostor:?}"), &Wrapped(impostor));
     }

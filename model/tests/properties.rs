@@ -1,6 +1,6 @@
 //! The demands as properties of the model over generated cases.
 
-use std::collections::BTreeMap;
+use std::collections::{BTreeMap, BTreeSet};
 
 use nffs_model::account::{Added, Books};
 use nffs_model::compare::{Answer, Call, Model, Side};
@@ -9,9 +9,12 @@ use nffs_model::damage::{
     Touched,
 };
 use nffs_model::file::contents;
-use nffs_model::generate::{self, Random};
+use nffs_model::generate::moved::broken_rules;
+use nffs_model::generate::{self, names_of, Random};
 use nffs_model::layout::{is_file, Inode};
+use nffs_model::lookup::walk;
 use nffs_model::mount::{mount, Fate, FileSystem};
+use nffs_model::refusal::Refusal;
 
 const CASES: u64 = if cfg!(debug_assertions) { 500 } else { 3000 };
 
@@ -74,7 +77,14 @@ fn refused_calls_change_nothing() {
 fn records_are_written_over_ff() {
     for seed in 0..CASES {
         each_call(seed, &mut |before, call, _, after| {
-            if matches!(call, Call::Create { .. } | Call::Append { .. } | Call::Unlink { .. }) {
+            let writes = matches!(
+                call,
+                Call::Create { .. }
+                    | Call::Append { .. }
+                    | Call::Unlink { .. }
+                    | Call::Rename { .. }
+            );
+            if writes {
                 let mut pairs = before.image.iter().zip(&after.image);
                 assert!(pairs.all(|(old, new)| old == new || *old == 0xff));
             }
@@ -121,6 +131,16 @@ fn written(before: &Side, call: &Call, answer: &Answer, after: &Side) {
             let id = find(before, base, path).id;
             assert_eq!(new, without(&old, id));
         }
+        Call::Rename { base, old: from, new: to } => {
+            let (id, names) = (find(before, base, from).id, names(base, to));
+            let mut expected = old.clone();
+            let inode = &mut expected.get_mut(&id).expect("it is live").0;
+            inode.sequence += 1;
+            inode.name.clone_from(names.last().expect("a name"));
+            let fs = mount(&before.image, &before.areas).expect("it mounts");
+            inode.parent = walk(&fs, &names[..names.len() - 1]).expect("a directory");
+            assert_eq!(new, expected);
+        }
         Call::Collect => assert_eq!(new, old),
         _ => {}
     }
@@ -138,6 +158,89 @@ fn without(view: &View, id: u32) -> View {
         }
     };
     view.iter().filter(|(at, _)| !below(**at)).map(|(at, entry)| (*at, entry.clone())).collect()
+}
+
+type Names = Vec<Vec<u8>>;
+
+fn names(base: &[u8], path: &[u8]) -> Names {
+    nffs_model::path::names(base, path).expect("a good path")
+}
+
+/// T-01: the order of its rules, and "Everything that isn't the moved object or
+/// below it keeps its path and contents. The moved file keeps its contents."
+#[test]
+fn a_rename_moves_paths() {
+    let mut renames = 0;
+    for seed in 0..CASES {
+        each_call(seed, &mut |before, call, answer, after| {
+            let Call::Rename { base, old, new } = call else { return };
+            first_rule_answers(before, call, answer);
+            if answer[0] == 0 {
+                renames += 1;
+                let [before, after] =
+                    [before, after].map(|s| mount(&s.image, &s.areas).expect("it mounts"));
+                paths_move(&before, &names(base, old), &names(base, new), &after);
+                ids_stay(&before, &after);
+            }
+        });
+    }
+    println!("{renames} renames");
+    assert!(renames > CASES / 10);
+}
+
+/// Each path at or below the new one answers what the same rest below the old one
+/// did, each at or below the old one is 9, and all others answer as before.
+fn paths_move(before: &FileSystem, old: &[Vec<u8>], new: &[Vec<u8>], after: &FileSystem) {
+    for path in paths(before) {
+        let Some(rest) = path.strip_prefix(old) else { continue };
+        assert_eq!(walk(after, &[new, rest].concat()), walk(before, &path));
+        assert_eq!(walk(after, &path), Err(Refusal::Absent));
+    }
+    for path in paths(after) {
+        let Some(rest) = path.strip_prefix(new) else { continue };
+        assert_eq!(walk(after, &path), walk(before, &[old, rest].concat()));
+    }
+    for path in paths(before).into_iter().chain(paths(after)) {
+        if !path.starts_with(old) && !path.starts_with(new) {
+            assert_eq!(walk(after, &path), walk(before, &path));
+        }
+    }
+}
+
+/// The names of live inodes, and below each of them one that isn't there and one
+/// that may be. Of many only some: each takes long where they lie deep.
+fn paths(fs: &FileSystem) -> Vec<Names> {
+    let live: Vec<u32> =
+        fs.inodes().map(|inode| inode.id).filter(|id| fs.fate(*id) == Fate::Live).collect();
+    let mut all = Vec::new();
+    for id in live.iter().step_by(live.len().div_ceil(40)) {
+        let path = names_of(fs, *id);
+        all.extend([&b"not there"[..], b"a"].map(|name| [&path[..], &[name.to_vec()]].concat()));
+        all.push(path);
+    }
+    all
+}
+
+/// Every id keeps its fate, and every file its contents: nothing dies or comes to
+/// life.
+fn ids_stay(before: &FileSystem, after: &FileSystem) {
+    let named = |fs: &FileSystem| fs.accepted().flat_map(|record| record.named()).collect();
+    let ids: BTreeSet<u32> = named(before);
+    assert_eq!(ids.difference(&named(after)).count(), 0);
+    for id in ids {
+        assert_eq!(before.fate(id), after.fate(id), "{id:x}");
+        assert_eq!(contents(before, id), contents(after, id), "{id:x}");
+    }
+    assert_eq!(before.inodes().count(), after.inodes().count());
+    assert!(before.blocks().eq(after.blocks()));
+}
+
+/// Of the rules that a rename breaks the first gives the answer.
+fn first_rule_answers(before: &Side, call: &Call, answer: &Answer) {
+    let Call::Rename { base, old, new } = call else { return };
+    let Ok(fs) = mount(&before.image, &before.areas) else { return };
+    let rules = broken_rules(&fs, base, old, new);
+    assert_eq!(answer[0], rules.first().map_or(0, |(_, number)| *number), "{rules:?}");
 }
 
 /// Demand 3: damage inside records of a mounted image with clean file areas.

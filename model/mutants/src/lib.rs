@@ -41,6 +41,9 @@ macro_rules! engine {
             fn unlink(&self, i: &mut [u8], a: &[u32], base: &[u8], path: &[u8]) -> u32 {
                 write::unlink(i, a, base, path)
             }
+            fn rename(&self, i: &mut [u8], a: &[u32], base: &[u8], old: &[u8], new: &[u8]) -> u32 {
+                rename::rename(i, a, base, old, new)
+            }
             fn collect(&self, i: &mut [u8], a: &[u32]) -> u32 {
                 collect::collect(i, a)
             }

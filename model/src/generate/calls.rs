@@ -3,8 +3,9 @@
 
 use super::images::reserved;
 use super::lists;
-use super::paths::{name, spell};
+use super::paths::{name, names_of, spell, spell_two};
 use super::random::Random;
+use super::renames;
 use super::{FILES, NAMES, SEQUENCES};
 use crate::area;
 use crate::compare::{Call, Case, Model, Side};
@@ -22,6 +23,9 @@ const ABOUT_FULL: usize = 3;
 /// The first of the numbers by which these calls are drawn.
 const CREATE: usize = 44;
 const APPEND: usize = 61;
+const RENAME: usize = 100;
+/// How many of these numbers there are.
+const KINDS: usize = 112;
 
 /// Makes the calls of a case, running the model along.
 pub struct Maker {
@@ -136,12 +140,14 @@ impl Maker {
             APPEND..=77 => self.append(),
             78..=88 => self.unlink(),
             89..=98 => Call::Collect,
+            RENAME.. => self.rename(),
             _ => Call::Format,
         };
         self.push(call);
     }
 
-    /// Where a table is about full, oftener a call that needs a place in it.
+    /// Where a table is about full, oftener a call that needs a place in it; where
+    /// directories lie deep or a sequence is the last one, oftener a rename.
     fn kind_of_call(&mut self) -> usize {
         let (inodes, blocks) = self.places_left();
         if inodes <= ABOUT_FULL && self.r.chance(40) {
@@ -150,7 +156,10 @@ impl Maker {
         if blocks <= ABOUT_FULL && self.r.chance(50) {
             return APPEND;
         }
-        self.r.below(100)
+        if self.mounted.as_ref().is_some_and(renames::is_worth_it) && self.r.chance(30) {
+            return RENAME;
+        }
+        self.r.below(KINDS)
     }
 
     /// How many places the tables have left; all of them if nothing mounts.
@@ -237,6 +246,27 @@ impl Maker {
     fn unlink(&mut self) -> Call {
         let (base, path) = self.some_path(70);
         Call::Unlink { base, path }
+    }
+
+    /// Sometimes as the updater does: the new name's file is unlinked before.
+    /// Sometimes the old name is taken again behind it.
+    fn rename(&mut self) -> Call {
+        let r = &mut self.r;
+        let (old, new) = match &self.mounted {
+            Some(fs) => renames::two_names(r, fs),
+            None => (vec![name(r)], vec![name(r)]),
+        };
+        let (base, old, new) = spell_two(r, &old, &new);
+        let rename = Call::Rename { base: base.clone(), old: old.clone(), new: new.clone() };
+        match self.r.below(10) {
+            0 => self.push(Call::Unlink { base, path: new }),
+            1 | 2 => {
+                self.push(rename);
+                return Call::Create { base, path: old, kind: 1 };
+            }
+            _ => {}
+        }
+        rename
     }
 
     /// Data of an interesting length; sometimes it reads as records itself.
@@ -351,14 +381,8 @@ impl Maker {
         let wants_file = self.r.chance(files);
         let of_kind: Vec<u32> =
             live.iter().copied().filter(|id| is_file(*id) == wants_file).collect();
-        let mut at = if of_kind.is_empty() { self.r.pick(&live) } else { self.r.pick(&of_kind) };
-        let mut names = Vec::new();
-        while at != ROOT {
-            let Some(inode) = fs.inode(at) else { break };
-            names.insert(0, inode.name.clone());
-            at = inode.parent;
-        }
-        names
+        let id = if of_kind.is_empty() { self.r.pick(&live) } else { self.r.pick(&of_kind) };
+        names_of(fs, id)
     }
 
     /// Mostly the path of something live, sometimes of nothing, sometimes bad.
@@ -373,8 +397,9 @@ impl Maker {
         spell(&mut self.r, &names)
     }
 
-    /// Bytes overwritten: inside a record, a header, free space, the scratch
-    /// area or anywhere; or an earlier page comes back.
+    /// Bytes overwritten: inside a record, oftener of a rename where there is one,
+    /// a header, free space, the scratch area or anywhere; or an earlier page
+    /// comes back.
     fn damage(&mut self) {
         let length = self.side.image.len();
         if length == 0 {
@@ -391,6 +416,11 @@ impl Maker {
                 return self.push(Call::Damage { offset, bytes });
             }
         }
+        if self.r.chance(35) {
+            if let Some((offset, bytes)) = self.torn_rename() {
+                return self.push(Call::Damage { offset, bytes });
+            }
+        }
         let offset = self.target().min(length - 1);
         let old = self.side.image[offset];
         let bytes = match self.r.below(4) {
@@ -403,6 +433,13 @@ impl Maker {
             _ => vec![self.r.pick(&[0, 0xff]); self.r.between(1, 24)],
         };
         self.push(Call::Damage { offset, bytes });
+    }
+
+    /// A bit of the record of a rename.
+    fn torn_rename(&mut self) -> Option<(usize, Vec<u8>)> {
+        let record = renames::renamed(&mut self.r, self.mounted.as_ref()?)?;
+        let offset = record.start + self.r.below(record.len());
+        Some((offset, vec![self.side.image[offset] ^ 1 << self.r.below(8)]))
     }
 
     /// The reserved byte of an inode, its check mended, or of a header.

@@ -364,7 +364,7 @@ fn junk_between(r: &mut Random, flash: &mut Flash, area: usize) {
 
 /// Leaves only a few bytes free, or none: a record ends at the area's end or
 /// near it, after FF bytes or directly behind the others.
-fn fill_up(r: &mut Random, flash: &mut Flash, area: usize) {
+pub fn fill_up(r: &mut Random, flash: &mut Flash, area: usize) {
     if r.chance(20) {
         flash.skip(area, 3);
     }

@@ -3,6 +3,7 @@
 
 use std::collections::BTreeSet;
 
+use super::moved::{self, in_rename, Rule};
 use super::stretches::{in_area_report, in_report};
 use crate::area::{self, Reading};
 use crate::collect::{count_precedes, is_eligible, source};
@@ -156,9 +157,51 @@ pub enum Made {
     AreaReportWhere5,
     AreaReportWhere6,
     AreaReportWhere7,
+    /// A rename that this rule alone refuses.
+    RenameBreaks(Rule),
+    /// A rename that the first rule refuses, and the second would by another
+    /// number.
+    RenameBreaksBoth(Rule, Rule),
+    /// A rename that is accepted, here and in those that follow.
+    TwoPathsBelowABase,
+    /// The other is absolute.
+    OnePathBelowABase,
+    DirectoryMovedWithContents,
+    /// To a directory that its own lies below.
+    MovedUp,
+    /// To a directory that lay in the moved one by an older record.
+    MovedBelowAFormerChild,
+    NewNameOf255Bytes,
+    /// Some record has that parent and name, of a child that isn't live or as an
+    /// older version.
+    NameOfAnotherTimeTaken,
+    /// To the last byte.
+    RenameFillsAnArea,
+    RenameInAFullTable,
+    BrokenFileRenamed,
+    /// From the one before it.
+    LastSequenceReached,
+    /// 12, here and in the next two.
+    RenamedToItself,
+    NewNameThereTwice,
+    RootMovedToATakenName,
+    /// 18, here and in those that follow.
+    RootMoved,
+    /// Below a child of the moved directory, or deeper.
+    BelowItselfByTwo,
+    /// Below a grandchild, or deeper.
+    BelowItselfByThree,
+    BelowItselfBy63,
+    /// 15 by one byte.
+    OneByteTooLong,
+    /// Damage to the counting record of a live inode, which is found by an older
+    /// name then.
+    OldNameBack,
+    /// And another live child has that name: 10.
+    OldNameBackBesideAnother,
 }
 
-pub const ALL: [Made; 78] = [
+pub const ALL: [Made; 124] = [
     Made::WholeVolume,
     Made::ThousandsOfNamedIds,
     Made::TenDirectoriesDeep,
@@ -237,6 +280,52 @@ pub const ALL: [Made; 78] = [
     Made::AreaReportWhere5,
     Made::AreaReportWhere6,
     Made::AreaReportWhere7,
+    Made::RenameBreaks(Rule::Path),
+    Made::RenameBreaks(Rule::OldWalk),
+    Made::RenameBreaks(Rule::NewWalk),
+    Made::RenameBreaks(Rule::NewName),
+    Made::RenameBreaks(Rule::BelowItself),
+    Made::RenameBreaks(Rule::Sequence),
+    Made::RenameBreaks(Rule::Room),
+    Made::RenameBreaksBoth(Rule::Path, Rule::OldWalk),
+    Made::RenameBreaksBoth(Rule::Path, Rule::NewWalk),
+    Made::RenameBreaksBoth(Rule::Path, Rule::NewName),
+    Made::RenameBreaksBoth(Rule::Path, Rule::Sequence),
+    Made::RenameBreaksBoth(Rule::Path, Rule::Room),
+    Made::RenameBreaksBoth(Rule::OldWalk, Rule::NewWalk),
+    Made::RenameBreaksBoth(Rule::OldWalk, Rule::NewName),
+    Made::RenameBreaksBoth(Rule::OldWalk, Rule::BelowItself),
+    Made::RenameBreaksBoth(Rule::OldWalk, Rule::Room),
+    Made::RenameBreaksBoth(Rule::NewWalk, Rule::BelowItself),
+    Made::RenameBreaksBoth(Rule::NewWalk, Rule::Sequence),
+    Made::RenameBreaksBoth(Rule::NewWalk, Rule::Room),
+    Made::RenameBreaksBoth(Rule::NewName, Rule::BelowItself),
+    Made::RenameBreaksBoth(Rule::NewName, Rule::Sequence),
+    Made::RenameBreaksBoth(Rule::NewName, Rule::Room),
+    Made::RenameBreaksBoth(Rule::BelowItself, Rule::Sequence),
+    Made::RenameBreaksBoth(Rule::BelowItself, Rule::Room),
+    Made::RenameBreaksBoth(Rule::Sequence, Rule::Room),
+    Made::TwoPathsBelowABase,
+    Made::OnePathBelowABase,
+    Made::DirectoryMovedWithContents,
+    Made::MovedUp,
+    Made::MovedBelowAFormerChild,
+    Made::NewNameOf255Bytes,
+    Made::NameOfAnotherTimeTaken,
+    Made::RenameFillsAnArea,
+    Made::RenameInAFullTable,
+    Made::BrokenFileRenamed,
+    Made::LastSequenceReached,
+    Made::RenamedToItself,
+    Made::NewNameThereTwice,
+    Made::RootMovedToATakenName,
+    Made::RootMoved,
+    Made::BelowItselfByTwo,
+    Made::BelowItselfByThree,
+    Made::BelowItselfBy63,
+    Made::OneByteTooLong,
+    Made::OldNameBack,
+    Made::OldNameBackBesideAnother,
 ];
 
 /// Those that hold, of things with whether they do.
@@ -397,12 +486,14 @@ fn has_block(image: &[u8], length: usize) -> bool {
 }
 
 /// What a call has by what it is given: a collection, by the counts; reports, by
-/// the damage.
+/// the damage; a rename, by the rules that it breaks.
 pub fn before_call(call: &Call, side: &Side) -> Vec<Made> {
     match call {
         Call::Collect => mounts(side).map_or_else(Vec::new, |fs| in_collection(&fs)),
         Call::Report => mounts(side).map_or_else(Vec::new, |fs| in_report(&fs, side)),
         Call::AreaReport { index, stretch } => in_area_report(*index, *stretch, side),
+        Call::Rename { base, old, new } => in_rename(base, old, new, side),
+        Call::Damage { offset, bytes } => moved::in_damage(*offset, bytes, side),
         _ => Vec::new(),
     }
 }
@@ -466,7 +557,7 @@ pub fn in_call(call: &Call, answer: &Answer, side: &Side) -> Vec<Made> {
     }
 }
 
-fn mounts(side: &Side) -> Option<FileSystem> {
+pub fn mounts(side: &Side) -> Option<FileSystem> {
     mount(&side.image, &side.areas).ok()
 }
 
@@ -536,7 +627,7 @@ fn in_append(at: (&[u8], &[u8]), data: &[u8], number: u32, side: &Side) -> Vec<M
     ])
 }
 
-fn in_path(base: &[u8], path: &[u8], found: bool) -> Vec<Made> {
+pub fn in_path(base: &[u8], path: &[u8], found: bool) -> Vec<Made> {
     let relative = path.first() != Some(&b'/');
     let names = |text: &[u8]| text.split(|byte| *byte == b'/').filter(|n| !n.is_empty()).count();
     let below = if relative { names(base) } else { 0 };

@@ -6,11 +6,14 @@ mod images;
 mod large;
 mod lists;
 pub mod made;
+pub mod moved;
 mod paths;
 mod random;
+mod renames;
 mod stretches;
 mod tables;
 
+pub use paths::names_of;
 pub use random::Random;
 
 use crate::compare::Case;
@@ -37,7 +40,8 @@ fn drawn(mut r: Random) -> Case {
     // Large images are few: each takes as long as many small ones.
     let flash = match r.below(400) {
         0..=148 => images::life(&mut r),
-        149..=336 => images::tree(&mut r),
+        149..=318 => images::tree(&mut r),
+        319..=336 => renames::tree(&mut r),
         337..=344 => blocks::edges(&mut r),
         345..=352 => blocks::earlier(&mut r),
         353..=364 => tables::tables(&mut r),

@@ -2,7 +2,12 @@
 
 use super::random::Random;
 use super::NAMES;
+use crate::layout::ROOT;
+use crate::mount::FileSystem;
 use crate::path::PATH;
+
+/// Bases that an absolute path doesn't look at.
+const JUNK: [&[u8]; 5] = [b"", b"/", b"/a", b"a", b"//"];
 
 pub fn name(r: &mut Random) -> Vec<u8> {
     match r.below(40) {
@@ -15,19 +20,65 @@ pub fn name(r: &mut Random) -> Vec<u8> {
     }
 }
 
+/// The names of a live inode's path.
+pub fn names_of(fs: &FileSystem, id: u32) -> Vec<Vec<u8>> {
+    let mut names = Vec::new();
+    let mut at = id;
+    while at != ROOT {
+        let Some(inode) = fs.inode(at) else { break };
+        names.push(inode.name.clone());
+        at = inode.parent;
+    }
+    names.reverse();
+    names
+}
+
 /// Base and path that spell these names, mostly.
 pub fn spell(r: &mut Random, names: &[Vec<u8>]) -> (Vec<u8>, Vec<u8>) {
-    let junk_base: [&[u8]; 5] = [b"", b"/", b"/a", b"a", b"//"];
     if r.chance(8) {
         return misspell(r, names);
     }
     // What is too long for one path may be short enough for a base and a path.
     let too_long = absolute(names).len() > PATH;
     if names.is_empty() || !too_long && r.chance(60) {
-        return (r.pick(&junk_base).to_vec(), absolute(names));
+        return (r.pick(&JUNK).to_vec(), absolute(names));
     }
     let at = r.below(names.len());
     (absolute(&names[..at]), names[at..].join(&b'/'))
+}
+
+/// A base and two paths that spell these names with it, mostly. Where one is bad,
+/// the other is absolute.
+pub fn spell_two(r: &mut Random, old: &[Vec<u8>], new: &[Vec<u8>]) -> (Vec<u8>, Vec<u8>, Vec<u8>) {
+    let turned = r.chance(50);
+    let (first, second) = if turned { (new, old) } else { (old, new) };
+    let (base, first, second) = if r.chance(9) {
+        let (base, first) = misspell(r, first);
+        (base, first, absolute(second))
+    } else {
+        below_one_base(r, first, second)
+    };
+    if turned {
+        (base, second, first)
+    } else {
+        (base, first, second)
+    }
+}
+
+/// The second path is relative too where its names begin with the base's.
+fn below_one_base(
+    r: &mut Random,
+    first: &[Vec<u8>],
+    second: &[Vec<u8>],
+) -> (Vec<u8>, Vec<u8>, Vec<u8>) {
+    let too_long = absolute(first).len() > PATH;
+    if first.is_empty() || !too_long && r.chance(40) {
+        return (r.pick(&JUNK).to_vec(), absolute(first), absolute(second));
+    }
+    let (base, below) = first.split_at(r.below(first.len()));
+    let rest = second.strip_prefix(base).filter(|rest| !rest.is_empty() && r.chance(80));
+    let second = rest.map_or_else(|| absolute(second), |rest| rest.join(&b'/'));
+    (absolute(base), below.join(&b'/'), second)
 }
 
 fn absolute(names: &[Vec<u8>]) -> Vec<u8> {

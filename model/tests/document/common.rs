@@ -165,6 +165,17 @@ pub fn unlink(flash: &mut Flash, path: &str) -> u32 {
     unchanged_if_refused(number, &before, &flash.image)
 }
 
+pub fn rename(flash: &mut Flash, old: &str, new: &str) -> u32 {
+    rename_below(flash, "", old, new)
+}
+
+pub fn rename_below(flash: &mut Flash, base: &str, old: &str, new: &str) -> u32 {
+    let (base, old, new) = (base.as_bytes(), old.as_bytes(), new.as_bytes());
+    let before = flash.image.clone();
+    let number = calls::rename(&mut flash.image, &flash.areas, base, old, new);
+    unchanged_if_refused(number, &before, &flash.image)
+}
+
 pub fn collect(flash: &mut Flash) -> u32 {
     let before = flash.image.clone();
     let number = calls::collect(&mut flash.image, &flash.areas);

@@ -14,6 +14,7 @@ mod mounting;
 mod paths;
 mod program;
 mod reading;
+mod renaming;
 mod reserved;
 mod tables;
 mod writing;

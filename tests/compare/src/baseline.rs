@@ -3,7 +3,7 @@
 use std::cell::RefCell;
 
 use nffs_baseline as baseline;
-use nffs_model::compare::Engine;
+use nffs_model::compare::{Engine, Model};
 use nffs_model::{AreaReport, Create, Handle, Lookup, Open, Read, Report};
 
 /// One volume, which every call fills anew.
@@ -50,6 +50,10 @@ impl Engine for Baseline {
     }
     fn unlink(&self, image: &mut [u8], areas: &[u32], base: &[u8], path: &[u8]) -> u32 {
         baseline::unlink(image, areas, base, path, &mut self.0.borrow_mut())
+    }
+    /// The baseline has no such call; the model's keeps its image in step.
+    fn rename(&self, image: &mut [u8], areas: &[u32], base: &[u8], old: &[u8], new: &[u8]) -> u32 {
+        Model.rename(image, areas, base, old, new)
     }
     fn collect(&self, image: &mut [u8], areas: &[u32]) -> u32 {
         baseline::collect(image, areas, &mut self.0.borrow_mut())

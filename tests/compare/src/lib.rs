@@ -68,6 +68,10 @@ pub fn unlink(image: &mut [u8], areas: &[u32], base: &[u8], path: &[u8]) -> u32 
     raw::unlink(image, &listed(areas), base, path)
 }
 
+pub fn rename(image: &mut [u8], areas: &[u32], base: &[u8], old: &[u8], new: &[u8]) -> u32 {
+    raw::rename(image, &listed(areas), base, old, new)
+}
+
 pub fn collect(image: &mut [u8], areas: &[u32]) -> u32 {
     raw::collect(image, &listed(areas))
 }
@@ -105,6 +109,9 @@ impl Engine for Proved {
     }
     fn unlink(&self, image: &mut [u8], areas: &[u32], base: &[u8], path: &[u8]) -> u32 {
         unlink(image, areas, base, path)
+    }
+    fn rename(&self, image: &mut [u8], areas: &[u32], base: &[u8], old: &[u8], new: &[u8]) -> u32 {
+        rename(image, areas, base, old, new)
     }
     fn collect(&self, image: &mut [u8], areas: &[u32]) -> u32 {
         collect(image, areas)
@@ -194,6 +201,9 @@ impl Engine for Safe {
     }
     fn unlink(&self, image: &mut [u8], areas: &[u32], base: &[u8], path: &[u8]) -> u32 {
         done(nffs::unlink(image, &listed(areas), base, path))
+    }
+    fn rename(&self, image: &mut [u8], areas: &[u32], base: &[u8], old: &[u8], new: &[u8]) -> u32 {
+        done(nffs::rename(image, &listed(areas), base, old, new))
     }
     fn collect(&self, image: &mut [u8], areas: &[u32]) -> u32 {
         done(nffs::collect(image, &listed(areas)))

@@ -24,6 +24,8 @@ mod mounting;
 mod paths;
 #[path = "../../../model/tests/document/reading.rs"]
 mod reading;
+#[path = "../../../model/tests/document/renaming.rs"]
+mod renaming;
 #[path = "../../../model/tests/document/reserved.rs"]
 mod reserved;
 #[path = "../../../model/tests/document/tables.rs"]

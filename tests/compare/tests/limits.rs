@@ -90,6 +90,10 @@ impl Pair {
         self.both(|e, image, areas| e.unlink(image, areas, b"", path))
     }
 
+    fn rename(&mut self, old: &[u8], new: &[u8]) -> u32 {
+        self.both(|e, image, areas| e.rename(image, areas, b"", old, new))
+    }
+
     fn collect(&mut self) -> u32 {
         self.both(|e, image, areas| e.collect(image, areas))
     }
@@ -174,6 +178,9 @@ fn the_256th_and_the_257th_inode() {
     // a directory in its place is refused too, and a name that is there is 12 first
     pair.refuses(5, |pair| pair.both(|e, image, areas| e.create(image, areas, b"", b"/dir", 0).number));
     pair.refuses(12, |pair| pair.create(&path(1)).number);
+    // a rename takes no place
+    assert_eq!((pair.rename(&path(255), b"/renamed"), pair.rename(b"/renamed", &path(255))), (0, 0));
+    pair.refuses(12, |pair| pair.rename(&path(255), &path(1)));
     assert_eq!(pair.report(), Report { number: 0, inodes: 256, live: 256, ..Report::default() });
     assert_eq!(pair.lookup(&path(255)), Lookup { number: 0, id: FILE + 254, kind: 1 });
     // a deletion takes no place and frees none; collected, it does
@@ -306,8 +313,44 @@ fn an_area_filled_to_its_last_byte_and_pieces_over_areas() {
     assert_eq!((&pair.area(3)[100..102], &pair.area(3)[126..]), (&[4; 2][..], &[5; 2][..]));
     pair.refuses(15, |pair| pair.append(&path, b"x"));
     pair.refuses(15, |pair| pair.unlink(&path));
+    pair.refuses(15, |pair| pair.rename(&path, b"/x"));
+    pair.refuses(12, |pair| pair.rename(&path, &path));
     assert_eq!(pair.contents(&path), [&[1; 84][..], &[4; 2], &[5; 2]].concat());
     assert_eq!(pair.report(), Report { number: 0, inodes: 2, live: 2, ..Report::default() });
+}
+
+/// A rename from the sequence before the last one to the last, and none from there: 16, after 12 and 18 and before 15 (T-01).
+#[test]
+fn renames_up_to_the_last_sequence() {
+    const LAST: u32 = 0xffff_ffff;
+    for (room, full) in [(100, false), (21, false), (20, true), (0, true)] {
+        let mut flash = Flash::of(&[512; 2]);
+        assert!(flash.inode(1, 0, LAST, NONE, b"") && flash.inode(1, 1, LAST, 0, b"d") && flash.inode(1, FILE, LAST - 1, 0, b"a"));
+        assert!(flash.inode(1, FILE + 1, LAST, 1, b"b"));
+        let rest = vec![7; flash.room(1) - room - 24];
+        assert!(flash.block(1, BLOCK, 0, FILE + 9, NONE, &rest));
+        let mut pair = Pair::of(flash);
+        let refused: [(&[u8], &[u8], u32); 7] = [
+            (b"/d/b", b"/b", 16),
+            (b"/d", b"/b", 16),
+            (b"/d", b"/d/c", 18),
+            (b"/d", b"/d/b", 12),
+            (b"/", b"/d/c", 18),
+            (b"/", b"/d", 12),
+            (b"/d/b", b"/a/b", 11),
+        ];
+        for (old, new, number) in refused {
+            pair.refuses(number, |pair| pair.rename(old, new));
+        }
+        if full {
+            pair.refuses(15, |pair| pair.rename(b"/a", b"/c"));
+        } else {
+            assert_eq!(pair.rename(b"/a", b"/c"), 0);
+            pair.refuses(16, |pair| pair.rename(b"/c", b"/a"));
+        }
+        let file = Lookup { number: 0, id: FILE, kind: 1 };
+        assert_eq!(pair.lookup(if full { b"/a" } else { b"/c" }), file);
+    }
 }
 
 /// The shortest file area's length, and the greatest block.

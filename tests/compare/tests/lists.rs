@@ -20,8 +20,9 @@ fn calls() -> Vec<Call> {
         Call::Open { base: base.clone(), path: file.clone() },
         Call::Read { length: 20 },
         Call::ReadAt { id: 0x1000_0000, position: 10, length: 50 },
+        Call::Rename { base: base.clone(), old: file, new: b"/g".to_vec() },
         Call::Collect,
-        Call::Unlink { base, path: file },
+        Call::Unlink { base, path: b"/g".to_vec() },
         Call::Format,
     ]);
     calls
@@ -56,7 +57,7 @@ fn every_length_and_every_end() {
         }
     }
     println!("{} calls: {:?}", tally.calls, tally.answers);
-    for call in ["Report", "Lookup", "Create", "Append", "Open", "Read", "ReadAt", "Collect", "Unlink", "Format"] {
+    for call in ["Report", "Lookup", "Create", "Append", "Open", "Read", "ReadAt", "Rename", "Collect", "Unlink", "Format"] {
         for number in [0, 1, 3] {
             assert!(tally.answers.contains_key(&(call, number)), "{call} never answered {number}");
         }

@@ -94,7 +94,7 @@ fn first_file() -> Vec<u8> {
 /// One call on one engine: the number that it answers.
 type Call = (&'static str, fn(&dyn Engine, &mut [u8], &[u32]) -> u32);
 
-const CALLS: [Call; 11] = [
+const CALLS: [Call; 12] = [
     ("format", |e, image, areas| e.format(image, areas)),
     ("report", |e, image, areas| e.report(image, areas).number),
     ("area report", |e, image, areas| e.area_report(image, areas, 0, 0).number),
@@ -105,6 +105,7 @@ const CALLS: [Call; 11] = [
     ("append", |e, image, areas| e.append(image, areas, b"", &first_file(), &[7; 100])),
     ("append 2,000", |e, image, areas| e.append(image, areas, b"", &first_file(), &[7; 2000])),
     ("unlink", |e, image, areas| e.unlink(image, areas, b"", &first_file())),
+    ("rename", |e, image, areas| e.rename(image, areas, b"", &first_file(), b"/new")),
     ("collect", |e, image, areas| e.collect(image, areas)),
 ];
 
