@@ -4,13 +4,13 @@ use mathlib.Core.Path.{_≡_, refl, _∙_}
 use mathlib.Core.Logic.{inl, inr}
 use mathlib.Core.Bool.{Bool, true, false, cond}
 use mathlib.Core.Option.{Option, none, some}
-use mathlib.Core.List.{List, [], _∷_, _++_}
+use mathlib.Core.List.{List, [], _++_}
 use native.Mathlib.Omega.{arith}
 use lib.ListN.{length, drop, length-append, length-take, length-drop}
 use lib.Seq.{getD-append-add, getD-drop}
 use lib.Dec.{eqb, leb}
 use Rattle.format.specs.Bytes.{Bytes, byteAt}
-use Rattle.format.specs.Ids.{isDirectoryId}
+use Rattle.format.specs.Ids.{NONE, isDirectoryId}
 use Rattle.volume.specs.View.{byBytes}
 use Rattle.volume.specs.Fate.{isLive, fateOf}
 use Rattle.volume.specs.Contents.{fileBlocks, textOf}
@@ -21,8 +21,10 @@ use Rattle.calls.specs.Read.{Given, given, refused, giveBlocks, giveFile, give,
 use Rattle.calls.specs.Lookup.{resolve}
 use Rattle.calls.specs.Create.{lastName, namesBefore, newInode, createOf, imageCreated}
 use Rattle.calls.specs.Append.{newBlocks, appendOf, imageAppended}
-use Rattle.calls.specs.Rewrite.{rewritePlan, imageRewritten}
+use Rattle.calls.specs.Storing.{Store}
+use Rattle.calls.specs.Rewrite.{rewritten, rewritePlan, imageRewritten}
 use Rattle.calls.specs.Unlink.{deletion, unlinkOf, imageUnlinked}
+use Rattle.calls.specs.Rename.{renameOf, imageRenamed}
 use Rattle.calls.specs.declared.Descriptor.{Descriptor}
 use Rattle.calls.specs.declared.Handle.{Handle}
 use Rattle.calls_laws.specs.Checks.{passes}
@@ -32,6 +34,7 @@ use Rattle.demand2.specs.Create.{create-goes}
 use Rattle.demand2.specs.Append.{append-goes}
 use Rattle.demand2.specs.Unlink.{unlink-goes}
 use Rattle.demand2.specs.Refused.{refused-calls}
+use Rattle.demand2_rename.specs.Rename.{rename-goes}
 use Rattle.demand2_collect.specs.Collect.{collect}
 use Rattle.demand1.specs.Words.{OnlyStored, OnlyOne, OnlyRead, AcceptedCalls, Demand1}
 use Rattle.demand1.specs.Exactly.{exactly}
@@ -108,15 +111,35 @@ module _ (image : Bytes) (ds : List Descriptor) where
         rw (imageAppended, g .goes, g .placed) (only-stored image ds (passes image ds (g .mounted) .described) _ (g .stores) (g .placed)),
       )
 
+  -- an inode rewritten
+  only-rewritten : mountNumber image ds ≡ 0 → (i parent : ℕ) (name : Bytes) (l : List Store) → rewritePlan image ds i parent name ≡ some l
+      → OnlyOne image (imageRewritten image ds i parent name) ds (rewritten (volume image ds) i parent name)
+  unfolding imageRewritten rewritePlan
+  only-rewritten m i parent name l e = rw (imageRewritten, e) (only-one image ds (passes image ds m .described) _ l e)
+
   unlinked : (base path : Bytes) → unlinkOf image ds base path ≡ 0
       → (i : ℕ) × (resolve image ds base path ≡ found i) × OnlyOne image (imageUnlinked image ds base path) ds (deletion (volume image ds) i)
-  unfolding imageUnlinked imageRewritten rewritePlan deletion
+  unfolding imageUnlinked rewritePlan deletion
   unlinked base path e =
       let g = unlink-goes image ds base path e in (
         g .inode,
         resolved image ds base path (g .mounted) ∙ rw (g .good) (g .found-there),
-        rw (imageUnlinked, g .goes, imageRewritten, rewritePlan, g .placed)
-            (only-one image ds (passes image ds (g .mounted) .described) _ (g .stores) (g .placed)),
+        rw (imageUnlinked, g .goes) (only-rewritten (g .mounted) (g .inode) NONE [] (g .stores) (g .placed)),
+      )
+
+  renamed : (base old new : Bytes) → renameOf image ds base old new ≡ 0
+      → (i d : ℕ) × (resolve image ds base old ≡ found i)
+      × (lookupNames byBytes (volume image ds) (namesBefore (pathNames base new)) ≡ found d)
+      × OnlyOne image (imageRenamed image ds base old new) ds (rewritten (volume image ds) i d (lastName (pathNames base new)))
+  unfolding imageRenamed
+  renamed base old new e =
+      let g = rename-goes image ds base old new e in (
+        g .inode,
+        g .directory,
+        resolved image ds base old (g .mounted) ∙ rw (g .good-old) (g .found-there),
+        g .found-above,
+        rw (imageRenamed, g .goes, g .moves)
+            (only-rewritten (g .mounted) (g .inode) (g .directory) (lastName (pathNames base new)) (g .stores) (g .placed)),
       )
 
   accepted-calls : AcceptedCalls image ds
@@ -128,6 +151,7 @@ module _ (image : Bytes) (ds : List Descriptor) where
     create = created;
     append = appended;
     unlink = unlinked;
+    rename = renamed;
     collect = λ e. let c = collect image ds e in (
       c .scratch,
       c .source,

@@ -11,13 +11,13 @@ use lib.ListN.{length}
 use lib.Dec.{T, eqb, ltb, leb}
 use borrow.Author.Tests.{eqb-true, eqb-false, ltb-true, ltb-false, leb-true, leb-false}
 use Rattle.format.specs.Bytes.{Bytes}
-use Rattle.format.specs.Ids.{isDirectoryId}
+use Rattle.format.specs.Ids.{NONE, rootId, isDirectoryId}
 use Rattle.format.specs.Record.{recordSize}
 use Rattle.format.specs.Reading.{areaClean}
 use Rattle.volume.specs.Lists.{bind}
 use Rattle.volume.specs.View.{byBytes}
 use Rattle.volume.specs.Counting.{Volume, inodeOf, inodeIds, blockIds}
-use Rattle.volume.specs.Fate.{Fate, live, dead, orphan, isLive, fateOf}
+use Rattle.volume.specs.Fate.{Fate, live, dead, orphan, isLive, fateOf, lineage}
 use Rattle.volume.specs.Contents.{fileBlocks, textOf}
 use Rattle.volume.specs.Path.{goodPath, pathNames}
 use Rattle.volume.specs.Tree.{Found, found, absent, children, lookupNames}
@@ -27,7 +27,7 @@ use Rattle.calls.specs.Refusal.{firstRefusal}
 use Rattle.calls.specs.Mount.{mostInodes, mostBlocks, volume, badDescription, wrongAreas, mountNumber}
 use Rattle.calls.specs.Attempt.{Attempt, goes, refuses, numberOf, unless, atFound, attemptAt}
 use Rattle.calls.specs.Areas.{areaEnd, areaBytes, fileAreas, scratchAreas}
-use Rattle.calls.specs.Storing.{Space, Fit, Store, spaces, keepSpace, firstFit, prepend, placeAll, noPlace}
+use Rattle.calls.specs.Storing.{Space, Fit, Store, spaces, keepSpace, firstFit, prepend, placeAll, noPlace, isAmong}
 use Rattle.calls.specs.Report.{mountedReport, refusedReport, reportOf}
 use Rattle.calls.specs.AreaReport.{areaReport, refusedAreaReport, areaReportNumber, areaReportOf}
 use Rattle.calls.specs.Lookup.{resolve, lookupAnswer, lookupOf, fileOnly, openAnswer, openOf}
@@ -35,17 +35,19 @@ use Rattle.calls.specs.Read.{refused, giveBlocks, giveFile, give, readGiven, re
 use Rattle.calls.specs.Format.{formatNumber}
 use Rattle.calls.specs.Create.{isRoot, lastName, namesBefore, newInode, createIn, creating, createOf}
 use Rattle.calls.specs.Append.{mostAppended, newBlocks, isBroken, appendTo, appending, appendOf}
-use Rattle.calls.specs.Rewrite.{lastSequence, sequenceOf, rewritePlan, rewriteNumber}
+use Rattle.calls.specs.Rewrite.{lastSequence, sequenceOf, rewritten, rewritePlan, rewriteChecks, rewriteNumber}
 use Rattle.calls.specs.Unlink.{deletion, unlinkOne, unlinking, unlinkOf}
+use Rattle.calls.specs.Rename.{movesIntoItself, moveNumber, moving, renaming, renameOf}
 use Rattle.calls.specs.Collect.{sourceOf, collectFrom, collectWith, collecting, collectOf}
 use Rattle.calls.specs.declared.Descriptor.{Descriptor}
 use Rattle.calls.specs.declared.AreaReport.{AreaReport}
 use Rattle.calls_laws.specs.Checks.{passes}
+use Rattle.calls_laws.specs.Unused.{among, not-among}
 use Rattle.collect_laws.specs.Source.{source-found, source-none, file-eligible}
 use Rattle.demand2.specs.Store.{freePlace}
 use Rattle.demand1.specs.Table.{Row, _given-when_, Answers, mountRows, walkRows, pathRows, LiveChild, NoRoom, NoRoomLeft}
 use Rattle.demand1.specs.Table.{BadPath, brokenRow, endRow, sourceRow, formatRows, areaReportRows, lookupRows, openRows, readRows, createRows, appendRows}
-use Rattle.demand1.specs.Table.{unlinkRows}
+use Rattle.demand1.specs.Table.{nameRows, rewriteRows, IntoItself, unlinkRows, renameRows}
 use Rattle.demand1.specs.Table.{Exactly}
 use Rattle.demand1.specs.Stores.{fit-inside, space-of}
 use Rattle.demand1.specs.Paths.{named-names, path-means}
@@ -91,23 +93,24 @@ unless-number r t = go (eqb r 0)
     go true = refl
     go false = refl
 
+-- at what a walk found
+found-number : (checks : ℕ → ℕ) (o : Found) → numberOf (atFound checks o) ≡ foundOr checks o
+found-number checks (absent r) = refl
+found-number checks (found i) = go (eqb (checks i) 0) refl
+  where
+    go : (b : Bool) → eqb (checks i) 0 ≡ b → numberOf (cond b (goes i) (refuses (checks i))) ≡ checks i
+    go true e = sym (eqb-true (checks i) 0 e)
+    go false e = refl
+
 attempt-number : (mount : ℕ) (bad : Bool) (o : Found) (checks : ℕ → ℕ)
     → numberOf (attemptAt mount bad o checks) ≡ cond (eqb mount 0) (cond bad 8 (foundOr checks o)) mount
 unfolding attemptAt
 attempt-number mount bad o checks =
     unless-number mount (atFound checks (cond bad (absent 8) o)) ∙ ap (λ (n : ℕ). cond (eqb mount 0) n mount) (go bad o)
   where
-    it : (n : ℕ) (i : ℕ) → numberOf (unless n (goes i)) ≡ n
-    it n i = go (eqb n 0) refl
-      where
-        go : (b : Bool) → eqb n 0 ≡ b → numberOf (cond b (goes i) (refuses n)) ≡ n
-        go true e = sym (eqb-true n 0 e)
-        go false e = refl
-
     go : (b : Bool) (o : Found) → numberOf (atFound checks (cond b (absent 8) o)) ≡ cond b 8 (foundOr checks o)
     go true o = refl
-    go false (found i) = it (checks i) i
-    go false (absent r) = refl
+    go false o = found-number checks o
 
 resolve-number : (image : Bytes) (ds : List Descriptor) (base path : Bytes) (m : ℕ → ℕ) → foundOr m (resolve image ds base path)
     ≡ cond (eqb (mountNumber image ds) 0)
@@ -240,6 +243,32 @@ name-means v d n = go (children byBytes v d n) (λ i m. child-means v d n i .0 (
         → Means (ltb 0 (length l)) ((i : ℕ) × LiveChild v d n i)
     go [] f g = ((λ e. absurd (omega (arith, ltb-true 0 0 e))), (λ e p. List·Memᴰ·not-nil (g (p .0) (p .1))))
     go (i ∷ l) f g = ((λ e. (i, f i (List·Memᴰ·head refl))), (λ e p. omega (arith, ltb-false 0 (suc (length l)) e)))
+
+-- 18: the root, or an inode of the lineage
+into-means : (v : Volume Bytes) (i d : ℕ) → Means (movesIntoItself v i d) (IntoItself v i d)
+unfolding movesIntoItself
+into-means v i d = or-means (eqb i rootId) (isAmong i (lineage byBytes v d)) (eqb-means i rootId) (
+  (λ e. among i (lineage byBytes v d) (true→T e)),
+  (λ e. not-among i (lineage byBytes v d) (λ t. rw e at t)),
+)
+
+-- ---- checks that several calls make
+
+-- a new name below the inode d, before other checks
+name-answers : (v : Volume Bytes) (above : Found) (d : ℕ) (n : Bytes) (rest : List Row) (m : ℕ) → above ≡ found d → Answers rest m
+    → Answers (nameRows v above n ++ rest) (cond (not (isDirectoryId d)) 11 (cond (ltb 0 (length (children byBytes v d n))) 12 m))
+name-answers v above d n rest m q a =
+    step (not (isDirectoryId d)) 11 _ _ _ (rw q (fails-means (isDirectoryId d))) (λ e.
+    step (ltb 0 (length (children byBytes v d n))) 12 _ _ _ (rw q (name-means v d n)) (λ e. a))
+
+-- the inode i rewritten
+rewrite-answers : (image : Bytes) (ds : List Descriptor) (o : Found) (i parent : ℕ) (name : Bytes) (no-room : ℕ → Type 0) → o ≡ found i
+    → Means (noPlace (rewritePlan image ds i parent name)) (no-room i)
+    → Answers (rewriteRows (volume image ds) o no-room) (firstRefusal (rewriteChecks image ds i parent name))
+unfolding firstRefusal
+rewrite-answers image ds o i parent name no-room q k =
+    step (eqb (sequenceOf (inodeOf byBytes (volume image ds) i)) lastSequence) 16 _ _ _ (rw q (eqb-means _ lastSequence)) (λ e.
+    step (noPlace (rewritePlan image ds i parent name)) 15 0 _ [] (rw q k) (λ e. done))
 
 -- ---- 17
 
@@ -399,10 +428,9 @@ module _ (image : Bytes) (ds : List Descriptor) where
         (λ d. createIn image ds kind d (lastName names)))
         (path-answers image ds (bad || isRoot names) _ (namesBefore names) _ _ named-means (λ d q.
         let b = newInode v kind d (lastName names) in
-        step (not (isDirectoryId d)) 11 _ _ _ (rw q (fails-means (isDirectoryId d))) (λ e.
-        step (ltb 0 (length (children byBytes v d (lastName names)))) 12 _ _ _ (rw q (name-means v d (lastName names))) (λ e.
-        step (ltb mostInodes (suc (length (inodeIds byBytes v)))) 5 _ _ _ (ltb-means mostInodes _) (λ e.
-        step (noPlace (placeAll (spaces image (fileAreas image ds)) (b ∷ []))) 15 0 _ [] (rw q (room-means image ds b)) (λ e. done))))))
+        name-answers v _ d (lastName names) _ _ q
+        (step (ltb mostInodes (suc (length (inodeIds byBytes v)))) 5 _ _ _ (ltb-means mostInodes _) (λ e.
+        step (noPlace (placeAll (spaces image (fileAreas image ds)) (b ∷ []))) 15 0 _ [] (rw q (room-means image ds b)) (λ e. done)))))
 
     append-answers : (text : Bytes) → Answers (appendRows image ds base path text) (appendOf image ds base path text)
     unfolding appendOf appending appendTo firstRefusal
@@ -418,12 +446,27 @@ module _ (image : Bytes) (ds : List Descriptor) where
         step (noPlace (placeAll ss bs)) 15 0 _ [] (rw q (place-means bs ss)) (λ e. done))))))
 
     unlink-answers : Answers (unlinkRows image ds base path) (unlinkOf image ds base path)
-    unfolding unlinkOf unlinking unlinkOne rewriteNumber rewritePlan deletion firstRefusal
+    unfolding unlinkOf unlinking unlinkOne rewriteNumber rewritePlan deletion
     unlink-answers = rw (attempt-number (mountNumber image ds) (bad || isRoot names) (lookupNames byBytes v names) (unlinkOne image ds))
         (path-answers image ds (bad || isRoot names) _ names _ _ named-means (λ i q.
-        let b = deletion v i in
-        step (eqb (sequenceOf (inodeOf byBytes v i)) lastSequence) 16 _ _ _ (rw q (eqb-means _ lastSequence)) (λ e.
-        step (noPlace (placeAll (spaces image (fileAreas image ds)) (b ∷ []))) 15 0 _ [] (rw q (room-means image ds b)) (λ e. done))))
+        rewrite-answers image ds _ i NONE [] _ q (room-means image ds (deletion v i))))
+
+  rename-answers : (base old new : Bytes) → Answers (renameRows image ds base old new) (renameOf image ds base old new)
+  unfolding renameOf renaming moving moveNumber rewritePlan firstRefusal
+  rename-answers base old new =
+      let ns = pathNames base new in
+      let n = lastName ns in
+      let above = lookupNames byBytes v (namesBefore ns) in
+      let either = not (goodPath base old) || not (goodPath base new) || isRoot ns in
+      rw (attempt-number (mountNumber image ds) either (lookupNames byBytes v (pathNames base old)) (λ i. numberOf (moving image ds ns i)))
+      (path-answers image ds either _ (pathNames base old) _ _
+      (or-means (not (goodPath base old) || not (goodPath base new)) (isRoot ns)
+      (or-means (not (goodPath base old)) (not (goodPath base new)) (path-means base old) (path-means base new)) (root-means ns)) (λ i q.
+      rw (found-number (λ d. moveNumber image ds i d n) above)
+      (walk-answers v (namesBefore ns) _ _ (λ d p.
+      name-answers v above d n _ _ p
+      (step (movesIntoItself v i d) 18 _ _ _ (rw (q, p) (into-means v i d)) (λ e.
+      rewrite-answers image ds _ i d n _ q (rw p (room-means image ds (rewritten v i d n)))))))))
 
   pub exactly : Exactly image ds
   unfolding collectOf collecting
@@ -438,6 +481,7 @@ module _ (image : Bytes) (ds : List Descriptor) where
     create = create-answers;
     append = append-answers;
     unlink = unlink-answers;
+    rename = rename-answers;
     collect = rw (unless-number (mountNumber image ds) (collectWith image (fileAreas image ds) (scratchAreas image ds)))
         (mounted-answers image ds _ _ collect-answers);
   }

@@ -1,4 +1,5 @@
--- The table of document 01, "Numbers of refusal, in order of check", in its words: for each call the rows that it asks, in order.
+-- The table of document 01, "Numbers of refusal, in order of check", in its words: for each call the rows that it asks, in order. Document 02
+-- amends it: T-01 adds rename and the number 18.
 use Prim.Native.Nat.{ℕ, suc, _+_, _≤_, _<_}
 use mathlib.Core.Path.{_≡_}
 use mathlib.Core.Logic.{_⊎_, _≢_}
@@ -13,7 +14,7 @@ use Rattle.format.specs.Record.{recordSize, recordId, recordSequence}
 use Rattle.format.specs.Reading.{areaClean}
 use Rattle.volume.specs.View.{byBytes}
 use Rattle.volume.specs.Counting.{Volume, inodeOf, inodeIds, blockIds}
-use Rattle.volume.specs.Fate.{live, fateOf}
+use Rattle.volume.specs.Fate.{live, fateOf, lineage}
 use Rattle.volume.specs.Contents.{fileBlocks, textOf}
 use Rattle.volume.specs.Path.{SLASH, longestName, longestPath, pathNames}
 use Rattle.volume.specs.Tree.{Found, found, absent, lookupNames}
@@ -22,8 +23,9 @@ use Rattle.calls.specs.Mount.{mostInodes, mostBlocks, acceptedRecords, volume}
 use Rattle.calls.specs.Storing.{Space, Fit, spaces, firstFit}
 use Rattle.calls.specs.Create.{lastName, namesBefore, newInode, createOf}
 use Rattle.calls.specs.Append.{mostAppended, newBlocks, appendOf}
-use Rattle.calls.specs.Rewrite.{lastSequence, sequenceOf}
+use Rattle.calls.specs.Rewrite.{lastSequence, sequenceOf, rewritten}
 use Rattle.calls.specs.Unlink.{deletion, unlinkOf}
+use Rattle.calls.specs.Rename.{renameOf}
 use Rattle.calls.specs.Format.{formatNumber}
 use Rattle.calls.specs.Report.{reportOf}
 use Rattle.calls.specs.AreaReport.{areaReportOf}
@@ -211,19 +213,22 @@ readRows image ds id position =
     mountRows image ds
     ++ ((9 given-when (fateOf byBytes v id ≢ live)) ∷ (11 given-when (isDirectoryId id ≡ true)) ∷ brokenRow v id ∷ endRow v id position ∷ [])
 
--- "creating .. the root" is 8; "create walks all but the last name, and for that name, in a directory, only 12 is asked"; 5 again "with the new
--- records counted in", before 15
+-- a new name below where a walk leads: 11 where that is a file; "for that name, in a directory, only 12 is asked"
+abbrev pub nameRows : Volume Bytes → Found → Bytes → List Row
+nameRows v above n =
+    (11 given-when Leads above (λ d. isDirectoryId d ≡ false)) ∷ (12 given-when Leads above (λ d. (i : ℕ) × LiveChild v d n i)) ∷ []
+
+-- "creating .. the root" is 8; "create walks all but the last name"; 5 again "with the new records counted in", before 15
 abbrev pub createRows : Bytes → List Descriptor → Bytes → Bytes → ℕ → List Row
 createRows image ds base path kind =
     let v = volume image ds in
     let ns = pathNames base path in
     let o = lookupNames byBytes v (namesBefore ns) in
     pathRows image ds (BadPath base path ⊎ (ns ≡ [])) (namesBefore ns)
-    ((11 given-when Leads o (λ d. isDirectoryId d ≡ false))
-    ∷ (12 given-when Leads o (λ d. (i : ℕ) × LiveChild v d (lastName ns) i))
-    ∷ (5 given-when (mostInodes < suc (length (inodeIds byBytes v))))
+    (nameRows v o (lastName ns)
+    ++ ((5 given-when (mostInodes < suc (length (inodeIds byBytes v))))
     ∷ (15 given-when Leads o (λ d. NoRoom image ds (newInode v kind d (lastName ns))))
-    ∷ [])
+    ∷ []))
 
 -- "over 8,192 bytes to append" is 8; "append of a directory" is 11; "all pieces or none"
 abbrev pub appendRows : Bytes → List Descriptor → Bytes → Bytes → Bytes → List Row
@@ -237,15 +242,37 @@ appendRows image ds base path text =
     ∷ (15 given-when Leads o (λ f. NoRoomLeft (spaces image (fileAreas image ds)) (newBlocks image ds f text)))
     ∷ [])
 
--- "unlinking the root" is 8; "sequence is ffffffff"; "16 comes before 15"
+-- the inode to which a walk leads is rewritten: 16 where its "sequence is ffffffff", then 15; "16 comes before 15"
+abbrev pub rewriteRows : Volume Bytes → Found → (ℕ → Type 0) → List Row
+rewriteRows v o no-room =
+    (16 given-when Leads o (λ i. sequenceOf (inodeOf byBytes v i) ≡ lastSequence)) ∷ (15 given-when Leads o no-room) ∷ []
+
+-- "unlinking the root" is 8
 abbrev pub unlinkRows : Bytes → List Descriptor → Bytes → Bytes → List Row
 unlinkRows image ds base path =
     let v = volume image ds in
     let o = lookupNames byBytes v (pathNames base path) in
     pathRows image ds (BadPath base path ⊎ (pathNames base path ≡ [])) (pathNames base path)
-    ((16 given-when Leads o (λ i. sequenceOf (inodeOf byBytes v i) ≡ lastSequence))
-    ∷ (15 given-when Leads o (λ i. NoRoom image ds (deletion v i)))
-    ∷ [])
+    (rewriteRows v o (λ i. NoRoom image ds (deletion v i)))
+
+-- T-01: "Moving a directory below itself, or the root": the inode is the root, or the directory above the new name or an ancestor of that one. (A
+-- file is never among these: the parent that a record names is a directory.)
+abbrev pub IntoItself : Volume Bytes → ℕ → ℕ → Type 0
+IntoItself v i d = (i ≡ rootId) ⊎ List·Memᴰ i (lineage byBytes v d)
+
+-- T-01, rename: "Refusals 8 to 12, 15 and 16 apply". 8 of either path, and "A new path '/' is 8"; "The old path is walked first", then all but the
+-- last name of the new one; "the new name being there is 12, and the new parent being a file is 11"; 18 is "checked after 12"
+abbrev pub renameRows : Bytes → List Descriptor → Bytes → Bytes → Bytes → List Row
+renameRows image ds base old new =
+    let v = volume image ds in
+    let ns = pathNames base new in
+    let o = lookupNames byBytes v (pathNames base old) in
+    let above = lookupNames byBytes v (namesBefore ns) in
+    pathRows image ds ((BadPath base old ⊎ BadPath base new) ⊎ (ns ≡ [])) (pathNames base old)
+    (walkRows v (namesBefore ns)
+    ++ (nameRows v above (lastName ns)
+    ++ ((18 given-when Leads o (λ i. Leads above (IntoItself v i)))
+    ∷ rewriteRows v o (λ i. Leads above (λ d. NoRoom image ds (rewritten v i d (lastName ns)))))))
 
 -- "17: collect: no file area is as long as the scratch area"
 abbrev pub sourceRow : List Descriptor → List Descriptor → Row
@@ -254,7 +281,7 @@ sourceRow fs ss = 17 given-when ((s f : Descriptor) → List·Memᴰ s ss → Li
 abbrev pub collectRows : Bytes → List Descriptor → List Row
 collectRows image ds = mountRows image ds ++ (sourceRow (fileAreas image ds) (scratchAreas image ds) ∷ [])
 
--- "given exactly when that document says"
+-- "given exactly when that document says"; T-01: "from here on demands 1 and 2 read document 01, its numbers too, as these requests amend it"
 pub record Exactly (image : Bytes) (ds : List Descriptor) : Type 0 where
   -- the names of a good path, for the walk, are those that it spells
   pub names : (base path : Bytes) (ns : List Bytes) → Named base path ns → pathNames base path ≡ ns
@@ -267,4 +294,5 @@ pub record Exactly (image : Bytes) (ds : List Descriptor) : Type 0 where
   pub create : (base path : Bytes) (kind : ℕ) → Answers (createRows image ds base path kind) (createOf image ds base path kind .number)
   pub append : (base path text : Bytes) → Answers (appendRows image ds base path text) (appendOf image ds base path text)
   pub unlink : (base path : Bytes) → Answers (unlinkRows image ds base path) (unlinkOf image ds base path)
+  pub rename : (base old new : Bytes) → Answers (renameRows image ds base old new) (renameOf image ds base old new)
   pub collect : Answers (collectRows image ds) (collectOf image ds)

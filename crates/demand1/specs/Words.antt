@@ -1,6 +1,7 @@
 -- Demand 1, and what it says: "Any image, any area list, any path and any data may be handed in. Every call answers or refuses by one of the
 -- numbers in document 01, given exactly when that document says. A refused call changes no byte of the image, of an output buffer or of a file
--- handle. Accepted calls change only the bytes that document 01 names."
+-- handle. Accepted calls change only the bytes that document 01 names." Document 02, T-01: "from here on demands 1 and 2 read document 01, its
+-- numbers too, as these requests amend it".
 use Prim.Native.Nat.{ℕ, _+_, _≤_, _<_}
 use mathlib.Core.Path.{_≡_}
 use mathlib.Core.Logic.{_⊎_}
@@ -25,7 +26,9 @@ use Rattle.calls.specs.Lookup.{resolve, lookupOf, openOf}
 use Rattle.calls.specs.Read.{Given, readGiven, readAnswer, bufferAfter, handleAfter}
 use Rattle.calls.specs.Create.{lastName, namesBefore, newInode, createOf, imageCreated}
 use Rattle.calls.specs.Append.{newBlocks, appendOf, imageAppended}
+use Rattle.calls.specs.Rewrite.{rewritten}
 use Rattle.calls.specs.Unlink.{deletion, unlinkOf, imageUnlinked}
+use Rattle.calls.specs.Rename.{renameOf, imageRenamed}
 use Rattle.calls.specs.Collect.{sourceOf, collectOf, imageCollected}
 use Rattle.calls.specs.declared.Descriptor.{Descriptor}
 use Rattle.calls.specs.declared.Handle.{Handle}
@@ -70,6 +73,10 @@ appendNumbers = pathNumbers ++ (13 ∷ 15 ∷ [])
 abbrev pub unlinkNumbers : List ℕ
 unlinkNumbers = pathNumbers ++ (15 ∷ 16 ∷ [])
 
+-- T-01: "Refusals 8 to 12, 15 and 16 apply", and "a new number, 18"
+abbrev pub renameNumbers : List ℕ
+renameNumbers = pathNumbers ++ (12 ∷ 15 ∷ 16 ∷ 18 ∷ [])
+
 -- "17: collect: no file area is as long as the scratch area"
 abbrev pub collectNumbers : List ℕ
 collectNumbers = reportNumbers ++ (17 ∷ [])
@@ -85,6 +92,7 @@ pub record Numbers (image : Bytes) (ds : List Descriptor) : Type 0 where
   pub create : (base path : Bytes) (kind : ℕ) → List·Memᴰ (createOf image ds base path kind .number) createNumbers
   pub append : (base path text : Bytes) → List·Memᴰ (appendOf image ds base path text) appendNumbers
   pub unlink : (base path : Bytes) → List·Memᴰ (unlinkOf image ds base path) unlinkNumbers
+  pub rename : (base old new : Bytes) → List·Memᴰ (renameOf image ds base old new) renameNumbers
   pub collect : List·Memᴰ (collectOf image ds) collectNumbers
 
 -- ---- the bytes that a call changes
@@ -145,6 +153,11 @@ pub record AcceptedCalls (image : Bytes) (ds : List Descriptor) : Type 0 where
   -- "a deletion record", of the inode i
   pub unlink : (base path : Bytes) → unlinkOf image ds base path ≡ 0
       → (i : ℕ) × (resolve image ds base path ≡ found i) × OnlyOne image (imageUnlinked image ds base path) ds (deletion (volume image ds) i)
+  -- T-01: "the inode is rewritten with .. the new parent and name; it goes where any new record goes": the inode i, below the directory d
+  pub rename : (base old new : Bytes) → renameOf image ds base old new ≡ 0
+      → (i d : ℕ) × (resolve image ds base old ≡ found i)
+      × (lookupNames byBytes (volume image ds) (namesBefore (pathNames base new)) ≡ found d)
+      × OnlyOne image (imageRenamed image ds base old new) ds (rewritten (volume image ds) i d (lastName (pathNames base new)))
   -- scratch and the source area
   pub collect : collectOf image ds ≡ 0
       → (scratch source : Descriptor) × (scratchAreas image ds ≡ scratch ∷ []) × (sourceOf image (fileAreas image ds) scratch ≡ some source)

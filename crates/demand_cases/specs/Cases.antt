@@ -1,10 +1,10 @@
 -- What the demands say of some small volumes: each field is an instance of the field of a theorem that its comment names, or of a sentence of
--- document 01, by computation. Each edit of a definition in tests/definitions, which would bring stale data back or break a promise, makes one of
--- them false, and with it the theorem.
+-- documents 01 and 02, by computation. Each edit of a definition in tests/definitions, which would bring stale data back or break a promise, makes
+-- one of them false, and with it the theorem.
 use Prim.Native.Nat.{ℕ, _+_, _*_}
 use mathlib.Core.Path.{_≡_, refl}
 use mathlib.Core.Bool.{true, false}
-use mathlib.Core.List.{List, [], _∷_}
+use mathlib.Core.List.{List, [], _∷_, _++_}
 use mathlib.Core.Option.{Option, some}
 use lib.ListN.{length, take, set, replicate}
 use lib.Dec.{leb}
@@ -35,6 +35,7 @@ use Rattle.calls.specs.Create.{lastName, namesBefore, firstIdOf, newId, newInod
 use Rattle.calls.specs.Append.{shortestLength, cutInto, piecesOf, blockRecords, newBlocks, appendTo, appending, appendOf, imageAppended}
 use Rattle.calls.specs.Rewrite.{rewritten, rewritePlan, rewriteNumber, imageRewritten}
 use Rattle.calls.specs.Unlink.{deletion, unlinkOne, unlinking, unlinkOf, imageUnlinked}
+use Rattle.calls.specs.Rename.{movesIntoItself, moveNumber, moving, renaming, renameOf, imageRenamed}
 use Rattle.calls.specs.Collect.{eligible, precedes, unpreceded, sourceOf, isOther, recordsElsewhere, counts, firstPlaces, dropsBlock, namesInode}
 use Rattle.calls.specs.Collect.{dropsInode, drops, copies, isBlank, resetStores, readyStores, recordStores, nextCount, collectStores, collected}
 use Rattle.calls.specs.Collect.{collecting, collectOf, imageCollected}
@@ -47,13 +48,18 @@ use Rattle.calls.specs.declared.Descriptor.{Descriptor}
 use Rattle.calls.specs.Read.{given, readGiven, give, giveBlocks}
 use Rattle.volume.specs.View.{byBytes}
 use Rattle.volume.specs.Counting.{inodeOf}
-use Rattle.volume.specs.Fate.{orphan, liveIds}
-use Rattle.volume.specs.Tree.{absent}
+use Rattle.volume.specs.Fate.{orphan, liveIds, lineage}
+use Rattle.volume.specs.Tree.{found, absent}
 use Rattle.volume.specs.Contents.{textOf, headersFrom}
-use Rattle.demand_cases.specs.Story.{directory, fileInIt, text, image₀, image₁, image₂, image₃, image₄, image₅, image₆}
+use Rattle.demand_cases.specs.Story.{directory, fileInIt, fileRenamed, text, image₀, image₁, image₂, image₃, image₄, image₅, image₆, image₇}
 use Rattle.demand_cases.specs.Volumes.{holding, area₀, area₁, area₂, area₃, two, three, rootRecord, file, other, a, b, slash}
 use Rattle.demand_cases.specs.Volumes.{oneByte, deleted, torn, orphaned, olderLast, usedScratch, clashing, twoFiles, firstHit, twins, looping}
 use Rattle.demand_cases.specs.Volumes.{reservedInode, reservedArea, reservedScratch, counted, littered}
+use Rattle.demand_cases.specs.Volumes.{top, pathD, pathE, pathA, nested, moved, renamed, reused, hit}
+
+-- the number of a rename in the tree of "/d/e/a"
+abbrev nestedRename : Bytes → Bytes → ℕ
+nestedRename old new = renameOf nested two [] old new
 
 -- the source among areas of these counts
 abbrev sourceIn : List ℕ → Option Descriptor
@@ -119,14 +125,39 @@ pub record Cases : Type 0 where
   pub passed-over-read : areaReportOf (set littered 182 1) three 1 0
       ≡ record { number = 0; kind = 0; id = 0; count = 0; records = 0; stretches = 1; skipped = 5; free = 131; offset = 24; length = 5 }
   pub beyond-the-list : areaReportOf littered three 3 0 .number ≡ 1
-  -- the hypotheses of each theorem can be met: format, a directory, a file in it, two bytes appended, the directory unlinked, a collection
+  -- T-01, AfterRename.found-at-new, old-gone and reads: the same id is found at the new path and nothing at the old one, and the file reads as before
+  pub rename-found : resolve renamed two [] (slash b) ∷ resolve renamed two [] (slash a) ∷ [] ≡ found file ∷ absent 9 ∷ []
+  pub rename-reads : readGiven renamed two file 0 9 ≡ given (0x6f ∷ []) 1
+  -- AfterRename.moved-paths: what is in a directory moves with it
+  pub rename-moves-all : resolve moved two [] (slash b ++ slash a) ∷ resolve moved two [] pathA ∷ [] ≡ found file ∷ absent 9 ∷ []
+  -- Exactly.rename: "A new path '/' is 8"
+  pub rename-to-top : nestedRename pathD top ≡ 8
+  -- 10 of the old path; of the new one 9, and 11 where its parent is a file
+  pub rename-walks : renameOf twins two [] (slash a) (slash b) ∷ nestedRename pathA (slash a ++ slash b)
+      ∷ renameOf twoFiles two [] (slash a) (slash b ++ slash a) ∷ []
+      ≡ 10 ∷ 9 ∷ 11 ∷ []
+  -- "The old path is walked first": 9 of the old path, where the new one alone is 11
+  pub rename-old-first : nestedRename (slash b) (pathA ++ (slash a ++ slash b)) ≡ 9
+  -- "the new name being there is 12", also where it is the present one; 18 is "checked after 12"
+  pub rename-present : nestedRename pathE pathE ≡ 12
+  pub rename-top-to-taken : nestedRename top pathD ≡ 12
+  -- 18: the root; a directory below itself, and below one that is in it
+  pub rename-top : nestedRename top (slash b) ≡ 18
+  pub rename-below-itself : nestedRename pathD (pathD ++ slash b) ≡ 18
+  pub rename-further-below : nestedRename pathD (pathE ++ slash b) ≡ 18
+  -- "A damaged rename record may bring the old name back, or the answer 10": where a new file has that name
+  pub damaged-rename : resolve (hit renamed) two [] (slash a) ∷ resolve (hit renamed) two [] (slash b) ∷ [] ≡ found file ∷ absent 9 ∷ []
+  pub damaged-rename-ambiguous : resolve (hit reused) two [] (slash a) ≡ absent 10
+  -- the hypotheses of each theorem can be met: format, a directory, a file in it, two bytes appended, the file renamed, the directory
+  -- unlinked, a collection
   pub accepted : formatNumber image₀ two ∷ createOf image₁ two [] directory 0 .number ∷ createOf image₂ two [] fileInIt 1 .number
-      ∷ appendOf image₃ two [] fileInIt text ∷ unlinkOf image₄ two [] directory ∷ collectOf image₅ two ∷ mountNumber image₆ two ∷ []
-      ≡ replicate 7 0
+      ∷ appendOf image₃ two [] fileInIt text ∷ renameOf image₄ two [] fileInIt fileRenamed ∷ unlinkOf image₅ two [] directory
+      ∷ collectOf image₆ two ∷ mountNumber image₇ two ∷ []
+      ≡ replicate 8 0
 
 pub cases : Cases
 unfolding
-    image₀ image₁ image₂ image₃ image₄ image₅ image₆ holding oneByte deleted torn orphaned olderLast usedScratch clashing twoFiles firstHit twins looping reservedInode reservedArea reservedScratch counted resolve readGiven give giveBlocks textOf
+    image₀ image₁ image₂ image₃ image₄ image₅ image₆ image₇ holding oneByte deleted torn orphaned olderLast usedScratch clashing twoFiles firstHit twins looping reservedInode reservedArea reservedScratch counted resolve readGiven give giveBlocks textOf
     headersFrom areaHeader inodeBytes blockBytes sealed inodeFront blockFront le16 le32 crcBit crcByte crcOver check isDirectoryId isFileId
     isInodeId isBlockId recordSize nameGood inodeRule previousRule blockRule inodeRules blockRules checkRight wellFormed acceptable magicsRight
     validHeader isScratch isFileArea skip parts placed erasedEnd freeSize damagedBytes damaged areaParts areaRecords areaDamage areaFree areaClean
@@ -138,6 +169,7 @@ unfolding
     imageFormatted attemptAt lastName namesBefore firstIdOf newId newInode createIn creating createOf imageCreated shortestLength cutInto piecesOf
     blockRecords newBlocks appendTo appending appendOf imageAppended deletion rewritten rewritePlan rewriteNumber imageRewritten unlinkOne unlinking
     unlinkOf imageUnlinked eligible precedes unpreceded first sourceOf isOther recordsElsewhere counts firstPlaces dropsBlock namesInode dropsInode drops
+    nested moved renamed reused lineage movesIntoItself moveNumber moving renaming renameOf imageRenamed
     littered reportOf mountedReport damageIn totalSize firstStretch liveIds areaReportOf areaReport areaReportNumber kindNumber ifValid
     copies isBlank resetStores readyStores recordStores nextCount collectStores collected collecting collectOf imageCollected
 cases = record {
@@ -168,5 +200,18 @@ cases = record {
   area-read = refl;
   passed-over-read = refl;
   beyond-the-list = refl;
+  rename-found = refl;
+  rename-reads = refl;
+  rename-moves-all = refl;
+  rename-to-top = refl;
+  rename-walks = refl;
+  rename-old-first = refl;
+  rename-present = refl;
+  rename-top-to-taken = refl;
+  rename-top = refl;
+  rename-below-itself = refl;
+  rename-further-below = refl;
+  damaged-rename = refl;
+  damaged-rename-ambiguous = refl;
   accepted = refl;
 }

@@ -6,6 +6,8 @@ use Rattle.format.specs.Bytes.{Bytes}
 use Rattle.format.specs.Ids.{NONE}
 use Rattle.format.specs.Reading.{ERASED}
 use Rattle.format.specs.Encoding.{inodeFront, sealed, inodeBytes, blockBytes, areaHeader}
+use Rattle.calls.specs.Create.{imageCreated}
+use Rattle.calls.specs.Rename.{imageRenamed}
 use Rattle.calls.specs.declared.Descriptor.{Descriptor}
 
 -- an area with a collection count and an id: records one behind the other, and then free space
@@ -51,6 +53,19 @@ b = 0x62 ∷ []
 
 abbrev pub slash : Bytes → Bytes
 slash name = 0x2f ∷ name
+
+-- the root's path, and those of "d", of "e" in it, and of "a" in that
+abbrev pub top : Bytes
+top = slash []
+
+abbrev pub pathD : Bytes
+pathD = slash (0x64 ∷ [])
+
+abbrev pub pathE : Bytes
+pathE = pathD ++ slash (0x65 ∷ [])
+
+abbrev pub pathA : Bytes
+pathA = pathE ++ slash a
 
 -- ---- volumes
 
@@ -122,3 +137,26 @@ unfoldable pub littered : Bytes
 littered =
     holding 0 0 (rootRecord ++ (replicate 3 0 ++ (inodeBytes file 0 0 a ++ replicate 2 0)))
     ++ (holding 9 1 (replicate 5 0) ++ holding 7 255 (replicate 7 0))
+
+-- ---- renames (T-01)
+
+-- the directory 1, named d, the directory 2, named e, in it, and the file a in that
+unfoldable pub nested : Bytes
+nested =
+    holding 0 0 (rootRecord ++ (inodeBytes 1 0 0 (0x64 ∷ []) ++ (inodeBytes 2 0 1 (0x65 ∷ []) ++ inodeBytes file 0 2 a)))
+    ++ holding 0 255 []
+
+-- the directory e moved to the root, with a new name
+unfoldable pub moved : Bytes
+moved = imageRenamed nested two [] pathE (slash b)
+
+-- the file a, of one byte, renamed to b; and then a new file a
+unfoldable pub renamed : Bytes
+renamed = imageRenamed oneByte two [] (slash a) (slash b)
+
+unfoldable pub reused : Bytes
+reused = imageCreated renamed two [] (slash a) 1
+
+-- an image with the record of that rename overwritten in one byte, its name
+abbrev pub hit : Bytes → Bytes
+hit image = set image 110 0
