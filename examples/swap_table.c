@@ -68,7 +68,7 @@ static unsigned long whole(const char *text) {
 static bool sound(const nffs_volume *flash) {
     const nffs_report_answer report = nffs_volume_report(flash);
     bool is = report.number == NFFS_OK && report.stretches == 0;
-    for (uint32_t i = 0; is && i < AREAS; i++) {
+    for (uint32_t i = 0; is && i < flash->areas_count; i++) {
         is = nffs_volume_area_report(flash, i, 0).kind != NFFS_AREA_PASSED_OVER;
     }
     return is;
@@ -76,10 +76,10 @@ static bool sound(const nffs_volume *flash) {
 
 /* Renames, or unlinks where there is no new name. Where there is no room it collects and calls again, as often as there are areas. */
 static bool settle(const nffs_volume *flash, const char *name, const char *new_name) {
-    for (int collected = 0;; collected++) {
+    for (size_t collected = 0;; collected++) {
         const uint32_t number =
             new_name == NULL ? nffs_volume_unlink(flash, HOME, name) : nffs_volume_rename(flash, HOME, name, new_name);
-        if (number != NFFS_NO_ROOM || collected == AREAS || nffs_volume_collect(flash) != NFFS_OK) {
+        if (number != NFFS_NO_ROOM || collected == flash->areas_count || nffs_volume_collect(flash) != NFFS_OK) {
             return number == NFFS_OK;
         }
     }
