@@ -22,7 +22,7 @@ const TABLE: [(u32, &str, &str); 18] = [
         "`nffs areas IMAGE` prints the areas whose valid headers it sees."),
     (8, "Mend the path: \"/\", or names of 1 to 255 bytes behind single slashes, 1,024 bytes in all, and as many in the base. What a rename moved too deep for that is reached again when a directory above it is renamed to a shorter path. At most 8,192 bytes are appended at a time. The root is neither created nor unlinked, and nothing is renamed to it.",
         ""),
-    (9, "Nothing is there: look at the path, name by name, or create it. Of a handle: the file was unlinked, open it again. Where something should be there, ask for a report: its record, or one above it, may be damaged; what was renamed may have its old name again.",
+    (9, "Nothing is there: look at the path, name by name, or create it. Of a handle: the file was unlinked, open it again. Where something should be there, ask for a report: its record, or one above it, may be damaged; what was renamed may have an earlier name again.",
         "`nffs check IMAGE` lists what is live."),
     (10, "Two live children have this name, so that it leads to neither: damage can bring a deleted or an earlier name back. Unlinking the directory above takes both away, and renaming it leaves its name for a new one; the root can be neither unlinked nor renamed.",
         ""),
