@@ -9,17 +9,19 @@
 #include <inttypes.h>
 #include <stdbool.h>
 #include <stdio.h>
+#include <stdlib.h>
 #include <string.h>
 
-enum { AREA = 4096, AREAS = 2, IMAGE = AREAS * AREA, ROOM = 64, STEPS = 5, UNLINK = 3 };
+enum { AREA = 4096, AREAS = 2, IMAGE = AREAS * AREA, ROOM = 64, STEPS = 5, WHOLE = 2 };
 
 /* One base serves both names. */
 static const char *const HOME = "/dose";
 static const char *const TABLE = "table";
 static const char *const FRESH = "table.new";
-static const char *const OLD = "0 5 10 20 40";
-static const char *const NEW = "0 4 9 18 36";
-enum { HALF = 5 };
+/* A table begins with its number, which goes up with each update, and ends with a dot: one without a dot is a part. */
+static const char *const OLD = "1: 0 5 10 20 40.";
+static const char *const NEW = "2: 0 4 9 18 36.";
+enum { HALF = 8 };
 
 static const nffs_area areas[AREAS] = {{0, AREA}, {AREA, AREA}};
 
@@ -56,23 +58,60 @@ static void show(const nffs_volume *flash, const char *name) {
     }
 }
 
-/* What a firmware does at its start, before it uses the table. A call that is refused with 15 is made again after a collection. */
-static uint32_t start(const nffs_volume *flash) {
-    const uint32_t table = nffs_volume_lookup(flash, HOME, TABLE).number;
-    const uint32_t fresh = nffs_volume_lookup(flash, HOME, FRESH).number;
-    if (table == NFFS_NOT_FOUND && fresh == NFFS_OK) {
-        /* the old one was unlinked, so the new one is whole; of a first table, which replaces none, nothing tells it */
-        printf("    a start finishes the rename\n");
-        return nffs_volume_rename(flash, HOME, FRESH, TABLE);
+/* The number of a table that is whole; 0 of a part. */
+static unsigned long whole(const char *text) {
+    const size_t length = strlen(text);
+    return length > 0 && text[length - 1] == '.' ? strtoul(text, NULL, 10) : 0;
+}
+
+/* Whether no damage is counted and no area passed over. What comes back stale is not seen. */
+static bool sound(const nffs_volume *flash) {
+    const nffs_report_answer report = nffs_volume_report(flash);
+    bool is = report.number == NFFS_OK && report.stretches == 0;
+    for (uint32_t i = 0; is && i < flash->areas_count; i++) {
+        is = nffs_volume_area_report(flash, i, 0).kind != NFFS_AREA_PASSED_OVER;
     }
-    if (table == NFFS_OK && fresh == NFFS_OK) {
-        printf("    a start unlinks table.new, which may not be whole\n");
-        return nffs_volume_unlink(flash, HOME, FRESH);
+    return is;
+}
+
+/* Renames, or unlinks where there is no new name. Where there is no room it collects and calls again, as often as there are areas. */
+static bool settle(const nffs_volume *flash, const char *name, const char *new_name) {
+    for (size_t collected = 0;; collected++) {
+        const uint32_t number =
+            new_name == NULL ? nffs_volume_unlink(flash, HOME, name) : nffs_volume_rename(flash, HOME, name, new_name);
+        if (number != NFFS_NO_ROOM || collected == flash->areas_count || nffs_volume_collect(flash) != NFFS_OK) {
+            return number == NFFS_OK;
+        }
     }
-    if (table == NFFS_OK) {
+}
+
+/* What a firmware does at its start, before it uses the table. It acts on nothing but what a power cut leaves. False where somebody has to look. */
+static bool start(const nffs_volume *flash) {
+    if (!sound(flash)) {
+        printf("    a start changes nothing: the flash is damaged\n");
+        return false;
+    }
+    char text[ROOM], fresh_text[ROOM];
+    const uint32_t number = load(flash, TABLE, text), fresh_number = load(flash, FRESH, fresh_text);
+    const unsigned long table = whole(text), fresh = whole(fresh_text);
+    if (table > 0 && fresh_number == NFFS_NOT_FOUND) {
         printf("    a start has nothing to do\n");
+        return true;
     }
-    return table;
+    if (table > 0 && fresh > table) {
+        printf("    a start unlinks table and renames table.new: that is whole and newer\n");
+        return settle(flash, TABLE, NULL) && settle(flash, FRESH, TABLE);
+    }
+    if (table > 0 && fresh_number == NFFS_OK && fresh == 0) {
+        printf("    a start unlinks table.new: that is a part\n");
+        return settle(flash, FRESH, NULL);
+    }
+    if (number == NFFS_NOT_FOUND && fresh > 0) {
+        printf("    a start renames table.new: that is whole\n");
+        return settle(flash, FRESH, TABLE);
+    }
+    printf("    a start changes nothing: this is not what a power cut leaves\n");
+    return false;
 }
 
 /* Power is lost here: what is found, and whether a start leaves the one table that is right. */
@@ -82,8 +121,7 @@ static bool cut(const nffs_volume *flash, bool is_new) {
     char text[ROOM];
     show(flash, TABLE);
     show(flash, FRESH);
-    if (start(&later) != NFFS_OK || load(&later, TABLE, text) != NFFS_OK) {
-        printf("    there is no table\n");
+    if (!start(&later) || load(&later, TABLE, text) != NFFS_OK) {
         return false;
     }
     printf("    then table: \"%s\"\n", text);
@@ -95,8 +133,8 @@ static bool step(const nffs_volume *flash, int k) {
     switch (k) {
     case 0: return done("create table.new", nffs_volume_create(flash, HOME, FRESH, NFFS_FILE).number);
     case 1: return done("append to table.new", nffs_volume_append(flash, HOME, FRESH, NEW, HALF));
-    case 2: return done("append to table.new", nffs_volume_append(flash, HOME, FRESH, NEW + HALF, strlen(NEW) - HALF));
-    case UNLINK: return done("unlink table", nffs_volume_unlink(flash, HOME, TABLE));
+    case WHOLE: return done("append to table.new", nffs_volume_append(flash, HOME, FRESH, NEW + HALF, strlen(NEW) - HALF));
+    case 3: return done("unlink table", nffs_volume_unlink(flash, HOME, TABLE));
     default: return done("rename table.new to table", nffs_volume_rename(flash, HOME, FRESH, TABLE));
     }
 }
@@ -109,7 +147,7 @@ int main(void) {
                 done("create table", nffs_volume_create(&flash, HOME, TABLE, NFFS_FILE).number) &&
                 done("append to table", nffs_volume_append(&flash, HOME, TABLE, OLD, strlen(OLD))) && cut(&flash, false);
     for (int k = 0; good && k < STEPS; k++) {
-        good = step(&flash, k) && cut(&flash, k >= UNLINK);
+        good = step(&flash, k) && cut(&flash, k >= WHOLE);
     }
     uint32_t sum = 0;
     for (size_t i = 0; i < sizeof image; i++) {

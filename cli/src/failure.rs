@@ -25,7 +25,9 @@ pub enum Failure {
     Unfit(String),
     /// The volume does not allow it: the command with its image and path.
     Refused(String, Refusal),
-    /// The same, and collecting did not help: so often it was tried.
+    /// The same, of a move whose new path is there.
+    Taken(String),
+    /// The volume does not allow it, and collecting did not help: so often it was tried.
     NoFit(String, Refusal, u32),
     /// Something was changed, but not all was done, or it may not last: what.
     Partly(String),
@@ -41,7 +43,7 @@ impl Failure {
     /// The status of a run, as the usage says it.
     pub fn status(&self) -> u8 {
         match self {
-            Failure::Refused(..) | Failure::NoFit(..) | Failure::Unmounted => 1,
+            Failure::Refused(..) | Failure::Taken(_) | Failure::NoFit(..) | Failure::Unmounted => 1,
             Failure::Usage(_) | Failure::File(..) | Failure::Unfit(_) | Failure::Closed => 2,
             Failure::Unsound => 3,
             Failure::Partly(_) => 4,
@@ -65,6 +67,9 @@ impl fmt::Display for Failure {
             Failure::Unfit(what) | Failure::Partly(what) => f.write_str(what),
             Failure::Refused(what, refusal) => {
                 write!(f, "{what}: refused with {refusal}{}", advice::lines(*refusal))
+            }
+            Failure::Taken(what) => {
+                write!(f, "{what}: refused with {}\n  {}", Refusal::EXISTS, advice::NEW_PATH_TAKEN)
             }
             Failure::NoFit(what, refusal, made) => {
                 let words = if *made < COLLECTIONS_MOST { NO_FIT } else { NO_TURN };

@@ -161,7 +161,13 @@ pub fn mkdir(arguments: &Arguments) -> Result<(), Failure> {
 
 pub fn mv(arguments: &Arguments) -> Result<(), Failure> {
     let (old, new) = (arguments.path(0), arguments.path(1));
-    change(arguments, |work| work.make(|image, areas| nffs::rename(image, areas, b"", old, new)))
+    let renamed = change(arguments, |work| {
+        work.make(|image, areas| nffs::rename(image, areas, b"", old, new))
+    });
+    renamed.map_err(|failure| match failure {
+        Failure::Refused(what, Refusal::EXISTS) => Failure::Taken(what),
+        other => other,
+    })
 }
 
 pub fn rm(arguments: &Arguments) -> Result<(), Failure> {

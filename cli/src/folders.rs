@@ -185,7 +185,7 @@ pub fn export(arguments: &Arguments) -> Result<(), Failure> {
     };
     let found = tree(&image, &areas, path).map_err(refused)?;
     let (targets, mut left_out) = targets(&found, path, folder);
-    // below an ambiguous path, or deeper than a path can say
+    // at or below an ambiguous path, or one that is too long
     let live = nffs::report(&image, &areas).map_err(refused)?.live as usize;
     if path == b"/" && live > found.entries.len() {
         left_out += &format!("\n    {} without a path of their own", live - found.entries.len());
@@ -244,6 +244,9 @@ fn targets<'a>(found: &'a Tree, path: &[u8], folder: &Path) -> (Vec<Target<'a>>,
     }
     for path in &found.ambiguous {
         left_out += &format!("\n    {} (two or more have this path)", shown(path));
+    }
+    for path in &found.too_long {
+        left_out += &format!("\n    {} (the path is too long)", shown(path));
     }
     (targets, left_out)
 }

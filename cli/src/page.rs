@@ -8,6 +8,7 @@ use crate::json;
 use crate::records::Candidate;
 use crate::tree::{Entry, Tree, What};
 use nffs::{Area, AreaKind, AreaReport, Refusal, Report};
+use std::collections::BTreeSet;
 use std::fmt::Write;
 
 const DAMAGE: &str = "\
@@ -23,11 +24,16 @@ const BROKEN: &str = "\
 Broken: blocks of the file are lost. `nffs put IMAGE PATH FILE --replace` stores it anew, `nffs rm`
   unlinks it.";
 const ORPHANS: &str = "\
-Orphans: the directory they were in is lost. No path leads to them, and they keep their room until
-  the volume is formatted.";
-const UNREACHED: &str = "\
-Unreached: live, but no path leads there, since two have one name or the path would be too long.
-  `nffs rm` of the directory above takes them away; the root cannot be unlinked.";
+Orphans: not deleted, but the directories they lie in do not lead to the root: one of these is lost,
+  or a record of a move is, so that they lie in each other. No path leads to orphans, and they keep
+  their room until the volume is formatted.";
+const AMBIGUOUS: &str = "\
+Ambiguous: two or more have one path, so that it leads to none of them, nor to what lies below them.
+  `nffs mv` of the directory above leaves its name for a new one, `nffs rm` takes them away with all
+  that lies in it; the root can be neither moved nor unlinked.";
+const TOO_LONG: &str = "\
+Too long: live, but below so many names that no call takes the path. Nothing of it is lost:
+  `nffs mv` of a directory above to a shorter path brings it back, and `nffs rm` would delete it.";
 
 /// An area, what its header says, and what a call says of it, if the list is good.
 pub struct Row {
@@ -235,7 +241,8 @@ impl Mounted {
             (self.report.stretches > 0, DAMAGE),
             (broken, BROKEN),
             (self.gone.orphans.is_some_and(|n| n > 0), ORPHANS),
-            (self.unreached > 0, UNREACHED),
+            (!self.tree.ambiguous.is_empty(), AMBIGUOUS),
+            (!self.tree.too_long.is_empty(), TOO_LONG),
         ];
         found.into_iter().filter(|(is, _)| *is).map(|(_, words)| words).collect()
     }
@@ -266,6 +273,9 @@ impl Mounted {
         for path in &self.tree.ambiguous {
             let _ = writeln!(text, "  {:>9}  {}", "ambiguous", shown(path));
         }
+        for path in &self.tree.too_long {
+            let _ = writeln!(text, "  {:>9}  {}", "too long", shown(path));
+        }
         for orphan in &self.gone.named {
             let name = shown(&orphan.name);
             let _ = writeln!(
@@ -282,7 +292,9 @@ impl Mounted {
 
     fn json(&self) -> Vec<(&'static str, String)> {
         let r = &self.report;
-        let paths = self.tree.ambiguous.iter().map(|path| json::object(&path_fields("path", path)));
+        let paths = |paths: &BTreeSet<Vec<u8>>| {
+            json::list(paths.iter().map(|path| json::object(&path_fields("path", path))))
+        };
         let orphan = |c: &Candidate| {
             let [name, bytes] = path_fields("name", &c.name);
             json::object(&[name, bytes, ("id", c.id.to_string()), ("parent", c.parent.to_string())])
@@ -297,7 +309,8 @@ impl Mounted {
             ("first_offset", r.first_offset.to_string()),
             ("first_length", r.first_length.to_string()),
             ("entries", json::list(self.tree.entries.iter().map(Entry::json))),
-            ("ambiguous", json::list(paths)),
+            ("ambiguous", paths(&self.tree.ambiguous)),
+            ("too_long", paths(&self.tree.too_long)),
             ("unreached", self.unreached.to_string()),
             ("orphaned", json::list(self.gone.named.iter().map(orphan))),
         ]

@@ -24,7 +24,12 @@ pub struct Tree {
     pub entries: Vec<Entry>,
     /// Paths that lead to two or more live inodes, and so to none.
     pub ambiguous: BTreeSet<Vec<u8>>,
+    /// Paths that no call takes, of live inodes that no other path was found for.
+    pub too_long: BTreeSet<Vec<u8>>,
 }
+
+/// The most bytes of a path, and of a base.
+const PATH_MOST: usize = 1024;
 
 /// What lies at a path and below it. Names are proposed by `records`; an entry is one whose path
 /// leads to its id by a lookup, and whose kind and contents a read of that id answers.
@@ -32,19 +37,39 @@ pub fn tree(image: &[u8], areas: &[Area], path: &[u8]) -> Result<Tree, Refusal> 
     let found = nffs::lookup(image, areas, b"", path)?;
     let proposed = candidates(image, areas);
     let mut tree = Tree::default();
+    let mut too_long = Vec::new();
     // what is still to be looked at, the next one last
     let mut open = vec![(path.to_vec(), found.id)];
     while let Some((path, id)) = open.pop() {
         let Some(what) = what_is(image, areas, id)? else { continue };
         if matches!(what, What::Directory) {
             let children = proposed.iter().filter(|c| c.parent == id);
-            let mut live = tree.children(image, areas, &path, children)?;
+            let mut live = tree.children(image, areas, &path, children.clone())?;
             live.reverse();
             open.extend(live);
+            let deep = children.map(|c| (below(&path, &c.name), c.id));
+            too_long.extend(deep.filter(|(path, _)| based(path).is_none()));
         }
         tree.entries.push(Entry { path, id, what });
     }
+    // an old name may stand there of what has another path by now
+    for (path, id) in too_long {
+        if tree.entries.iter().all(|e| e.id != id) && what_is(image, areas, id)?.is_some() {
+            tree.too_long.insert(path);
+        }
+    }
     Ok(tree)
+}
+
+/// A path as base and path for a call: the path alone, or the longest base that one can have and the
+/// rest; none where the rest is longer than a path may be.
+fn based(path: &[u8]) -> Option<(&[u8], &[u8])> {
+    if path.len() <= PATH_MOST {
+        return Some((b"", path));
+    }
+    let slash = path[..=PATH_MOST].iter().rposition(|b| *b == b'/')?;
+    let (base, rest) = (&path[..slash], &path[slash + 1..]);
+    (rest.len() <= PATH_MOST).then_some((base, rest))
 }
 
 impl Tree {
@@ -59,12 +84,13 @@ impl Tree {
         let mut confirmed = Vec::new();
         for candidate in proposed {
             let path = below(directory, &candidate.name);
-            match nffs::lookup(image, areas, b"", &path) {
+            let Some((base, rest)) = based(&path) else { continue };
+            match nffs::lookup(image, areas, base, rest) {
                 Ok(found) if found.id == candidate.id => confirmed.push((path, found.id)),
                 Err(Refusal::AMBIGUOUS) => {
                     self.ambiguous.insert(path);
                 }
-                // an old or damaged name, or a path too long for any call
+                // an old or damaged name
                 Ok(_) | Err(Refusal::NOT_FOUND | Refusal::BAD_PATH) => {}
                 Err(refusal) => return Err(refusal),
             }

@@ -1,5 +1,5 @@
-/* nffs_rename from C: what it refuses, in which order, what it writes and what it keeps; and what docs/LINKING.md, 12, says of a new record that
-   is damaged or comes back stale. Ends with the count. */
+/* nffs_rename from C: what it refuses, in which order, what it writes and what it keeps; and what docs/LINKING.md, 12, says of records that are
+   damaged, come back stale, or are read again after a while. Ends with the count. */
 #include "nffs.h"
 
 #include <stdio.h>
@@ -20,11 +20,12 @@ static void check(int holds, const char *what, int line) {
 /* what a case stands on; counted only where it does not hold */
 #define NEED(what) ((what) ? (void)0 : check(0, #what, __LINE__))
 
-enum { SIZE = 4096, IMAGE = 2 * SIZE, FILE_ID = 0x10000000, HEADER = 20 };
-static uint8_t image[IMAGE];
-static uint8_t kept[IMAGE];
-static const nffs_area areas[] = {{0, SIZE}, {SIZE, SIZE}};
-static const nffs_volume flash = {image, IMAGE, areas, 2};
+enum { SIZE = 4096, IMAGE = 2 * SIZE, WIDE = 65536, FILE_ID = 0x10000000, HEADER = 20 };
+static uint8_t image[WIDE];
+static uint8_t kept[WIDE];
+/* two areas of SIZE; the cases further below take more of them */
+static nffs_area areas[4] = {{0, SIZE}, {SIZE, SIZE}};
+static nffs_volume flash = {image, IMAGE, areas, 2};
 
 static uint32_t at(const char *path) {
     return nffs_volume_lookup(&flash, NULL, path).number;
@@ -268,14 +269,15 @@ static void updates(void) {
     CHECK(at("/table") == NFFS_NOT_FOUND && at("/table.new") == NFFS_OK);
 
     NEED(nffs_volume_format(&flash) == NFFS_OK);
-    directory("/tables");
-    file("/tables/a", "old a");
-    file("/tables/b", "old b");
-    directory("/tables.new");
-    file("/tables.new/a", "new a");
-    file("/tables.new/b", "new b");
-    CHECK(reads("/tables/a", "old a") && reads("/tables/b", "old b") && nffs_volume_unlink(&flash, NULL, "/tables") == NFFS_OK);
-    CHECK(moved("/tables.new", "/tables") == NFFS_OK && reads("/tables/a", "new a") && reads("/tables/b", "new b"));
+    directory("/dose");
+    directory("/dose/tables");
+    file("/dose/tables/a", "old a");
+    file("/dose/tables/b", "old b");
+    directory("/dose/tables.new");
+    file("/dose/tables.new/a", "new a");
+    file("/dose/tables.new/b", "new b");
+    CHECK(reads("/dose/tables/a", "old a") && reads("/dose/tables/b", "old b") && nffs_volume_unlink(&flash, NULL, "/dose/tables") == NFFS_OK);
+    CHECK(moved("/dose/tables.new", "/dose/tables") == NFFS_OK && reads("/dose/tables/a", "new a") && reads("/dose/tables/b", "new b"));
 }
 
 /* Where nothing leads to it any more: the record before it was collected, or names a directory that is deleted, or lies below it by now. */
@@ -304,6 +306,305 @@ static void lost(void) {
     CHECK(at("/e") == NFFS_NOT_FOUND && at("/d") == NFFS_NOT_FOUND && nffs_volume_report(&flash).live == 1);
 }
 
+/* From here on: several file areas, or others than before. */
+static void formatted(uint32_t count, uint32_t length) {
+    for (uint32_t i = 0; i < count; i++) {
+        areas[i] = (nffs_area){i * length, length};
+    }
+    flash.image_length = (size_t)count * length;
+    flash.areas_count = count;
+    NEED(nffs_volume_format(&flash) == NFFS_OK);
+}
+
+/* The place of the last record of an inode with a name; with an empty one, of its deletion. 0 where there is none. */
+static size_t found(uint32_t id, const char *name) {
+    static const uint8_t magic[] = {0xc0, 0x8b, 0x5f, 0x92};
+    const size_t length = strlen(name);
+    size_t place = 0;
+    for (size_t i = 0; i + HEADER + length <= flash.image_length; i++) {
+        if (memcmp(image + i, magic, 4) == 0 && memcmp(image + i + 4, &id, 4) == 0 && image[i + 17] == length &&
+            memcmp(image + i + HEADER, name, length) == 0) {
+            place = i;
+        }
+    }
+    return place;
+}
+
+/* The record is lost, or read again. */
+static void toggle(uint32_t id, const char *name) {
+    const size_t place = found(id, name);
+    NEED(place != 0);
+    image[place + 8] ^= 0x40;
+}
+
+/* Fills a file area with what is in use, up to its end: what comes next goes to another. Those before it are full. */
+static void fill(uint32_t index) {
+    enum { BLOCK = 24 };
+    static const uint8_t bytes[800];
+    uint32_t left;
+    if (at("/fill") != NFFS_OK) {
+        file("/fill", "");
+    }
+    while ((left = nffs_volume_area_report(&flash, index, 0).free) > BLOCK) {
+        const uint32_t most = left - BLOCK;
+        NEED(nffs_volume_append(&flash, NULL, "/fill", bytes, most <= 800 ? most : most < 900 ? 700 : 800) == NFFS_OK);
+        if (nffs_volume_area_report(&flash, index, 0).free == left) {
+            NEED(0);
+            return;
+        }
+    }
+    NEED(left < HEADER);
+}
+
+static uint32_t id_of(const char *path) {
+    return nffs_volume_lookup(&flash, NULL, path).id;
+}
+
+static void unlinked(const char *path) {
+    NEED(nffs_volume_unlink(&flash, NULL, path) == NFFS_OK);
+}
+
+static void collected(int times) {
+    for (int i = 0; i < times; i++) {
+        NEED(nffs_volume_collect(&flash) == NFFS_OK);
+    }
+}
+
+/* The newest version that is left counts: of three names the first, where the second was collected and the third is lost. */
+static void earlier_name(void) {
+    formatted(4, 2048);
+    collected(2);
+    file("/a", "dose");
+    const uint32_t id = id_of("/a");
+    fill(1);
+    NEED(moved("/a", "/b") == NFFS_OK);
+    fill(2);
+    NEED(moved("/b", "/c") == NFFS_OK);
+    toggle(id, "c");
+    CHECK(reads("/b", "dose") && at("/a") == NFFS_NOT_FOUND && at("/c") == NFFS_NOT_FOUND);
+    toggle(id, "c");
+    collected(1);
+    NEED(found(id, "a") != 0 && found(id, "b") == 0 && reads("/c", "dose"));
+    toggle(id, "c");
+    CHECK(reads("/a", "dose") && at("/b") == NFFS_NOT_FOUND && at("/c") == NFFS_NOT_FOUND);
+}
+
+/* A swap whose last two records are lost, after the new table's first record was collected: the old table is all that is found. */
+static void old_table_alone(void) {
+    formatted(4, 2048);
+    collected(2);
+    directory("/t");
+    file("/t/table", "old");
+    fill(1);
+    file("/t/table.new", "new");
+    const uint32_t old = id_of("/t/table"), new = id_of("/t/table.new");
+    fill(2);
+    unlinked("/t/table");
+    NEED(moved("/t/table.new", "/t/table") == NFFS_OK);
+    collected(1);
+    NEED(found(old, "table") != 0 && found(new, "table.new") == 0 && reads("/t/table", "new"));
+    toggle(old, "");
+    toggle(new, "table");
+    CHECK(reads("/t/table", "old") && at("/t/table.new") == NFFS_NOT_FOUND);
+}
+
+/* The deletion of the old table is lost after its record was collected: nothing changes. Where its own first record, as table.new, is left, it is
+   back under that name. */
+static void old_table_collected(void) {
+    formatted(2, SIZE);
+    directory("/t");
+    file("/t/table", "old");
+    file("/t/table.new", "new");
+    uint32_t old = id_of("/t/table");
+    unlinked("/t/table");
+    NEED(moved("/t/table.new", "/t/table") == NFFS_OK);
+    collected(1);
+    NEED(found(old, "table") == 0);
+    toggle(old, "");
+    CHECK(reads("/t/table", "new") && at("/t/table.new") == NFFS_NOT_FOUND);
+
+    formatted(4, 2048);
+    collected(2);
+    directory("/t");
+    file("/t/table.new", "old");
+    old = id_of("/t/table.new");
+    fill(1);
+    NEED(moved("/t/table.new", "/t/table") == NFFS_OK);
+    fill(2);
+    file("/t/table.new", "new");
+    unlinked("/t/table");
+    NEED(moved("/t/table.new", "/t/table") == NFFS_OK);
+    collected(1);
+    NEED(found(old, "table.new") != 0 && found(old, "table") == 0);
+    toggle(old, "");
+    CHECK(reads("/t/table", "new") && reads("/t/table.new", "old"));
+}
+
+/* The new name is lost: what is in table.new is the only table, and the next update cannot create another. */
+static void only_table(void) {
+    formatted(3, SIZE);
+    directory("/t");
+    file("/t/table.new", "new");
+    const uint32_t id = id_of("/t/table.new");
+    NEED(moved("/t/table.new", "/t/table") == NFFS_OK);
+    toggle(id, "table");
+    CHECK(at("/t/table") == NFFS_NOT_FOUND && reads("/t/table.new", "new"));
+    CHECK(nffs_volume_create(&flash, NULL, "/t/table.new", NFFS_FILE).number == NFFS_EXISTS);
+}
+
+/* A handle to the old table answers 9, until another file has its id. */
+static void old_handle(void) {
+    nffs_handle handle;
+    char text[8] = "";
+    formatted(2, SIZE);
+    file("/table", "old");
+    NEED(nffs_volume_open(&flash, NULL, "/table", &handle) == NFFS_OK);
+    file("/table.new", "new");
+    unlinked("/table");
+    NEED(moved("/table.new", "/table") == NFFS_OK);
+    collected(1);
+    CHECK(nffs_volume_read_at(&flash, handle.id, 0, text, sizeof text).number == NFFS_NOT_FOUND);
+    collected(1);
+    file("/table.new", "next");
+    CHECK(id_of("/table.new") == handle.id && nffs_volume_read(&flash, &handle, text, sizeof text).given == 4 && memcmp(text, "next", 4) == 0);
+}
+
+/* Moved into a directory, or out of one, that was deleted since. */
+static void deleted_directory(void) {
+    formatted(2, SIZE);
+    directory("/trash");
+    file("/cal", "last year");
+    uint32_t id = id_of("/cal");
+    NEED(moved("/cal", "/trash/calx") == NFFS_OK);
+    unlinked("/trash");
+    CHECK(at("/cal") == NFFS_NOT_FOUND && at("/trash/calx") == NFFS_NOT_FOUND);
+    toggle(id, "calx");
+    CHECK(reads("/cal", "last year"));
+
+    formatted(3, SIZE);
+    directory("/d");
+    file("/d/f", "dose");
+    id = id_of("/d/f");
+    NEED(moved("/d/f", "/g") == NFFS_OK);
+    unlinked("/d");
+    toggle(id, "g");
+    CHECK(at("/g") == NFFS_NOT_FOUND && found(id, "f") != 0);
+    collected(3);
+    CHECK(nffs_volume_report(&flash).live == 1 && found(id, "f") == 0 && found(id, "g") == 0);
+}
+
+/* A record is lost, something is written, and the record is read again. The same once more is harmless, all else is 6. */
+static void read_again(void) {
+    formatted(3, SIZE);
+    file("/a", "dose");
+    const uint32_t id = id_of("/a");
+    NEED(moved("/a", "/b") == NFFS_OK);
+    toggle(id, "b");
+    memcpy(kept, image, WIDE);
+    const size_t place = found(id, "b");
+    NEED(nffs_volume_report(&flash).stretches == 1);
+    CHECK(moved("/a", "/b") == NFFS_OK);
+    image[place + 8] ^= 0x40;
+    CHECK(reads("/b", "dose") && nffs_volume_report(&flash).number == NFFS_OK);
+    memcpy(image, kept, WIDE);
+    CHECK(moved("/a", "/c") == NFFS_OK);
+    image[place + 8] ^= 0x40;
+    CHECK(nffs_volume_report(&flash).number == NFFS_CONFLICT && at("/c") == NFFS_CONFLICT);
+    memcpy(image, kept, WIDE);
+    unlinked("/a");
+    image[place + 8] ^= 0x40;
+    CHECK(nffs_volume_report(&flash).number == NFFS_CONFLICT && nffs_volume_collect(&flash) == NFFS_CONFLICT);
+    /* it does not come back from an area that was collected: none is damaged then */
+    memcpy(image, kept, WIDE);
+    collected(2);
+    CHECK(nffs_volume_report(&flash).stretches == 0 && found(id, "b") == 0 && moved("/a", "/c") == NFFS_OK && reads("/c", "dose"));
+
+    /* an unlink once more */
+    formatted(3, SIZE);
+    file("/a", "dose");
+    unlinked("/a");
+    size_t deletion = found(id, "");
+    image[deletion + 8] ^= 0x40;
+    CHECK(nffs_volume_unlink(&flash, NULL, "/a") == NFFS_OK);
+    image[deletion + 8] ^= 0x40;
+    CHECK(nffs_volume_report(&flash).number == NFFS_OK && at("/a") == NFFS_NOT_FOUND);
+
+    /* a create, and another with its id */
+    formatted(3, SIZE);
+    NEED(nffs_volume_create(&flash, NULL, "/a", NFFS_FILE).number == NFFS_OK);
+    const size_t created = found(id, "a");
+    image[created + 8] ^= 0x40;
+    CHECK(nffs_volume_create(&flash, NULL, "/other", NFFS_FILE).id == id);
+    image[created + 8] ^= 0x40;
+    CHECK(nffs_volume_report(&flash).number == NFFS_CONFLICT);
+
+    /* the header of the area is damaged, or the list leaves it out, where it is the last: no stretch tells it */
+    for (int left_out = 0; left_out < 2; left_out++) {
+        formatted(4, 2048);
+        file("/a", "dose");
+        fill(1);
+        NEED(moved("/a", "/b") == NFFS_OK && found(id, "b") > areas[2].offset && found(id, "b") < areas[3].offset);
+        const nffs_area last = areas[2];
+        areas[2] = areas[3];
+        areas[3] = last;
+        flash.areas_count -= left_out;
+        image[last.offset] ^= !left_out;
+        CHECK(nffs_volume_report(&flash).stretches == 0 && reads("/a", "dose"));
+        CHECK(left_out || nffs_volume_area_report(&flash, 3, 0).kind == NFFS_AREA_PASSED_OVER);
+        unlinked("/a");
+        image[last.offset] ^= !left_out;
+        flash.areas_count = 4;
+        CHECK(nffs_volume_report(&flash).number == NFFS_CONFLICT);
+    }
+}
+
+/* Names of 255 bytes: what a rename moves too deep for base and path answers 8, is read by its id, and is back when it is moved up. */
+static void too_deep(void) {
+    enum { NAME = 255, LEVELS = 8 };
+    static char base[4 * (NAME + 1) + 1], path[5 * (NAME + 1) + 1], top[NAME + 2];
+    nffs_handle handle;
+    uint8_t text[8];
+    formatted(4, 16384);
+    /* two trees, of eight names with a file at the end, and of seven: a level below the other */
+    for (int tree = 0; tree < 2; tree++) {
+        for (int level = 0; level < LEVELS - tree; level++) {
+            char *const to = level < 4 ? base : path;
+            const int k = level % 4;
+            to[k * (NAME + 1)] = '/';
+            memset(to + k * (NAME + 1) + 1, 'a' + LEVELS * tree + level, NAME);
+            to[(k + 1) * (NAME + 1)] = '\0';
+            const char *const from = level < 4 ? base : path + 1;
+            const uint32_t kind = level == LEVELS - 1 ? NFFS_FILE : NFFS_DIRECTORY;
+            NEED(nffs_volume_create(&flash, level < 4 ? NULL : base, from, kind).number == NFFS_OK);
+        }
+        if (tree == 0) {
+            NEED(nffs_volume_append(&flash, base, path + 1, "dose", 4) == NFFS_OK);
+            NEED(nffs_volume_open(&flash, base, path + 1, &handle) == NFFS_OK);
+            memcpy(top, base, NAME + 1);
+        }
+    }
+    /* the first tree's top goes below the second tree */
+    path[3 * (NAME + 1)] = '/';
+    memcpy(path + 3 * (NAME + 1) + 1, top + 1, NAME);
+    path[4 * (NAME + 1)] = '\0';
+    CHECK(nffs_volume_rename(&flash, base, top, path + 1) == NFFS_OK && nffs_volume_lookup(&flash, base, path + 1).number == NFFS_OK);
+    path[4 * (NAME + 1)] = '/';
+    memset(path + 4 * (NAME + 1) + 1, 'b', NAME);
+    CHECK(nffs_volume_lookup(&flash, base, path + 1).number == NFFS_BAD_PATH && nffs_volume_unlink(&flash, base, path + 1) == NFFS_BAD_PATH);
+    CHECK(nffs_volume_report(&flash).live == 16 && nffs_volume_report(&flash).inodes == 16);
+    CHECK(nffs_volume_read(&flash, &handle, text, sizeof text).given == 4 && memcmp(text, "dose", 4) == 0);
+    collected(4);
+    CHECK(nffs_volume_read_at(&flash, handle.id, 0, text, sizeof text).given == 4 && nffs_volume_report(&flash).live == 16);
+    path[4 * (NAME + 1)] = '\0';
+    CHECK(nffs_volume_rename(&flash, base, path + 1, top) == NFFS_OK);
+    char below[2 * (NAME + 1) + 1];
+    memcpy(below, top, NAME + 1);
+    below[NAME + 1] = '/';
+    memset(below + NAME + 2, 'b', NAME);
+    below[2 * (NAME + 1)] = '\0';
+    CHECK(at(below) == NFFS_OK);
+}
+
 int main(void) {
     refusals();
     record();
@@ -313,6 +614,14 @@ int main(void) {
     torn_update();
     updates();
     lost();
+    earlier_name();
+    old_table_alone();
+    old_table_collected();
+    only_table();
+    old_handle();
+    deleted_directory();
+    read_again();
+    too_deep();
     printf("%u passed, %u failed\n", passed, failed);
     return failed != 0;
 }

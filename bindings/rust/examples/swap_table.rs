@@ -3,7 +3,7 @@
 //! then, and what a start does about it, on a copy, line for line as examples/swap_table.c does;
 //! status 1 at the first surprise.
 
-use nffs::{Area, Kind, Refusal, Volume};
+use nffs::{Area, AreaKind, Kind, Refusal, Volume};
 use std::process::ExitCode;
 
 const AREAS: [Area; 2] = Area::row(4096);
@@ -13,9 +13,11 @@ const IMAGE: usize = 2 * 4096;
 const HOME: &[u8] = b"/dose";
 const TABLE: &[u8] = b"table";
 const FRESH: &[u8] = b"table.new";
-const OLD: &[u8] = b"0 5 10 20 40";
-const NEW: &[u8] = b"0 4 9 18 36";
-const HALF: usize = 5;
+// A table begins with its number, which goes up with each update, and ends with a dot: one without a
+// dot is a part.
+const OLD: &[u8] = b"1: 0 5 10 20 40.";
+const NEW: &[u8] = b"2: 0 4 9 18 36.";
+const HALF: usize = 8;
 
 type Flash<'a> = Volume<'static, &'a mut [u8]>;
 
@@ -44,25 +46,65 @@ fn show(flash: &Flash, name: &[u8]) {
     println!("    {}: {said}", name.escape_ascii());
 }
 
-/// What a firmware does at its start, before it uses the table. A call that is refused with 15 is
-/// made again after a collection.
-fn start(flash: &mut Flash) -> Result<(), Refusal> {
-    match (flash.lookup(HOME, TABLE), flash.lookup(HOME, FRESH)) {
-        (Err(Refusal::NOT_FOUND), Ok(_)) => {
-            // the old one was unlinked, so the new one is whole; of a first table, which replaces
-            // none, nothing tells it
-            println!("    a start finishes the rename");
-            flash.rename(HOME, FRESH, TABLE)
+/// The number of a table that is whole; 0 of a part, and of one that is refused.
+fn whole(table: &Result<Vec<u8>, Refusal>) -> u32 {
+    let text = table.as_deref().map(String::from_utf8_lossy).unwrap_or_default();
+    let number = text.strip_suffix('.').and_then(|text| text.split(':').next());
+    number.and_then(|number| number.parse().ok()).unwrap_or(0)
+}
+
+/// Whether no damage is counted and no area passed over. What comes back stale is not seen.
+fn sound(flash: &Flash) -> bool {
+    let passed_over = |index| match flash.area_report(index, 0) {
+        Ok(area) => area.kind == AreaKind::PassedOver,
+        Err(_) => true,
+    };
+    let clean = flash.report().is_ok_and(|report| report.stretches == 0);
+    clean && !(0..AREAS.len() as u32).any(passed_over)
+}
+
+/// Makes a call. Where there is no room it collects and calls again, as often as there are areas.
+fn settle(
+    flash: &mut Flash,
+    call: impl Fn(&mut Flash) -> Result<(), Refusal>,
+) -> Result<(), Refusal> {
+    let mut answer = call(flash);
+    for _ in AREAS {
+        if answer != Err(Refusal::NO_ROOM) || flash.collect().is_err() {
+            break;
         }
-        (Ok(_), Ok(_)) => {
-            println!("    a start unlinks table.new, which may not be whole");
-            flash.unlink(HOME, FRESH)
-        }
-        (Ok(_), _) => {
-            println!("    a start has nothing to do");
-            Ok(())
-        }
-        (Err(refusal), _) => Err(refusal),
+        answer = call(flash);
+    }
+    answer
+}
+
+/// What a firmware does at its start, before it uses the table. It acts on nothing but what a power
+/// cut leaves. False where somebody has to look.
+fn start(flash: &mut Flash) -> bool {
+    if !sound(flash) {
+        println!("    a start changes nothing: the flash is damaged");
+        return false;
+    }
+    let (read, fresh_read) = (load(flash, TABLE), load(flash, FRESH));
+    let (table, fresh) = (whole(&read), whole(&fresh_read));
+    let unlink_table = |flash: &mut Flash| flash.unlink(HOME, TABLE);
+    let unlink_fresh = |flash: &mut Flash| flash.unlink(HOME, FRESH);
+    let rename = |flash: &mut Flash| flash.rename(HOME, FRESH, TABLE);
+    if table > 0 && fresh_read == Err(Refusal::NOT_FOUND) {
+        println!("    a start has nothing to do");
+        true
+    } else if table > 0 && fresh > table {
+        println!("    a start unlinks table and renames table.new: that is whole and newer");
+        settle(flash, unlink_table).and_then(|()| settle(flash, rename)).is_ok()
+    } else if table > 0 && fresh_read.is_ok() && fresh == 0 {
+        println!("    a start unlinks table.new: that is a part");
+        settle(flash, unlink_fresh).is_ok()
+    } else if read == Err(Refusal::NOT_FOUND) && fresh > 0 {
+        println!("    a start renames table.new: that is whole");
+        settle(flash, rename).is_ok()
+    } else {
+        println!("    a start changes nothing: this is not what a power cut leaves");
+        false
     }
 }
 
@@ -72,10 +114,10 @@ fn cut(flash: &Flash, expected: &[u8]) -> bool {
     show(flash, FRESH);
     let mut copy = flash.image().to_vec();
     let mut later = Volume::new(&mut copy[..], &AREAS);
-    let Ok(table) = start(&mut later).and_then(|()| load(&later, TABLE)) else {
-        println!("    there is no table");
+    if !start(&mut later) {
         return false;
-    };
+    }
+    let Ok(table) = load(&later, TABLE) else { return false };
     println!("    then table: \"{}\"", table.escape_ascii());
     table == expected && load(&later, FRESH) == Err(Refusal::NOT_FOUND)
 }
@@ -92,7 +134,7 @@ fn run(flash: &mut Flash) -> Result<bool, Refusal> {
     done("append to table.new", flash.append(HOME, FRESH, &NEW[..HALF]))?;
     good &= cut(flash, OLD);
     done("append to table.new", flash.append(HOME, FRESH, &NEW[HALF..]))?;
-    good &= cut(flash, OLD);
+    good &= cut(flash, NEW);
     done("unlink table", flash.unlink(HOME, TABLE))?;
     good &= cut(flash, NEW);
     done("rename table.new to table", flash.rename(HOME, FRESH, TABLE))?;

@@ -491,9 +491,14 @@ pub fn unlink(image: &mut [u8], areas: &[Area], base: &[u8], path: &[u8]) -> Res
 /// right, and what lies below a directory goes with it. What has the new name already is not
 /// replaced.
 ///
-/// Where the new record is damaged, or comes back stale, the one before it counts: the old name is
-/// back, or answers 10 where something else has it by now; or nothing leads there any more, as
-/// where that record was collected: 9 (`docs/LINKING.md`, "Swap a table").
+/// Where the new record is damaged, or comes back stale, the newest version that is left counts,
+/// whichever it is: an earlier name is back, or answers 10 where something else has it by now; where
+/// none is left, or it leads nowhere any more, the answer is 9. What is written while a record is
+/// lost can make the volume unmountable when it is read again: 6 (`docs/LINKING.md`, "Swap a
+/// table").
+///
+/// What lies below a directory may get too deep for a base and a path of 1,024 bytes each: then it
+/// answers 8, stays live, and is reached again when a directory above it is renamed to a shorter path.
 ///
 /// Checks in order: 1 to 7, 8 of either path and for a new path "/", then 9, 10 or 11 at the first
 /// step of the old path that fails, then the same at the first step of the new path before its last

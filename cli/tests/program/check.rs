@@ -148,7 +148,7 @@ fn orphans_are_told_from_the_deleted() {
     assert!(page_of.contains("\ninodes: 10, of which 2 live, 3 deleted, 5 orphans\n"), "{page_of}");
     assert!(page_of.contains("\n     orphan  lost (was in directory 00000005)\n"), "{page_of}");
     assert!(page_of.contains("\n     orphan  eight (was in directory 00000007)\n"), "{page_of}");
-    assert!(page_of.contains("\nOrphans: "), "{page_of}");
+    assert!(page_of.contains("\nOrphans: not deleted, but the directories they lie in "));
     let orphans = "v['deleted'], v['orphans'], sorted(o['name'] for o in v['orphaned'])";
     assert_eq!(json(&folder, orphans, 3), "3 5 ['below', 'dir', 'eight', 'lost', 'seven']");
 }
@@ -202,7 +202,7 @@ fn names_may_hold_anything() {
         "\n          0  /größe \"x\" 😀\n",
         "\n          0  /now\n",
         "\n  ambiguous  /twice\n",
-        "\nUnreached: ",
+        "\nAmbiguous: ",
     ] {
         assert!(page_of.contains(line), "{line}: {page_of}");
     }

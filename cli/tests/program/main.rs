@@ -3,6 +3,7 @@
 mod areas;
 mod check;
 mod commands;
+mod deep;
 mod desk;
 mod files;
 mod folder;

@@ -85,7 +85,6 @@ fn each_refusal_names_the_path_that_it_is_about() {
     let folder = with_tables("mv_refused");
     let lists = "`nffs check IMAGE` lists what is live.";
     let kind = "`nffs lookup IMAGE PATH` prints the kind.";
-    let replaces = "--replace, of put and import, replaces a file.";
     for (old, new, about, words, number, offered) in [
         ("log", "/x", ": log", BAD_PATH, 8, ""),
         ("/log", "x", ": x", BAD_PATH, 8, ""),
@@ -97,15 +96,22 @@ fn each_refusal_names_the_path_that_it_is_about() {
         ("/log", "/none/x", ": /none/x", NOT_FOUND, 9, lists),
         ("/log/x", "/x", ": /log/x", WRONG_KIND, 11, kind),
         ("/tables", "/log/x", ": /log/x", WRONG_KIND, 11, kind),
-        ("/log", "/tables", ": /tables", EXISTS, 12, replaces),
-        ("/log", "/log", ": /log", EXISTS, 12, replaces),
-        ("/", "/log", ": /log", EXISTS, 12, replaces),
         ("/", "/x", "", INTO_ITSELF, 18, ""),
         ("/tables", "/tables/x", "", INTO_ITSELF, 18, ""),
     ] {
         let said = folder.refused(&["mv", "image", old, new, "-q"], b"");
         let first = format!("mv image {old} {new}{about}: {words}");
         assert_eq!(said, told(&first, number, offered));
+    }
+    // nothing that is there is to be unlinked: it may be the thing itself, or where it was meant to go
+    for (old, new) in [("/log", "/tables"), ("/log", "/log"), ("/", "/log"), ("/tables", "/tables")]
+    {
+        let said = folder.refused(&["mv", "image", old, new, "-q"], b"");
+        let advice =
+            "The new path is given in full, the name included, and nothing is replaced: take \
+                      one that is free. Where nothing should be there, `nffs check IMAGE` tells of \
+                      damage, which can bring a deleted or an earlier name back.";
+        assert_eq!(said, format!("nffs: mv image {old} {new}: {new}: {EXISTS}\n  {advice}\n"));
     }
     // what steers a terminal is shown by its name
     let said = folder.refused(&["mv", "image", "/\u{1b}[2J", "/b\n", "-q"], b"");
