@@ -215,10 +215,10 @@ NFFS_ANSWERS uint32_t nffs_unlink(uint8_t *image, size_t image_length, const nff
    is not replaced: 12. Where the new record is damaged, or comes back stale, the newest version that is left counts, whichever it is: an
    earlier name is back, or answers 10 where something else has it by now; where none is left, or it leads nowhere any more, the answer
    is 9. What is written while a record is lost can make the volume unmountable when it is read again: 6 (docs/LINKING.md, "Swap a table").
-   What lies below a directory may get too deep for a base and a path of 1,024 bytes each: then it answers 8, stays live, and is reached
-   again when a directory above it is renamed to a shorter path. Checks in order: 1 to 7, 8 of either path and for a new path "/", then 9,
-   10 or 11 at the first step of the old path that fails, then the same at the first step of the new path before its last name that fails,
-   11 where that name is asked for below a file, 12, 18, 16, 15. */
+   What lies below a directory may get too deep for a base and a path of 1,024 bytes each: every call that is given its path answers 8 then.
+   It stays live, and has a path again when a directory above it is renamed to a shorter one. Checks in order: 1 to 7, 8 of either path and
+   for a new path "/", then 9, 10 or 11 at the first step of the old path that fails, then the same at the first step of the new path before
+   its last name that fails, 11 where that name is asked for below a file, 12, 18, 16, 15. */
 NFFS_ANSWERS uint32_t nffs_rename(uint8_t *image, size_t image_length, const nffs_area *areas, size_t areas_count,
                      const uint8_t *base, size_t base_length, const uint8_t *old_path, size_t old_length,
                      const uint8_t *new_path, size_t new_length);

@@ -247,7 +247,8 @@ impl Mounted {
         found.into_iter().filter(|(is, _)| *is).map(|(_, words)| words).collect()
     }
 
-    fn text(&self) -> String {
+    /// The counts of inodes and of damage.
+    fn counts(&self) -> String {
         let r = &self.report;
         let mut text = format!("inodes: {}, of which {} live", r.inodes, r.live);
         match (self.gone.deleted, self.gone.orphans) {
@@ -267,6 +268,11 @@ impl Mounted {
             let _ = write!(text, ", first {}+{}", r.first_offset, r.first_length);
         }
         text.push('\n');
+        text
+    }
+
+    fn text(&self) -> String {
+        let mut text = self.counts();
         for entry in &self.tree.entries {
             let _ = writeln!(text, "  {}", entry.text());
         }

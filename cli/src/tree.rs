@@ -24,9 +24,15 @@ pub struct Tree {
     pub entries: Vec<Entry>,
     /// Paths that lead to two or more live inodes, and so to none.
     pub ambiguous: BTreeSet<Vec<u8>>,
-    /// Paths that no call takes, of live inodes that no other path was found for.
+    /// Paths that no call takes, of live inodes that no other path was found for, an ambiguous one
+    /// neither.
     pub too_long: BTreeSet<Vec<u8>>,
+    /// The ids that names at ambiguous paths are proposed for.
+    shared: BTreeSet<u32>,
 }
+
+/// A path, and the id that it leads to or would lead to.
+type Place = (Vec<u8>, u32);
 
 /// The most bytes of a path, and of a base.
 const PATH_MOST: usize = 1024;
@@ -34,10 +40,35 @@ const PATH_MOST: usize = 1024;
 /// What lies at a path and below it. Names are proposed by `records`; an entry is one whose path
 /// leads to its id by a lookup, and whose kind and contents a read of that id answers.
 pub fn tree(image: &[u8], areas: &[Area], path: &[u8]) -> Result<Tree, Refusal> {
-    let found = nffs::lookup(image, areas, b"", path)?;
     let proposed = candidates(image, areas);
+    let (mut tree, deep) = walk(image, areas, &proposed, path)?;
+    if deep.is_empty() {
+        return Ok(tree);
+    }
+    // an old name may stand there of what has another path by now, anywhere in the volume
+    let elsewhere = if path == b"/" {
+        tree.ids(&proposed)
+    } else {
+        walk(image, areas, &proposed, b"/")?.0.ids(&proposed)
+    };
+    for (path, id) in deep {
+        if !elsewhere.contains(&id) && what_is(image, areas, id)?.is_some() {
+            tree.too_long.insert(path);
+        }
+    }
+    Ok(tree)
+}
+
+/// The same, but the paths that no call takes stand beside it: all that names are proposed for.
+fn walk(
+    image: &[u8],
+    areas: &[Area],
+    proposed: &BTreeSet<Candidate>,
+    path: &[u8],
+) -> Result<(Tree, Vec<Place>), Refusal> {
+    let found = nffs::lookup(image, areas, b"", path)?;
     let mut tree = Tree::default();
-    let mut too_long = Vec::new();
+    let mut deep = Vec::new();
     // what is still to be looked at, the next one last
     let mut open = vec![(path.to_vec(), found.id)];
     while let Some((path, id)) = open.pop() {
@@ -47,18 +78,12 @@ pub fn tree(image: &[u8], areas: &[Area], path: &[u8]) -> Result<Tree, Refusal> 
             let mut live = tree.children(image, areas, &path, children.clone())?;
             live.reverse();
             open.extend(live);
-            let deep = children.map(|c| (below(&path, &c.name), c.id));
-            too_long.extend(deep.filter(|(path, _)| based(path).is_none()));
+            let paths = children.map(|c| (below(&path, &c.name), c.id));
+            deep.extend(paths.filter(|(path, _)| based(path).is_none()));
         }
         tree.entries.push(Entry { path, id, what });
     }
-    // an old name may stand there of what has another path by now
-    for (path, id) in too_long {
-        if tree.entries.iter().all(|e| e.id != id) && what_is(image, areas, id)?.is_some() {
-            tree.too_long.insert(path);
-        }
-    }
-    Ok(tree)
+    Ok((tree, deep))
 }
 
 /// A path as base and path for a call: the path alone, or the longest base that one can have and the
@@ -73,6 +98,21 @@ fn based(path: &[u8]) -> Option<(&[u8], &[u8])> {
 }
 
 impl Tree {
+    /// The ids of the entries, and of all that may stand at an ambiguous path or below it.
+    fn ids(&self, proposed: &BTreeSet<Candidate>) -> BTreeSet<u32> {
+        let mut ids = self.shared.clone();
+        loop {
+            let is_new = |c: &&Candidate| ids.contains(&c.parent) && !ids.contains(&c.id);
+            let more: Vec<u32> = proposed.iter().filter(is_new).map(|c| c.id).collect();
+            if more.is_empty() {
+                break;
+            }
+            ids.extend(more);
+        }
+        ids.extend(self.entries.iter().map(|e| e.id));
+        ids
+    }
+
     /// The children of a directory that a lookup confirms, by path and id.
     fn children<'a>(
         &mut self,
@@ -80,7 +120,7 @@ impl Tree {
         areas: &[Area],
         directory: &[u8],
         proposed: impl Iterator<Item = &'a Candidate>,
-    ) -> Result<Vec<(Vec<u8>, u32)>, Refusal> {
+    ) -> Result<Vec<Place>, Refusal> {
         let mut confirmed = Vec::new();
         for candidate in proposed {
             let path = below(directory, &candidate.name);
@@ -89,6 +129,7 @@ impl Tree {
                 Ok(found) if found.id == candidate.id => confirmed.push((path, found.id)),
                 Err(Refusal::AMBIGUOUS) => {
                     self.ambiguous.insert(path);
+                    self.shared.insert(candidate.id);
                 }
                 // an old or damaged name
                 Ok(_) | Err(Refusal::NOT_FOUND | Refusal::BAD_PATH) => {}

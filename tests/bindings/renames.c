@@ -493,8 +493,8 @@ static void deleted_directory(void) {
     CHECK(nffs_volume_report(&flash).live == 1 && found(id, "f") == 0 && found(id, "g") == 0);
 }
 
-/* A record is lost, something is written, and the record is read again. The same once more is harmless, all else is 6. */
-static void read_again(void) {
+/* A record is lost, something is written, and the record is read again. The same once more is harmless, all else is 6. A rename: */
+static void rename_read_again(void) {
     formatted(3, SIZE);
     file("/a", "dose");
     const uint32_t id = id_of("/a");
@@ -518,18 +518,20 @@ static void read_again(void) {
     memcpy(image, kept, WIDE);
     collected(2);
     CHECK(nffs_volume_report(&flash).stretches == 0 && found(id, "b") == 0 && moved("/a", "/c") == NFFS_OK && reads("/c", "dose"));
+}
 
-    /* an unlink once more */
+/* An unlink once more; and a create, then another with its id. */
+static void unlink_and_create_read_again(void) {
     formatted(3, SIZE);
     file("/a", "dose");
+    const uint32_t id = id_of("/a");
     unlinked("/a");
-    size_t deletion = found(id, "");
+    const size_t deletion = found(id, "");
     image[deletion + 8] ^= 0x40;
     CHECK(nffs_volume_unlink(&flash, NULL, "/a") == NFFS_OK);
     image[deletion + 8] ^= 0x40;
     CHECK(nffs_volume_report(&flash).number == NFFS_OK && at("/a") == NFFS_NOT_FOUND);
 
-    /* a create, and another with its id */
     formatted(3, SIZE);
     NEED(nffs_volume_create(&flash, NULL, "/a", NFFS_FILE).number == NFFS_OK);
     const size_t created = found(id, "a");
@@ -537,11 +539,14 @@ static void read_again(void) {
     CHECK(nffs_volume_create(&flash, NULL, "/other", NFFS_FILE).id == id);
     image[created + 8] ^= 0x40;
     CHECK(nffs_volume_report(&flash).number == NFFS_CONFLICT);
+}
 
-    /* the header of the area is damaged, or the list leaves it out, where it is the last: no stretch tells it */
+/* The header of the area is damaged, or the list leaves it out, where it is the last: no stretch tells it. */
+static void area_read_again(void) {
     for (int left_out = 0; left_out < 2; left_out++) {
         formatted(4, 2048);
         file("/a", "dose");
+        const uint32_t id = id_of("/a");
         fill(1);
         NEED(moved("/a", "/b") == NFFS_OK && found(id, "b") > areas[2].offset && found(id, "b") < areas[3].offset);
         const nffs_area last = areas[2];
@@ -558,14 +563,13 @@ static void read_again(void) {
     }
 }
 
-/* Names of 255 bytes: what a rename moves too deep for base and path answers 8, is read by its id, and is back when it is moved up. */
-static void too_deep(void) {
-    enum { NAME = 255, LEVELS = 8 };
-    static char base[4 * (NAME + 1) + 1], path[5 * (NAME + 1) + 1], top[NAME + 2];
-    nffs_handle handle;
-    uint8_t text[8];
+enum { NAME = 255, LEVELS = 8 };
+static char base[4 * (NAME + 1) + 1], path[5 * (NAME + 1) + 1], top[NAME + 2];
+
+/* Two trees, of eight names with a file at the end, and of seven: a level below the other. `top` is the first name; a handle to the file. */
+static nffs_handle two_trees(void) {
+    nffs_handle handle = {0};
     formatted(4, 16384);
-    /* two trees, of eight names with a file at the end, and of seven: a level below the other */
     for (int tree = 0; tree < 2; tree++) {
         for (int level = 0; level < LEVELS - tree; level++) {
             char *const to = level < 4 ? base : path;
@@ -583,6 +587,13 @@ static void too_deep(void) {
             memcpy(top, base, NAME + 1);
         }
     }
+    return handle;
+}
+
+/* Names of 255 bytes: what a rename moves too deep for base and path answers 8, is read by its id, and is back when it is moved up. */
+static void too_deep(void) {
+    uint8_t text[8];
+    nffs_handle handle = two_trees();
     /* the first tree's top goes below the second tree */
     path[3 * (NAME + 1)] = '/';
     memcpy(path + 3 * (NAME + 1) + 1, top + 1, NAME);
@@ -620,7 +631,9 @@ int main(void) {
     only_table();
     old_handle();
     deleted_directory();
-    read_again();
+    rename_read_again();
+    unlink_and_create_read_again();
+    area_read_again();
     too_deep();
     printf("%u passed, %u failed\n", passed, failed);
     return failed != 0;

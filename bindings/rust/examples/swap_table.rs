@@ -18,6 +18,7 @@ const FRESH: &[u8] = b"table.new";
 const OLD: &[u8] = b"1: 0 5 10 20 40.";
 const NEW: &[u8] = b"2: 0 4 9 18 36.";
 const HALF: usize = 8;
+const ROOM: usize = 64;
 
 type Flash<'a> = Volume<'static, &'a mut [u8]>;
 
@@ -30,12 +31,13 @@ fn done<T>(step: &str, answer: Result<T, Refusal>) -> Result<(), Refusal> {
     answer.map(|_| ())
 }
 
+/// The text under a name. One that fills the buffer may go on behind it.
 fn load(flash: &Flash, name: &[u8]) -> Result<Vec<u8>, Refusal> {
     let mut file = flash.open(HOME, name)?;
-    let mut table = vec![0; 63];
-    let given = flash.read(&mut file, &mut table)?;
-    table.truncate(given.bytes);
-    Ok(table)
+    let mut text = vec![0; ROOM];
+    let given = flash.read(&mut file, &mut text)?;
+    text.truncate(given.bytes);
+    Ok(text)
 }
 
 fn show(flash: &Flash, name: &[u8]) {
@@ -46,11 +48,23 @@ fn show(flash: &Flash, name: &[u8]) {
     println!("    {}: {said}", name.escape_ascii());
 }
 
-/// The number of a table that is whole; 0 of a part, and of one that is refused.
-fn whole(table: &Result<Vec<u8>, Refusal>) -> u32 {
-    let text = table.as_deref().map(String::from_utf8_lossy).unwrap_or_default();
-    let number = text.strip_suffix('.').and_then(|text| text.split(':').next());
-    number.and_then(|number| number.parse().ok()).unwrap_or(0)
+fn too_long(text: &[u8]) -> bool {
+    text.len() == ROOM
+}
+
+/// The number of a table that is whole: digits, ": ", and a dot at the end. 0 of any other.
+fn whole(text: &[u8]) -> u32 {
+    let digits = text.iter().take_while(|b| b.is_ascii_digit()).count();
+    let (number, rest) = text.split_at(digits);
+    if digits > 9 || too_long(text) || !rest.starts_with(b": ") || !rest.ends_with(b".") {
+        return 0;
+    }
+    number.iter().fold(0, |number, digit| 10 * number + u32::from(digit - b'0'))
+}
+
+/// Whether it is a part of a table: neither whole nor too long.
+fn part(text: &[u8]) -> bool {
+    !too_long(text) && whole(text) == 0
 }
 
 /// Whether no damage is counted and no area passed over. What comes back stale is not seen.
@@ -61,6 +75,28 @@ fn sound(flash: &Flash) -> bool {
     };
     let clean = flash.report().is_ok_and(|report| report.stretches == 0);
     clean && !(0..AREAS.len() as u32).any(passed_over)
+}
+
+/// Whether the unlink and the rename will both have room: one clean file area holds both records, or
+/// two hold the longer one each, since the shorter may go into either. If not it collects, as often
+/// as there are areas.
+fn room(flash: &mut Flash) -> bool {
+    let (deletion, renamed) = (20, 20 + TABLE.len() as u32);
+    let records = |flash: &Flash, index| match flash.area_report(index, 0) {
+        Ok(area) if area.kind != AreaKind::File || area.stretches > 0 => 0,
+        Ok(area) if area.free >= deletion + renamed => 2,
+        Ok(area) if area.free >= renamed => 1,
+        _ => 0,
+    };
+    let fit = |flash: &Flash| {
+        (0..AREAS.len() as u32).map(|index| records(flash, index)).sum::<u32>() >= 2
+    };
+    for _ in AREAS {
+        if fit(flash) || flash.collect().is_err() {
+            break;
+        }
+    }
+    fit(flash)
 }
 
 /// Makes a call. Where there is no room it collects and calls again, as often as there are areas.
@@ -78,67 +114,108 @@ fn settle(
     answer
 }
 
-/// What a firmware does at its start, before it uses the table. It acts on nothing but what a power
-/// cut leaves. False where somebody has to look.
+fn create_fresh(flash: &mut Flash) -> Result<(), Refusal> {
+    flash.create(HOME, FRESH, Kind::File).map(|_| ())
+}
+
+fn unlink_table(flash: &mut Flash) -> Result<(), Refusal> {
+    flash.unlink(HOME, TABLE)
+}
+
+fn unlink_fresh(flash: &mut Flash) -> Result<(), Refusal> {
+    flash.unlink(HOME, FRESH)
+}
+
+fn rename_fresh(flash: &mut Flash) -> Result<(), Refusal> {
+    flash.rename(HOME, FRESH, TABLE)
+}
+
+/// What a start sees that does not know what to do.
+fn told(read: &Result<Vec<u8>, Refusal>) -> String {
+    match read {
+        Err(refusal) => format!("refused with {}", refusal.number()),
+        Ok(text) if too_long(text) => "too long for this program".into(),
+        Ok(text) if part(text) => "a part".into(),
+        Ok(text) => format!("whole, number {}", whole(text)),
+    }
+}
+
+/// What a firmware does at its start, before it uses the table. False where somebody has to look.
 fn start(flash: &mut Flash) -> bool {
     if !sound(flash) {
         println!("    a start changes nothing: the flash is damaged");
         return false;
     }
     let (read, fresh_read) = (load(flash, TABLE), load(flash, FRESH));
-    let (table, fresh) = (whole(&read), whole(&fresh_read));
-    let unlink_table = |flash: &mut Flash| flash.unlink(HOME, TABLE);
-    let unlink_fresh = |flash: &mut Flash| flash.unlink(HOME, FRESH);
-    let rename = |flash: &mut Flash| flash.rename(HOME, FRESH, TABLE);
+    let number = |read: &Result<Vec<u8>, Refusal>| read.as_deref().map_or(0, whole);
+    let (table, fresh) = (number(&read), number(&fresh_read));
     if table > 0 && fresh_read == Err(Refusal::NOT_FOUND) {
         println!("    a start has nothing to do");
         true
     } else if table > 0 && fresh > table {
+        if !room(flash) {
+            println!("    a start unlinks nothing: there is no room for the rename");
+            return false;
+        }
         println!("    a start unlinks table and renames table.new: that is whole and newer");
-        settle(flash, unlink_table).and_then(|()| settle(flash, rename)).is_ok()
-    } else if table > 0 && fresh_read.is_ok() && fresh == 0 {
+        settle(flash, unlink_table).and_then(|()| settle(flash, rename_fresh)).is_ok()
+    } else if table > 0 && fresh_read.as_deref().is_ok_and(part) {
         println!("    a start unlinks table.new: that is a part");
         settle(flash, unlink_fresh).is_ok()
     } else if read == Err(Refusal::NOT_FOUND) && fresh > 0 {
         println!("    a start renames table.new: that is whole");
-        settle(flash, rename).is_ok()
+        settle(flash, rename_fresh).is_ok()
     } else {
-        println!("    a start changes nothing: this is not what a power cut leaves");
+        let (table, fresh) = (told(&read), told(&fresh_read));
+        println!("    a start changes nothing: table is {table}, table.new is {fresh}");
         false
     }
 }
 
-/// Power is lost here: what is found, and whether a start leaves the one table that is right.
-fn cut(flash: &Flash, expected: &[u8]) -> bool {
+/// Power is lost here: what is found, and whether a start leaves the one table that is right; none:
+/// it changes nothing.
+fn cut(flash: &Flash, right: Option<&[u8]>) -> bool {
     show(flash, TABLE);
     show(flash, FRESH);
     let mut copy = flash.image().to_vec();
     let mut later = Volume::new(&mut copy[..], &AREAS);
-    if !start(&mut later) {
-        return false;
-    }
-    let Ok(table) = load(&later, TABLE) else { return false };
+    let started = start(&mut later);
+    let Some(right) = right else { return !started && later.image() == flash.image() };
+    let table = load(&later, TABLE).unwrap_or_default();
     println!("    then table: \"{}\"", table.escape_ascii());
-    table == expected && load(&later, FRESH) == Err(Refusal::NOT_FOUND)
+    started && table == right && load(&later, FRESH) == Err(Refusal::NOT_FOUND)
 }
 
-/// Makes the update, call by call; false at the first surprise.
+/// An update, call by call, to a table from an old one; none: the first table, for which there is
+/// nothing to unlink. False at the first surprise.
+fn update(flash: &mut Flash, text: &[u8], old: Option<&[u8]>) -> Result<bool, Refusal> {
+    if !sound(flash) {
+        println!("an update changes nothing: the flash is damaged");
+        return Ok(false);
+    }
+    let (begin, end) = text.split_at(HALF);
+    done("create table.new", settle(flash, create_fresh))?;
+    let mut good = cut(flash, old);
+    done("append to table.new", settle(flash, |flash| flash.append(HOME, FRESH, begin)))?;
+    good &= cut(flash, old);
+    done("append to table.new", settle(flash, |flash| flash.append(HOME, FRESH, end)))?;
+    good &= cut(flash, Some(text));
+    if old.is_some() {
+        if !room(flash) {
+            println!("an update unlinks nothing: there is no room for the rename");
+            return Ok(false);
+        }
+        done("unlink table", settle(flash, unlink_table))?;
+        good &= cut(flash, Some(text));
+    }
+    done("rename table.new to table", settle(flash, rename_fresh))?;
+    Ok(good && cut(flash, Some(text)))
+}
+
 fn run(flash: &mut Flash) -> Result<bool, Refusal> {
     done("format", flash.format())?;
     done("create directory", flash.create(b"", HOME, Kind::Directory))?;
-    done("create table", flash.create(HOME, TABLE, Kind::File))?;
-    done("append to table", flash.append(HOME, TABLE, OLD))?;
-    let mut good = cut(flash, OLD);
-    done("create table.new", flash.create(HOME, FRESH, Kind::File))?;
-    good &= cut(flash, OLD);
-    done("append to table.new", flash.append(HOME, FRESH, &NEW[..HALF]))?;
-    good &= cut(flash, OLD);
-    done("append to table.new", flash.append(HOME, FRESH, &NEW[HALF..]))?;
-    good &= cut(flash, NEW);
-    done("unlink table", flash.unlink(HOME, TABLE))?;
-    good &= cut(flash, NEW);
-    done("rename table.new to table", flash.rename(HOME, FRESH, TABLE))?;
-    Ok(good && cut(flash, NEW))
+    Ok(update(flash, OLD, None)? && update(flash, NEW, Some(OLD))?)
 }
 
 fn main() -> ExitCode {

@@ -497,8 +497,9 @@ pub fn unlink(image: &mut [u8], areas: &[Area], base: &[u8], path: &[u8]) -> Res
 /// lost can make the volume unmountable when it is read again: 6 (`docs/LINKING.md`, "Swap a
 /// table").
 ///
-/// What lies below a directory may get too deep for a base and a path of 1,024 bytes each: then it
-/// answers 8, stays live, and is reached again when a directory above it is renamed to a shorter path.
+/// What lies below a directory may get too deep for a base and a path of 1,024 bytes each: every call
+/// that is given its path answers 8 then. It stays live, and has a path again when a directory above
+/// it is renamed to a shorter one.
 ///
 /// Checks in order: 1 to 7, 8 of either path and for a new path "/", then 9, 10 or 11 at the first
 /// step of the old path that fails, then the same at the first step of the new path before its last

@@ -81,3 +81,37 @@ fn what_is_too_long_is_not_advised_to_be_deleted() {
     assert_eq!(folder.bytes(&format!("all{}", path("abcdefgh"))), b"dose");
     assert_eq!(folder.bytes("all/now"), b"");
 }
+
+#[test]
+fn an_old_name_of_what_has_another_path_by_now_is_not_told_as_too_long() {
+    let folder = Folder::new("deep_old_names");
+    // eight directories, one in the other; a file that had a long name in the last one is `/f` now
+    let mut records: Vec<_> =
+        (0..8).map(|k| inode(k + 1, 0, k, &[b"wtuabcde"[k as usize]; 255])).collect();
+    records.push(inode(FILE, 0, 8, &[b'x'; 255]));
+    records.push(inode(FILE, 1, 0, b"f"));
+    records.push(block(0x8000_0000, FILE, b"dose"));
+    folder.write("image", image_of(16384, &records));
+    page(&folder, 0);
+    folder.good(&["export", "image", "all", "-q"], b"");
+    assert_eq!(folder.bytes("all/f"), b"dose");
+    for (out, from) in [("one", "w"), ("two", "wtu")] {
+        let output = folder.run(&["export", "image", out, &path(from)], b"");
+        let said = String::from_utf8(output.stderr).unwrap();
+        assert!(output.status.code() == Some(0) && !said.contains("left out"), "{said}");
+    }
+
+    // others are at an ambiguous path now, and below one
+    records.push(inode(FILE + 1, 0, 8, &[b'y'; 255]));
+    records.push(inode(FILE + 1, 1, 0, b"g"));
+    records.push(inode(FILE + 2, 0, 0, b"g"));
+    records.push(inode(20, 0, 0, b"d"));
+    records.push(inode(21, 0, 0, b"d"));
+    records.push(inode(FILE + 3, 0, 8, &[b'z'; 255]));
+    records.push(inode(FILE + 3, 1, 20, b"n"));
+    folder.write("image", image_of(16384, &records));
+    let told = page(&folder, 3);
+    assert!(told.contains("\n  ambiguous  /d\n  ambiguous  /g\n"), "{told}");
+    assert!(!told.contains("too long") && !told.contains("Too long"), "{told}");
+    folder.good(&["export", "image", "three", &path("w"), "-q"], b"");
+}
