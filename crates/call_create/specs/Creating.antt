@@ -2,7 +2,7 @@
 use Prim.Native.Nat.{ℕ, suc, _≤_, _<_}
 use mathlib.Core.Path.{_≡_, refl, sym, ap, _∙_}
 use mathlib.Core.Logic.{_≢_}
-use mathlib.Core.Bool.{Bool, true, false, cond, not}
+use mathlib.Core.Bool.{cond}
 use mathlib.Core.Option.{Option, none, some}
 use mathlib.Core.List.{List, [], _∷_}
 use native.Mathlib.Omega.{arith}
@@ -10,12 +10,12 @@ use lib.ListN.{length}
 use lib.Dec.{ltb}
 use borrow.Author.Tests.{eq-eqb, ne-eqb, lt-ltb, le-ltb}
 use Rattle.format.specs.Bytes.{Bytes}
-use Rattle.format.specs.Ids.{firstFileId, isDirectoryId}
+use Rattle.format.specs.Ids.{firstFileId}
 use Rattle.format.specs.Encoding.{inodeBytes}
 use Rattle.volume.specs.View.{byBytes}
 use Rattle.volume.specs.Counting.{Volume, inodeIds}
 use Rattle.volume.specs.Path.{pathNames}
-use Rattle.volume.specs.Tree.{Found, found, absent, children}
+use Rattle.volume.specs.Tree.{Found, found, absent}
 use Rattle.calls.specs.Refusal.{_refused-by_, firstRefusal}
 use Rattle.calls.specs.Areas.{fileAreas}
 use Rattle.calls.specs.Mount.{mostInodes, volume, mountNumber}

@@ -11,7 +11,6 @@ use borrow.Author.Tests.{eq-eqb, ne-eqb, eqb-true}
 use Rattle.format.specs.Bytes.{Bytes}
 use Rattle.format.specs.Ids.{rootId}
 use Rattle.volume.specs.View.{byBytes}
-use Rattle.volume.specs.Fate.{lineage}
 use Rattle.volume.specs.Path.{goodPath, pathNames}
 use Rattle.volume.specs.Tree.{Found, found, absent, lookupNames}
 use Rattle.calls.specs.Refusal.{_refused-by_, firstRefusal}
@@ -19,7 +18,7 @@ use Rattle.calls.specs.Mount.{volume, mountNumber}
 use Rattle.calls.specs.Lookup.{resolve}
 use Rattle.calls.specs.Storing.{isAmong}
 use Rattle.calls.specs.Attempt.{Attempt, goes, refuses, numberOf, leaves, unless, atFound, attemptAt}
-use Rattle.calls.specs.Create.{isRoot, lastName, namesBefore, nameChecks}
+use Rattle.calls.specs.Create.{isRoot, lastName, nameChecks}
 use Rattle.calls.specs.Rewrite.{rewriteChecks, rewriteNumber, imageRewritten}
 use Rattle.calls.specs.Rename.{movesIntoItself, moveNumber, moving, renaming, renameOf, renameImage, imageRenamed}
 use Rattle.calls.specs.declared.Descriptor.{Descriptor}

@@ -2,7 +2,6 @@
 use Prim.Native.Nat.{ℕ}
 use mathlib.Core.Path.{_≡_, sym, ap, _∙_}
 use mathlib.Core.Bool.{true, false, cond}
-use mathlib.Core.Option.{Option, none, some}
 use mathlib.Core.List.{List}
 use lib.ListN.{length}
 use borrow.Author.Tests.{eq-eqb}
@@ -11,7 +10,7 @@ use Rattle.volume.specs.View.{View, byBytes}
 use Rattle.volume.specs.Counting.{Volume, inodeOf}
 use Rattle.volume.specs.Path.{goodPath, pathNames}
 use Rattle.volume.specs.Tree.{Found, absent, lookupNames}
-use Rattle.record_places.specs.Place.{byPlace, bytesAt, Lies}
+use Rattle.record_places.specs.Place.{byPlace, Lies}
 use Rattle.record_places.specs.Laws.{place-views}
 use Rattle.table_rows.specs.Table.{found, spotOf}
 use Rattle.table_rows.specs.declared.Spot.{Spot}
