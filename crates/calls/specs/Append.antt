@@ -1,6 +1,6 @@
 -- Append. Document 01, "Create, append, unlink" and refusals 8 to 11, 13, 5 and 15.
 use Prim.Native.Nat.{ℕ, zero, suc, min, _+_}
-use mathlib.Core.List.{List, [], _∷_}
+use mathlib.Core.List.{List, [], _∷_, _++_}
 use mathlib.Core.Bool.{Bool, true, false, not, _||_}
 use mathlib.Core.Option.{Option, none, some}
 use lib.ListN.{length, take, drop}
@@ -10,11 +10,11 @@ use Rattle.format.specs.Ids.{NONE, firstBlockId, isDirectoryId}
 use Rattle.format.specs.BlockSize.{greatestBlock}
 use Rattle.format.specs.Encoding.{blockBytes}
 use Rattle.volume.specs.View.{byBytes}
-use Rattle.volume.specs.Counting.{blockIds}
+use Rattle.volume.specs.Counting.{Volume, blockIds}
 use Rattle.volume.specs.Contents.{lastBlock, fileBlocks}
 use Rattle.volume.specs.Path.{goodPath, pathNames}
 use Rattle.volume.specs.Tree.{lookupNames}
-use Rattle.calls.specs.Refusal.{_refused-by_, firstRefusal}
+use Rattle.calls.specs.Refusal.{Check, _refused-by_, firstRefusal}
 use Rattle.calls.specs.Areas.{fileAreas}
 use Rattle.calls.specs.Mount.{mostBlocks, volume, mountNumber}
 use Rattle.calls.specs.Storing.{spaces, placeAll, noPlace, storedOr, namedIds, unusedId}
@@ -60,23 +60,30 @@ abbrev pub isBroken : Option (List Bytes) → Bool
 isBroken none = true
 isBroken (some bs) = false
 
--- what a path led to: 11 for a directory, 13, then 5 again with the new blocks counted in, then 15
+-- what a path led to: 11 for a directory, 13 for a broken file
+abbrev pub fileChecks : Volume Bytes → ℕ → List Check
+fileChecks v f = (isDirectoryId f refused-by 11) ∷ (isBroken (fileBlocks byBytes v f) refused-by 13) ∷ []
+
+-- these, then 5 again with the new blocks counted in, then 15
 unfoldable pub appendTo : Bytes → List Descriptor → ℕ → Bytes → ℕ
 appendTo image ds f text =
     let v = volume image ds in
     let bs = newBlocks image ds f text in
     firstRefusal
-    ((isDirectoryId f refused-by 11)
-    ∷ (isBroken (fileBlocks byBytes v f) refused-by 13)
-    ∷ (ltb mostBlocks (length (blockIds byBytes v) + length bs) refused-by 5)
+    (fileChecks v f
+    ++ ((ltb mostBlocks (length (blockIds byBytes v) + length bs) refused-by 5)
     ∷ (noPlace (placeAll (spaces image (fileAreas image ds)) bs) refused-by 15)
-    ∷ [])
+    ∷ []))
 
--- an append goes with its file; 8 is "bad path or name; over 8,192 bytes to append"
-unfoldable pub appending : Bytes → List Descriptor → Bytes → Bytes → Bytes → Attempt ℕ
-appending image ds base path text =
+-- a text for what a path leads to; 8 is "bad path or name; over 8,192 bytes to append"
+abbrev pub attemptText : Bytes → List Descriptor → Bytes → Bytes → Bytes → (ℕ → ℕ) → Attempt ℕ
+attemptText image ds base path text checks =
     attemptAt (mountNumber image ds) (not (goodPath base path) || ltb mostAppended (length text))
-    (lookupNames byBytes (volume image ds) (pathNames base path)) (λ f. appendTo image ds f text)
+    (lookupNames byBytes (volume image ds) (pathNames base path)) checks
+
+-- an append goes with its file
+unfoldable pub appending : Bytes → List Descriptor → Bytes → Bytes → Bytes → Attempt ℕ
+appending image ds base path text = attemptText image ds base path text (λ f. appendTo image ds f text)
 
 unfoldable pub appendOf : Bytes → List Descriptor → Bytes → Bytes → Bytes → ℕ
 appendOf image ds base path text = numberOf (appending image ds base path text)

@@ -5,7 +5,7 @@ use lib.ListN.{length, take, drop, replicate}
 use Rattle.format.specs.Bytes.{Bytes}
 use Rattle.format.specs.Reading.{ERASED}
 
--- the image with the bytes b in the place of those from p on, where they fit; every other byte as it was
+-- an image, or what a file holds, with the bytes b in the place of those from p on, where they fit; every other byte as it was
 unfoldable pub put : Bytes → ℕ → Bytes → Bytes
 put image p b = take p image ++ (b ++ drop (p + length b) image)
 

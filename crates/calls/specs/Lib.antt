@@ -13,6 +13,7 @@ pub mod Attempt
 pub mod Create
 pub mod Append
 pub mod Rewrite
+pub mod Overwrite
 pub mod Unlink
 pub mod Rename
 pub mod Collect
