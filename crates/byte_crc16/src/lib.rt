@@ -66,8 +66,8 @@ fn by_tables(start: u16, s: &[u8]) -> u16
     four_a_turn(&high, &low, start, s)
 }
 
-// The register after the bytes of `s`.
-fn over(start: u16, s: &[u8]) -> u16
+// The register after the bytes of `s`. Who checks a body in parts goes on from one to the next.
+pub fn over(start: u16, s: &[u8]) -> u16
     ensures { λ q. ⌜ q ≡ crcOver start (now (s .entry)) ⌝ }
 {
     if s.len() < LONG {

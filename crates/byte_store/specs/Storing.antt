@@ -4,7 +4,7 @@ use mathlib.Core.Path.{_≡_, refl, sym, ap, _∙_}
 use mathlib.Core.List.{[], _∷_, _++_}
 use native.Mathlib.Omega.{arith}
 use native.Mathlib.Numerals.{add-one}
-use lib.ListN.{length, set, take}
+use lib.ListN.{length, set, take, length-set}
 use lib.Seq.{length-take-le, take-suc, take-all, set-split}
 use Rattle.format.specs.Bytes.{Bytes, byteAt}
 use Rattle.calls.specs.Image.{put, part}
@@ -42,12 +42,35 @@ module _ (x₀ : Bytes) (p : ℕ) (b : Bytes) where
     pub storing-ends : length b ≤ i → x ≡ put x₀ p b
     storing-ends h = s .stored ∙ ap (put x₀ p) (take-all i b h)
 
--- where the bytes are those of another place of the image, the next of them is still there
-pub storing-copied : (x₀ : Bytes) (from to n i : ℕ) (x : Bytes) → Storing x₀ to (part x₀ from n) i x
-    → (from + n ≤ length x₀) × (to + n ≤ length x₀) × Apart from n to n → i < n → byteAt x (from + i) ≡ byteAt (part x₀ from n) i
-storing-copied x₀ from to n i x s (f, t, a) h =
+-- where the bytes are those of another place of the image, apart from where they go, the next of them is still there
+storing-copied : (x₀ : Bytes) (from to n i : ℕ) (x : Bytes) → Storing x₀ to (part x₀ from n) i x
+    → (from + n ≤ length x₀) × (to + n ≤ length x₀) → Apart from n to n → i < n → byteAt x (from + i) ≡ byteAt (part x₀ from n) i
+storing-copied x₀ from to n i x s (f, t) a h =
     let l = part-length x₀ from n f in
     let k = length-take-le i (part x₀ from n) (s .within) in
     ap (λ (y : Bytes). byteAt y (from + i)) (s .stored)
     ∙ byte-outside x₀ to (take i (part x₀ from n)) (omega arith) (from + i) (λ j g e. a .no-common i j h (omega arith) e)
     ∙ sym (part-byte x₀ from n i h)
+
+-- the invariant of copy: what is stored is told only where the two places share no byte
+pub record Copying (x₀ : Bytes) (from to n i : ℕ) (x : Bytes) : Type 0 where
+  pub long : length x ≡ length x₀
+  pub storing : Apart from n to n → Storing x₀ to (part x₀ from n) i x
+
+module _ (x₀ : Bytes) (from to n : ℕ) where
+  pub copying-begins : Copying x₀ from to n 0 x₀
+  copying-begins = record { long = refl; storing = λ a. storing-begins x₀ to (part x₀ from n) }
+
+  module _ (i : ℕ) (x : Bytes) (c : Copying x₀ from to n i x) (fits : (from + n ≤ length x₀) × (to + n ≤ length x₀)) where
+    long-part : length (part x₀ from n) ≡ n
+    long-part = part-length x₀ from n (fits .0)
+
+    pub copying-step : i < n → Copying x₀ from to n (i + 1) (set x (to + i) (byteAt x (from + i)))
+    copying-step h = record {
+      long = length-set x (to + i) (byteAt x (from + i)) ∙ c .long;
+      storing = λ a. storing-step x₀ to (part x₀ from n) i x (c .storing a) (rw long-part (fits .1)) _ (rw long-part h)
+      (storing-copied x₀ from to n i x (c .storing a) fits a h);
+    }
+
+    pub copying-ends : n ≤ i → Apart from n to n → x ≡ put x₀ to (part x₀ from n)
+    copying-ends h a = storing-ends x₀ to (part x₀ from n) i x (c .storing a) (rw long-part (fits .1)) (rw long-part h)

@@ -33,10 +33,10 @@ pub fn erase(image: &mut [u8], at: usize, n: usize)
     }
 }
 
-// Copies the `n` bytes from `from` on to `to`. Where the two overlapped, a byte could be stored over before it is copied.
+// Copies the `n` bytes from `from` on to `to`. Where the two overlap, a byte can be stored over before it is copied.
 pub fn copy(image: &mut [u8], from: usize, to: usize, n: usize)
-    requires { ⌜ (from + n ≤ length (now image)) × (to + n ≤ length (now image)) × Apart from n to n ⌝ }
-    ensures { λ _. ⌜ now (image .exit) ≡ put (now (image .entry)) to (part (now (image .entry)) from n) ⌝ }
+    requires { ⌜ (from + n ≤ length (now image)) × (to + n ≤ length (now image)) ⌝ }
+    ensures { λ _. ⌜ (Apart from n to n → now (image .exit) ≡ put (now (image .entry)) to (part (now (image .entry)) from n)) ⌝ }
 {
     let mut i = 0;
     while i < n {

@@ -11,12 +11,12 @@ use Rattle.calls.specs.Storing.{storeAll}
 use Rattle.calls.specs.Collect.{readyStores, idStore, recordStores}
 use Rattle.record_places.specs.Place.{sizeAt, bytesAt, AllLie}
 use Rattle.area_list.specs.Described.{areaOf}
-use Rattle.image_laws.specs.Apart.{Apart}
+use Rattle.image_laws.specs.Apart.{Apart, apart-part}
 use Rattle.image_laws.specs.Laws.{length-put, part-outside}
 use Rattle.image_laws.specs.Stores.{stores-append}
 use Rattle.collect_laws.specs.Stores.{ready-is, ready-long, records-are}
 use Rattle.collect_stores.specs.Records.{moved, moved-same, size-stays, bytes-stay}
-use Rattle.collect_stores.specs.Moving.{Movable, apart-part}
+use Rattle.collect_stores.specs.Moving.{Movable}
 
 -- records that can be copied into the area of n bytes at t, behind its header
 pub record Fillable (x : Bytes) (t n : ℕ) (ps : List ℕ) : Type 0 where

@@ -8,7 +8,7 @@ use lib.Seq.{take-all}
 use Rattle.format.specs.Bytes.{Bytes}
 use Rattle.calls.specs.Image.{put, part}
 use Rattle.record_places.specs.Place.{sizeAt, bytesAt, Lies, AllLie}
-use Rattle.image_laws.specs.Apart.{Apart}
+use Rattle.image_laws.specs.Apart.{Apart, apart-part, apart-front}
 use Rattle.image_laws.specs.Laws.{put-none, length-put, part-outside, put-put}
 use Rattle.collect_stores.specs.Records.{moved, moved-none, moved-more, moved-within, size-stays, bytes-stay, bytes-long}
 
@@ -17,13 +17,6 @@ pub record Movable (x : Bytes) (ps : List ℕ) (to : ℕ) : Type 0 where
   pub lie : AllLie x ps (length ps)
   pub room : to + length (moved x ps) ≤ length x
   pub apart : (i : ℕ) → i < length ps → Apart (getD ps i 0) (sizeAt x (getD ps i 0)) to (length (moved x ps))
-
--- a part of it is as much apart
-pub apart-part : {p n q m : ℕ} → Apart p n q m → (k l : ℕ) → k + l ≤ m → Apart p n (q + k) l
-apart-part a k l h = record { no-common = λ i j f g e. a .no-common i (k + j) f (omega arith) (omega arith) }
-
-pub apart-front : {p n q m : ℕ} → Apart p n q m → (l : ℕ) → l ≤ m → Apart p n q l
-apart-front a l h = record { no-common = λ i j f g e. a .no-common i j f (omega arith) e }
 
 -- the image x is x₀ with the first i records copied, and the next goes to `at`
 pub record Moving (x₀ : Bytes) (ps : List ℕ) (to : ℕ) (x : Bytes) (at i : ℕ) : Type 0 where
@@ -79,13 +72,17 @@ module _ (x₀ : Bytes) (ps : List ℕ) (to : ℕ) where
       moving-lies = lies-there
 
       -- the next one may be copied
-      pub moving-room : (p + sizeAt x p ≤ length x) × (at + sizeAt x p ≤ length x) × Apart p (sizeAt x p) at (sizeAt x p)
+      pub moving-room : (p + sizeAt x p ≤ length x) × (at + sizeAt x p ≤ length x)
       moving-room =
           let w = moved-within x₀ ps (i + 1) in
           let r = ok .room in
           let l = m .long in
-          let a = apart-part (ok .apart i h) (length (moved x₀ (take i ps))) n (omega (arith, long-more)) in
-          (lies-there, omega (arith, size-there, long-more, m .next), rw (size-there, m .next) a)
+          (lies-there, omega (arith, size-there, long-more, m .next))
+
+      pub moving-apart : Apart p (sizeAt x p) at (sizeAt x p)
+      moving-apart =
+          let w = moved-within x₀ ps (i + 1) in
+          rw (size-there, m .next) (apart-part (ok .apart i h) (length (moved x₀ (take i ps))) n (omega (arith, long-more)))
 
       pub moving-on : Moving x₀ ps to (put x at (part x p (sizeAt x p))) (at + sizeAt x p) (i + 1)
       unfolding bytesAt

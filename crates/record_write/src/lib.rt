@@ -7,10 +7,14 @@ ghost use lib.Seq.{sets};
 ghost use Rattle.format.specs.Bytes.{enc32};
 ghost use Rattle.format.specs.Record.{inode, block};
 ghost use Rattle.format.specs.Encoding.{inodeFront, blockFront, sealed, inodeBytes, blockBytes};
-ghost use Rattle.calls.specs.Image.{put};
+ghost use Rattle.format.specs.Crc.{check};
+ghost use Rattle.calls.specs.Image.{put, part};
+ghost use Rattle.image_laws.specs.Apart.{Apart};
 use byte_crc16::check;
+use byte_crc16::over;
 use byte_fields::store16;
 use byte_fields::store32;
+use byte_store::copy;
 use byte_store::put;
 use record_read::BlockHeader;
 use record_read::ID_AT;
@@ -87,4 +91,55 @@ pub fn write_block(image: &mut [u8], at: usize, h: BlockHeader, text: &[u8])
 {
     let front = block_front(h);
     write_sealed(image, at, &front, text);
+}
+
+// The check of a record whose body is `old` with `text` in the place of its bytes from `begin` on.
+fn changed_check(front: &[u8], old: &[u8], begin: usize, text: &[u8]) -> u16
+    requires { ⌜ begin + length (now text) ≤ length (now old) ⌝ }
+    ensures { λ q. ⌜ q ≡ check (now (front .entry)) (put (now (old .entry)) begin (now (text .entry))) ⌝ }
+{
+    let end = begin + text.len();
+    let before = over(over(0, front), &old[..begin]);
+    over(over(before, text), &old[end..])
+}
+
+// Stores at `to` the `n` bytes from `from` on with `text` in the place of those from `begin` on. What is there then is told only where the two places share no byte.
+fn copy_changed(
+    image: &mut [u8],
+    from: usize,
+    to: usize,
+    n: usize,
+    begin: usize,
+    text: &[u8],
+)
+    requires { ⌜ (from + n ≤ length (now image)) × (to + n ≤ length (now image)) × (begin + length (now text) ≤ n) ⌝ }
+    ensures { λ _. ⌜ (Apart from n to n → now (image .exit) ≡ put (now (image .entry)) to (put (part (now (image .entry)) from n) begin (now (text .entry)))) ⌝ }
+{
+    let end = begin + text.len();
+    copy(image, from, to, begin);
+    put(image, to + begin, text);
+    copy(image, from + end, to + end, n - end);
+}
+
+// Stores the block `h` at `at`, whose data is that at `from` with `text` in the place of its bytes from `begin` on.
+pub fn write_changed(
+    image: &mut [u8],
+    at: usize,
+    h: BlockHeader,
+    from: usize,
+    begin: usize,
+    text: &[u8],
+)
+    requires { ⌜ (at + (block .headerSize + h .length) ≤ length (now image)) × (from + h .length ≤ length (now image)) ⌝ }
+    requires { ⌜ begin + length (now text) ≤ h .length ⌝ }
+    ensures { λ _. ⌜ (Apart from (h .length) at (block .headerSize + h .length) → now (image .exit) ≡ put (now (image .entry)) at (blockBytes (h .id) (h .sequence) (h .owner) (h .previous) (put (part (now (image .entry)) from (h .length)) begin (now (text .entry))))) ⌝ }
+{
+    let n = h.length as usize;
+    let front = block_front(h);
+    let stop = from + n;
+    let mut field: [u8; CHECK_SIZE] = [0; CHECK_SIZE];
+    store16(&mut field, 0, changed_check(&front, &image[from..stop], begin, text) as u32);
+    put(image, at, &front);
+    put(image, at + BlockHeader::CHECK_OFFSET, &field);
+    copy_changed(image, from, at + BlockHeader::SIZE, n, begin, text);
 }

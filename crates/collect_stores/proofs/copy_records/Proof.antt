@@ -2,7 +2,7 @@
 use Prim.Native.Nat.{_-_}
 use native.Mathlib.Omega.{arith}
 use lib.ListN.{length}
-use Rattle.collect_stores.specs.Moving.{Moving, moving-begins, moving-lies, moving-room, moving-on, moving-ends}
+use Rattle.collect_stores.specs.Moving.{Moving, moving-begins, moving-lies, moving-room, moving-apart, moving-on, moving-ends}
 use Rattle.collect_stores.proofs.copy_records.Statement.{statement}
 use Rattle.collect_stores.proofs.copy_records.Tie as tie
 
@@ -56,7 +56,9 @@ loop-again c =
     let k = w .before .before in
     let t = turn k in
     let l = t .before in
-    rw (w .copy .ensures, k .size-at .ensures) (moving-on _ _ _ _ _ _ (l .loop .inv) (start l .pre) (t .loop-test .taken))
+    let a = moving-apart _ _ _ _ _ _ (l .loop .inv) (start l .pre) (t .loop-test .taken) in
+    rw (w .copy .ensures (rw (k .size-at .ensures) a), k .size-at .ensures)
+    (moving-on _ _ _ _ _ _ (l .loop .inv) (start l .pre) (t .loop-test .taken))
 
 returns : tie.Need-returns Inv-loop μ-loop
 returns c = let l = c .before in moving-ends _ _ _ _ _ _ (l .loop .inv) (start l .pre) (c .loop-test .left)
