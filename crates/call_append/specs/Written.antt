@@ -19,7 +19,8 @@ use Rattle.area_pass.specs.Rows.{spansAt}
 use Rattle.mount_state.specs.State.{spansIn, Safe}
 use Rattle.mount_state.specs.declared.Mounted.{Mounted}
 use Rattle.write_sizes.specs.Cut.{pieces, mostPieces, shortestOf, shortest-long}
-use Rattle.write_pieces.specs.Plan.{idsFor, placesFor, storesOf, storesAt, blocks-placed, ids-count, Planned}
+use Rattle.write_room.specs.Plan.{placesFor, Planned}
+use Rattle.write_pieces.specs.Plan.{idsFor, storesOf, storesAt, blocks-placed, ids-count}
 use Rattle.write_pieces.specs.Laws.{Ready}
 use Rattle.call_append.specs.declared.Chain.{Chain}
 

@@ -26,102 +26,51 @@ use Rattle.table_words.specs.Occupancy.{bits, capacity, firstZero}
 use Rattle.write_ids.specs.Window.{Marks}
 use Rattle.write_ids.specs.Laws.{unused-within}
 use Rattle.write_room.specs.Spaces.{spacesOf, fitOf}
-use Rattle.write_room.specs.Rows.{rowSpaces, rows-within, rows-are}
+use Rattle.write_room.specs.Plan.{placesFor, Ends, Planned, Planning, planning-begins, planning-fails, planning-on, planning-ends}
 use Rattle.write_room.specs.declared.Place.{Place}
 use Rattle.write_room.specs.declared.Place.the-variants.{At, Nowhere}
 use Rattle.write_sizes.specs.Cut.{pieces, nextLength, next-some, pieces-next, pieces-end}
-use Rattle.write_pieces.specs.Plan.{idsFor, placeThen, placesFor, storesOf, Ends, Planned, PlannedAt, places-planned}
-
--- what an answer of `take_places` says
-abbrev pub plannedOf : Bool → List ℕ → Option (List ℕ)
-plannedOf true qs = some qs
-plannedOf false qs = none
-
--- places behind others
-abbrev pub behind : List ℕ → Option (List ℕ) → Option (List ℕ)
-behind l none = none
-behind l (some m) = some (l ++ m)
+use Rattle.write_pieces.specs.Plan.{idsFor, storesOf}
 
 -- ---- places
 
--- the pieces before start have their places, and those to come make the whole
-pub record Planning (n : ℕ) (text : Bytes) (es fs₀ qs₀ fs qs : List ℕ) (start i : ℕ) : Type 0 where
-  pub starts-long : length fs ≡ length fs₀
-  pub places-long : length qs ≡ length qs₀
+-- the pieces before start have their places
+pub record Placing (n : ℕ) (text : Bytes) (es fs₀ qs₀ fs qs : List ℕ) (start i : ℕ) : Type 0 where
   pub count : i + length (pieces n (drop start text)) ≡ length qs₀
-  pub left : behind (take i qs) (placesFor (spacesOf fs es) (pieces n (drop start text))) ≡ placesFor (spacesOf fs₀ es) (pieces n text)
+  pub planning : Planning (pieces n text) (pieces n (drop start text)) es fs₀ qs₀ fs qs i
 
-pub planning-begins : (n : ℕ) (text : Bytes) (es fs qs : List ℕ) → length qs ≡ length (pieces n text) → Planning n text es fs qs fs qs 0 0
-planning-begins n text es fs qs e = record { starts-long = refl; places-long = refl; count = omega arith; left = go (placesFor (spacesOf fs es) (pieces n text)) }
-  where
-    go : (o : Option (List ℕ)) → behind [] o ≡ o
-    go none = refl
-    go (some m) = refl
+pub placing-begins : (n : ℕ) (text : Bytes) (es fs qs : List ℕ) → length qs ≡ length (pieces n text) → Placing n text es fs qs fs qs 0 0
+placing-begins n text es fs qs e = record { count = omega arith; planning = planning-begins (pieces n text) es fs qs }
 
-module _ (n : ℕ) (some-room : 1 ≤ n) (text : Bytes) (es fs₀ qs₀ fs qs : List ℕ) (start i : ℕ) (g : Planning n text es fs₀ qs₀ fs qs start i) where
+module _ {n : ℕ} (some-room : 1 ≤ n) {text : Bytes} {es fs₀ qs₀ fs qs : List ℕ} {start i : ℕ} (g : Placing n text es fs₀ qs₀ fs qs start i) where
   module _ (h : start < length text) (k : ℕ) (next : k ≡ nextLength n (length text - start)) where
     abbrev piece : Bytes
     piece = take k (drop start text)
 
-    abbrev later : List Bytes
-    later = pieces n (drop (start + k) text)
-
-    more : pieces n (drop start text) ≡ piece ∷ later
+    more : pieces n (drop start text) ≡ piece ∷ pieces n (drop (start + k) text)
     more = pieces-next n some-room text start k next h
 
     piece-long : length piece ≡ k
     piece-long = omega (arith, length-take k (drop start text), length-drop start text, next-some n some-room text start k next h)
 
-    -- there is a place in the plan for the piece
-    pub planning-room : i < length qs
-    planning-room = omega (arith, g .count, ap length more, g .places-long)
+    -- there is a row in the plan for the piece
+    pub placing-room : i < length qs
+    placing-room = omega (arith, g .count, ap length more, g .planning .places-long)
 
-    tried : (r : Place) (fs′ : List ℕ) → firstFit (block .headerSize + k) (spacesOf fs es) ≡ fitOf r (spacesOf fs′ es)
-        → behind (take i qs) (bind (fitOf r (spacesOf fs′ es)) (λ f. placeThen (f .place) (placesFor (f .left) later))) ≡ placesFor (spacesOf fs₀ es) (pieces n text)
-    unfolding placesFor
-    tried r fs′ e =
-        let w = rw more at (g .left) in
-        let v : behind (take i qs) (bind (firstFit (block .headerSize + k) (spacesOf fs es)) (λ f. placeThen (f .place) (placesFor (f .left) later))) ≡ placesFor (spacesOf fs₀ es) (pieces n text) =
-        rw piece-long at w in
-        rw e at v
+    module _ (r : Place) (fs′ : List ℕ) (took : firstFit (block .headerSize + k) (spacesOf fs es) ≡ fitOf r (spacesOf fs′ es)) where
+      pub placing-fails : r ≡ Nowhere → placesFor (spacesOf fs₀ es) (pieces n text) ≡ none
+      placing-fails = planning-fails (g .planning) piece _ more k piece-long r fs′ took
 
-    pub planning-fails : (r : Place) (fs′ : List ℕ) → firstFit (block .headerSize + k) (spacesOf fs es) ≡ fitOf r (spacesOf fs′ es) → r ≡ Nowhere
-        → placesFor (spacesOf fs₀ es) (pieces n text) ≡ none
-    planning-fails r fs′ e q = sym (rw q at (tried r fs′ e))
+      pub placing-on : length fs′ ≡ length fs → (q : ℕ) → r ≡ At q → Placing n text es fs₀ qs₀ fs′ (set qs i q) (start + k) (i + 1)
+      placing-on l q a = record {
+        count = omega (arith, g .count, ap length more);
+        planning = planning-on (g .planning) piece _ more k piece-long r fs′ took placing-room l q a;
+      }
 
-    pub planning-on : (r : Place) (fs′ : List ℕ) → length fs′ ≡ length fs → firstFit (block .headerSize + k) (spacesOf fs es) ≡ fitOf r (spacesOf fs′ es)
-        → (q : ℕ) → r ≡ At q → Planning n text es fs₀ qs₀ fs′ (set qs i q) (start + k) (i + 1)
-    planning-on r fs′ l e q a = record {
-      starts-long = l ∙ g .starts-long;
-      places-long = length-set qs i q ∙ g .places-long;
-      count = omega (arith, g .count, ap length more);
-      left = go (placesFor (spacesOf fs′ es) later) (rw a at (tried r fs′ e));
-    }
-      where
-        go : (o : Option (List ℕ)) → behind (take i qs) (placeThen q o) ≡ placesFor (spacesOf fs₀ es) (pieces n text)
-            → behind (take (i + 1) (set qs i q)) o ≡ placesFor (spacesOf fs₀ es) (pieces n text)
-        go none w = w
-        go (some m) w =
-            let b : take (i + 1) (set qs i q) ++ m ≡ take i qs ++ (q ∷ m) = rw (add-one, take-suc-set qs i q planning-room) (append-assoc (take i qs) (q ∷ []) m) in
-            ap some b ∙ w
-
-  pub planning-ends : length text ≤ start → placesFor (spacesOf fs₀ es) (pieces n text) ≡ some qs
-  unfolding placesFor
-  planning-ends h =
+  pub placing-ends : length text ≤ start → placesFor (spacesOf fs₀ es) (pieces n text) ≡ some qs
+  placing-ends h =
       let z = pieces-end n text start h in
-      let a : length qs ≤ i = omega (arith, g .count, ap length z, g .places-long) in
-      let w : some (take i qs ++ []) ≡ placesFor (spacesOf fs₀ es) (pieces n text) = rw z at (g .left) in
-      sym w ∙ ap some (append-nil (take i qs) ∙ take-all i qs a)
-
--- places in the free space of a mounted volume, by its rows
-pub rows-planned : {image : Bytes} {m : Mounted} {t : List ℕ} → Safe image m t → (fs es : List ℕ) (ps : List Bytes) (r : Bool) (qs : List ℕ)
-    → spacesOf fs es ≡ rowSpaces t 0 (m .files) → placesFor (spacesOf fs es) ps ≡ plannedOf r qs
-    → ((ds : List Descriptor) → Holds image ds m t → placesFor (spaces image (fileAreas image ds)) ps ≡ plannedOf r qs) × PlannedAt (length image) ps (plannedOf r qs)
-rows-planned {image} {m} {t} s fs es ps r qs e q =
-    let here : placesFor (rowSpaces t 0 (m .files)) ps ≡ plannedOf r qs = rw e at q in (
-      (λ ds h. ap (λ (ss : List Space). placesFor ss ps) (sym (rows-are s h)) ∙ here),
-      subst (PlannedAt (length image) ps) here (places-planned (length image) (rowSpaces t 0 (m .files)) ps (rows-within s)),
-    )
+      planning-ends (g .planning) z ∙ ap some (take-all i qs (omega (arith, g .count, ap length z, g .planning .places-long)))
 
 -- ---- ids
 

@@ -1,5 +1,5 @@
 -- The ids and the places of new blocks, before any is stored. Document 01, "Create, append, unlink": "all pieces or none".
-use Prim.Native.Nat.{ℕ, zero, suc, _+_, _≤_}
+use Prim.Native.Nat.{ℕ, zero, suc, _+_}
 use mathlib.Core.Path.{_≡_, refl, ap}
 use mathlib.Core.List.{List, [], _∷_}
 use mathlib.Core.Option.{Option, none, some}
@@ -12,21 +12,12 @@ use Rattle.format_laws.specs.Encoding.{block-size}
 use Rattle.volume.specs.Lists.{bind}
 use Rattle.calls.specs.Storing.{Space, Fit, firstFit, Store, prepend, placeAll, unusedId}
 use Rattle.calls.specs.Append.{blockRecords}
-use Rattle.write_room.specs.Spaces.{Within, fit-within}
+use Rattle.write_room.specs.Plan.{placeThen, placesFor}
 
 -- "each takes the smallest block id that is not yet named": n of them
 unfoldable pub idsFor : List ℕ → ℕ → List ℕ
 idsFor names zero = []
 idsFor names (suc n) = let i = unusedId firstBlockId names in i ∷ idsFor (i ∷ names) n
-
-abbrev pub placeThen : ℕ → Option (List ℕ) → Option (List ℕ)
-placeThen q none = none
-placeThen q (some qs) = some (q ∷ qs)
-
--- where the blocks of some pieces go, one after the other
-unfoldable pub placesFor : List Space → List Bytes → Option (List ℕ)
-placesFor ss [] = some []
-placesFor ss (p ∷ ps) = bind (firstFit (block .headerSize + length p) ss) (λ f. placeThen (f .place) (placesFor (f .left) ps))
 
 -- what is stored for the pieces of the file f, "each naming the one before"
 unfoldable pub storesOf : List ℕ → ℕ → ℕ → List Bytes → List ℕ → List Store
@@ -77,34 +68,3 @@ pub ids-count : (names : List ℕ) (n : ℕ) → length (idsFor names n) ≡ n
 unfolding idsFor
 ids-count names zero = refl
 ids-count names (suc n) = ap suc (ids-count (unusedId firstBlockId names ∷ names) n)
-
--- every block of the pieces ends within m
-unfoldable pub Ends : ℕ → List Bytes → List ℕ → Type 0
-Ends m [] qs = Unit {0}
-Ends m (p ∷ ps) [] = Unit {0}
-Ends m (p ∷ ps) (q ∷ qs) = (q + (block .headerSize + length p) ≤ m) × Ends m ps qs
-
--- as many places as pieces, and within what the spaces lie within
-pub record Planned (m : ℕ) (ps : List Bytes) (qs : List ℕ) : Type 0 where
-  pub ends : Ends m ps qs
-  pub count : length qs ≡ length ps
-
-abbrev pub PlannedAt : ℕ → List Bytes → Option (List ℕ) → Type 0
-PlannedAt m ps none = Unit {0}
-PlannedAt m ps (some qs) = Planned m ps qs
-
-pub places-planned : (m : ℕ) (ss : List Space) (ps : List Bytes) → Within m ss → PlannedAt m ps (placesFor ss ps)
-unfolding placesFor Ends
-places-planned m ss [] w = record { ends = tt; count = refl }
-places-planned m ss (p ∷ ps) w =
-    go (firstFit (block .headerSize + length p) ss) (λ g e. fit-within (block .headerSize + length p) m ss g e w) (λ t v. places-planned m t ps v)
-  where
-    then : (q : ℕ) (o : Option (List ℕ)) → q + (block .headerSize + length p) ≤ m → PlannedAt m ps o → PlannedAt m (p ∷ ps) (placeThen q o)
-    then q none h i = tt
-    then q (some qs) h i = record { ends = (h, i .ends); count = ap suc (i .count) }
-
-    go : (o : Option Fit) → ((g : Fit) → o ≡ some g → (g .place + (block .headerSize + length p) ≤ m) × Within m (g .left))
-        → ((t : List Space) → Within m t → PlannedAt m ps (placesFor t ps))
-        → PlannedAt m (p ∷ ps) (bind o (λ g. placeThen (g .place) (placesFor (g .left) ps)))
-    go none h ih = tt
-    go (some g) h ih = let f = h g refl in then (g .place) (placesFor (g .left) ps) (f .0) (ih (g .left) (f .1))

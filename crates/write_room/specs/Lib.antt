@@ -2,3 +2,4 @@
 pub mod Spaces
 pub mod First
 pub mod Rows
+pub mod Plan

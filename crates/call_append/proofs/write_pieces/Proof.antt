@@ -11,8 +11,8 @@ use Rattle.calls.specs.declared.Descriptor.{Descriptor}
 use Rattle.mount_state.specs.State.{Holds}
 use Rattle.write_ids.specs.Window.{namedAt}
 use Rattle.write_sizes.specs.Cut.{pieces}
-use Rattle.write_pieces.specs.Plan.{idsFor, placesFor, Planned, PlannedAt}
-use Rattle.write_pieces.specs.Laws.{plannedOf}
+use Rattle.write_room.specs.Plan.{placesFor, Planned, PlannedAt, plannedOf}
+use Rattle.write_pieces.specs.Plan.{idsFor}
 use Rattle.call_append.specs.Written.{not-written, writing-ready, written}
 use Rattle.call_append.proofs.write_pieces.Statement.{statement}
 use Rattle.call_append.proofs.write_pieces.Tie as tie

@@ -3,7 +3,7 @@ use native.Mathlib.Omega.{arith}
 use lib.ListN.{length-take}
 use borrow.Author.Needs.{needs}
 use Rattle.write_room.specs.Rows.{safe-rows}
-use Rattle.write_pieces.specs.Laws.{rows-planned}
+use Rattle.write_room.specs.Plan.{rows-planned}
 use Rattle.write_pieces.proofs.plan_places.Statement.{statement}
 use Rattle.write_pieces.proofs.plan_places.Tie as tie
 

@@ -5,12 +5,12 @@ use native.Mathlib.Omega.{arith}
 use borrow.Author.Needs.{needs}
 use lib.ListN.{length}
 use Rattle.write_sizes.specs.Cut.{next-some}
-use Rattle.write_pieces.specs.Laws.{Planning, planning-begins, planning-room, planning-fails, planning-on, planning-ends}
+use Rattle.write_pieces.specs.Laws.{Placing, placing-begins, placing-room, placing-fails, placing-on, placing-ends}
 use Rattle.write_pieces.proofs.take_places.Statement.{statement}
 use Rattle.write_pieces.proofs.take_places.Tie as tie
 
 abbrev Inv-loop : tie.InvT-loop
-Inv-loop froms₀ ends text size places₀ start₀ i₀ froms places start i = Planning size text ends froms₀ places₀ froms places start i
+Inv-loop froms₀ ends text size places₀ start₀ i₀ froms places start i = Placing size text ends froms₀ places₀ froms places start i
 
 abbrev μ-loop : tie.MeasureT-loop
 μ-loop froms₀ ends text size places₀ start₀ i₀ froms places start i = length text - start
@@ -39,7 +39,7 @@ take-place-requires c κs =
     let s = c .before in
     let l = s .before .before in
     let a = lent l in
-    (l .loop .inv .starts-long ∙ a .pre .0 .0, omega (arith, step s, a .pre .0 .2))
+    (l .loop .inv .planning .starts-long ∙ a .pre .0 .0, omega (arith, step s, a .pre .0 .2))
 
 returns : tie.Need-returns Inv-loop μ-loop
 returns c =
@@ -48,8 +48,7 @@ returns c =
     let n = s .before in
     let l = n .before in
     let a = lent l in
-    planning-fails (a .args .size) (a .pre .0 .1) (a .args .text .now) (a .args .ends .now) (a .args .froms .now) (a .args .places .now) (l .loop .froms) (l .loop .places) (l .loop .start) (l .loop .i)
-    (l .loop .inv) (n .loop-test .taken) (s .smaller .result) (s .smaller .ensures) (t .take-place .result) (t .take-place .last .0) (t .take-place .ensures) (c .enum-told .given .1)
+    placing-fails (a .pre .0 .1) (l .loop .inv) (n .loop-test .taken) (s .smaller .result) (s .smaller .ensures) (t .take-place .result) (t .take-place .last .0) (t .take-place .ensures) (c .enum-told .given .1)
 
 -- there is a row for the place
 row : (c : tie.After-known-told Inv-loop μ-loop) → let s = at-smaller (at-take (c .before .before .before)) in s .before .before .loop .i < length (s .before .before .loop .places)
@@ -58,8 +57,7 @@ row c =
     let n = s .before in
     let l = n .before in
     let a = lent l in
-    planning-room (a .args .size) (a .pre .0 .1) (a .args .text .now) (a .args .ends .now) (a .args .froms .now) (a .args .places .now) (l .loop .froms) (l .loop .places) (l .loop .start) (l .loop .i)
-    (l .loop .inv) (n .loop-test .taken) (s .smaller .result) (s .smaller .ensures)
+    placing-room (a .pre .0 .1) (l .loop .inv) (n .loop-test .taken) (s .smaller .result) (s .smaller .ensures)
 
 loop-again : tie.Need-loop-again Inv-loop μ-loop
 loop-again c =
@@ -69,16 +67,14 @@ loop-again c =
     let n = s .before in
     let l = n .before in
     let a = lent l in
-    planning-on (a .args .size) (a .pre .0 .1) (a .args .text .now) (a .args .ends .now) (a .args .froms .now) (a .args .places .now) (l .loop .froms) (l .loop .places) (l .loop .start) (l .loop .i)
-    (l .loop .inv) (n .loop-test .taken) (s .smaller .result) (s .smaller .ensures) (t .take-place .result) (t .take-place .last .0) (t .take-place .kept .0) (t .take-place .ensures)
+    placing-on (a .pre .0 .1) (l .loop .inv) (n .loop-test .taken) (s .smaller .result) (s .smaller .ensures) (t .take-place .result) (t .take-place .last .0) (t .take-place .ensures) (t .take-place .kept .0)
     (k .at .given .0 .0) (k .at .given .1)
 
 returns-2 : tie.Need-returns-2 Inv-loop μ-loop
 returns-2 c =
     let l = c .before in
     let a = lent l in
-    planning-ends (a .args .size) (a .pre .0 .1) (a .args .text .now) (a .args .ends .now) (a .args .froms .now) (a .args .places .now) (l .loop .froms) (l .loop .places) (l .loop .start) (l .loop .i)
-    (l .loop .inv) (omega (arith, c .loop-test .left))
+    placing-ends (a .pre .0 .1) (l .loop .inv) (omega (arith, c .loop-test .left))
 
 pub take-places-spec : {M : Type 1} → statement M
 take-places-spec =
@@ -86,15 +82,15 @@ take-places-spec =
     (tie.spec
     Inv-loop
     μ-loop
-    (λ c. planning-begins _ _ _ _ _ (c .before .before .before .before .pre .1))
+    (λ c. placing-begins _ _ _ _ _ (c .before .before .before .before .pre .1))
     (λ c. omega (arith, c .loop-test .taken))
     (λ c κs. search needs)
     (λ c. omega (arith, step (c .before)))
     take-place-requires
     (λ c. search needs)
     (λ c. search needs)
-    (λ c. let t = at-take (c .before .before) in t .take-place .kept .0 ∙ at-smaller t .before .before .loop .inv .starts-long)
-    (λ c. at-smaller (at-take (c .before .before)) .before .before .loop .inv .places-long)
+    (λ c. let t = at-take (c .before .before) in t .take-place .kept .0 ∙ at-smaller t .before .before .loop .inv .planning .starts-long)
+    (λ c. at-smaller (at-take (c .before .before)) .before .before .loop .inv .planning .places-long)
     returns
     (λ c. omega (arith, row c))
     (λ c. omega (arith, row c))
@@ -102,6 +98,6 @@ take-places-spec =
     (λ c. omega (arith, step (at-smaller (at-take (c .before .before .before)))))
     (λ c. omega (arith, step (at-smaller (at-take (c .before .before .before)))))
     loop-again
-    (λ c. c .before .loop .inv .starts-long)
-    (λ c. c .before .loop .inv .places-long)
+    (λ c. c .before .loop .inv .planning .starts-long)
+    (λ c. c .before .loop .inv .planning .places-long)
     returns-2)
