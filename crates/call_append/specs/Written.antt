@@ -2,7 +2,7 @@
 use Prim.Native.Nat.{ℕ, _≤_, _<_}
 use mathlib.Core.Path.{_≡_, ap, _∙_}
 use mathlib.Core.Bool.{cond}
-use mathlib.Core.List.{List}
+use mathlib.Core.List.{List, map}
 use mathlib.Core.Option.{none, some}
 use native.Mathlib.Omega.{arith}
 use lib.ListN.{length}
@@ -69,19 +69,19 @@ pub record Written (image : Bytes) (ss : List Space) (names : List ℕ) (c : Cha
 
 module _ (image : Bytes) (ss : List Space) (names : List ℕ) (c : Chain) (text : Bytes) where
   told-placed : placeAll ss (blocksFor names c text)
-      ≡ storesAt (idsFor names (length (pieces (c .size) text))) (c .file) (c .last) (pieces (c .size) text) (placesFor ss (pieces (c .size) text))
+      ≡ storesAt (idsFor names (length (pieces (c .size) text))) (c .file) (c .last) (pieces (c .size) text) (placesFor ss (map length (pieces (c .size) text)))
   told-placed = blocks-placed ss names (c .file) (c .last) (pieces (c .size) text)
 
   -- one has no place
-  pub not-written : placesFor ss (pieces (c .size) text) ≡ none → Written image ss names c text 15 image
+  pub not-written : placesFor ss (map length (pieces (c .size) text)) ≡ none → Written image ss names c text 15 image
   not-written e = record { number = rw (told-placed, e); stored = rw (told-placed, e) }
 
   -- each has its place, and its id
-  pub written : (qs : List ℕ) → placesFor ss (pieces (c .size) text) ≡ some qs → (is : List ℕ) → is ≡ idsFor names (length (pieces (c .size) text))
+  pub written : (qs : List ℕ) → placesFor ss (map length (pieces (c .size) text)) ≡ some qs → (is : List ℕ) → is ≡ idsFor names (length (pieces (c .size) text))
       → (x : Bytes) → x ≡ storeAll image (storesOf is (c .file) (c .last) (pieces (c .size) text) qs) → Written image ss names c text 0 x
   written qs e is t x q = record { number = rw (told-placed, e); stored = q ∙ rw (told-placed, e, t) }
 
-pub writing-ready : {image : Bytes} {c : Chain} {text : Bytes} (names qs is : List ℕ) → Cut c text → Planned (length image) (pieces (c .size) text) qs
+pub writing-ready : {image : Bytes} {c : Chain} {text : Bytes} (names qs is : List ℕ) → Cut c text → Planned (length image) (map length (pieces (c .size) text)) qs
     → is ≡ idsFor names (length (pieces (c .size) text)) → Ready (c .size) text is qs image
 writing-ready {c = c} {text = text} names qs is k p t = record {
   some-room = k .some-room;

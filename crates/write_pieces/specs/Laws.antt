@@ -2,12 +2,12 @@
 use Prim.Native.Nat.{ℕ, suc, _+_, _-_, _≤_, _<_}
 use mathlib.Core.Path.{_≡_, refl, sym, ap, subst, _∙_}
 use mathlib.Core.Bool.{Bool, true, false}
-use mathlib.Core.List.{List, [], _∷_, _++_, append-nil, append-assoc}
+use mathlib.Core.List.{List, [], _∷_, _++_, map, append-nil, append-assoc}
 use mathlib.Core.Option.{Option, none, some}
 use native.Mathlib.Omega.{arith}
 use native.Mathlib.Numerals.{add-one}
 use native.Mathlib.Nat.{sub-zero}
-use lib.ListN.{length, take, drop, getD, set, length-take, length-drop, length-set, drop-of-length-le}
+use lib.ListN.{length, take, drop, getD, set, length-take, length-drop, length-set, length-map, drop-of-length-le}
 use lib.Seq.{take-suc-set, take-all, drop-cons}
 use Rattle.format.specs.Bytes.{Bytes}
 use Rattle.format.specs.Ids.{firstBlockId}
@@ -37,10 +37,10 @@ use Rattle.write_pieces.specs.Plan.{idsFor, storesOf}
 -- the pieces before start have their places
 pub record Placing (n : ℕ) (text : Bytes) (es fs₀ qs₀ fs qs : List ℕ) (start i : ℕ) : Type 0 where
   pub count : i + length (pieces n (drop start text)) ≡ length qs₀
-  pub planning : Planning (pieces n text) (pieces n (drop start text)) es fs₀ qs₀ fs qs i
+  pub planning : Planning (map length (pieces n text)) (map length (pieces n (drop start text))) es fs₀ qs₀ fs qs i
 
 pub placing-begins : (n : ℕ) (text : Bytes) (es fs qs : List ℕ) → length qs ≡ length (pieces n text) → Placing n text es fs qs fs qs 0 0
-placing-begins n text es fs qs e = record { count = omega arith; planning = planning-begins (pieces n text) es fs qs }
+placing-begins n text es fs qs e = record { count = omega arith; planning = planning-begins (map length (pieces n text)) es fs qs }
 
 module _ {n : ℕ} (some-room : 1 ≤ n) {text : Bytes} {es fs₀ qs₀ fs qs : List ℕ} {start i : ℕ} (g : Placing n text es fs₀ qs₀ fs qs start i) where
   module _ (h : start < length text) (k : ℕ) (next : k ≡ nextLength n (length text - start)) where
@@ -57,20 +57,23 @@ module _ {n : ℕ} (some-room : 1 ≤ n) {text : Bytes} {es fs₀ qs₀ fs qs : 
     pub placing-room : i < length qs
     placing-room = omega (arith, g .count, ap length more, g .planning .places-long)
 
+    more-sizes : map length (pieces n (drop start text)) ≡ k ∷ map length (pieces n (drop (start + k) text))
+    more-sizes = ap (map length) more ∙ rw piece-long
+
     module _ (r : Place) (fs′ : List ℕ) (took : firstFit (block .headerSize + k) (spacesOf fs es) ≡ fitOf r (spacesOf fs′ es)) where
-      pub placing-fails : r ≡ Nowhere → placesFor (spacesOf fs₀ es) (pieces n text) ≡ none
-      placing-fails = planning-fails (g .planning) piece _ more k piece-long r fs′ took
+      pub placing-fails : r ≡ Nowhere → placesFor (spacesOf fs₀ es) (map length (pieces n text)) ≡ none
+      placing-fails = planning-fails (g .planning) k _ more-sizes r fs′ took
 
       pub placing-on : length fs′ ≡ length fs → (q : ℕ) → r ≡ At q → Placing n text es fs₀ qs₀ fs′ (set qs i q) (start + k) (i + 1)
       placing-on l q a = record {
         count = omega (arith, g .count, ap length more);
-        planning = planning-on (g .planning) piece _ more k piece-long r fs′ took placing-room l q a;
+        planning = planning-on (g .planning) k _ more-sizes r fs′ took placing-room l q a;
       }
 
-  pub placing-ends : length text ≤ start → placesFor (spacesOf fs₀ es) (pieces n text) ≡ some qs
+  pub placing-ends : length text ≤ start → placesFor (spacesOf fs₀ es) (map length (pieces n text)) ≡ some qs
   placing-ends h =
       let z = pieces-end n text start h in
-      planning-ends (g .planning) z ∙ ap some (take-all i qs (omega (arith, g .count, ap length z, g .planning .places-long)))
+      planning-ends (g .planning) (ap (map length) z) ∙ ap some (take-all i qs (omega (arith, g .count, ap length z, g .planning .places-long)))
 
 -- ---- ids
 
@@ -139,7 +142,7 @@ module _ {names₀ words₀ ids₀ words ids : List ℕ} {i : ℕ} (g : Taking n
 pub record Storing (n : ℕ) (text : Bytes) (is qs : List ℕ) (f last : ℕ) (x₀ x : Bytes) (previous start i : ℕ) : Type 0 where
   pub long : length x ≡ length x₀
   pub count : i + length (pieces n (drop start text)) ≡ length is
-  pub ends : Ends (length x₀) (pieces n (drop start text)) (drop i qs)
+  pub ends : Ends (length x₀) (map length (pieces n (drop start text))) (drop i qs)
   pub left : storeAll x (storesOf (drop i is) f previous (pieces n (drop start text)) (drop i qs)) ≡ storeAll x₀ (storesOf is f last (pieces n text) qs)
 
 -- as many ids and places as pieces, and the places in the image
@@ -147,7 +150,7 @@ pub record Ready (n : ℕ) (text : Bytes) (is qs : List ℕ) (x : Bytes) : Type 
   pub some-room : 1 ≤ n
   pub small : n ≤ longestData
   pub ids-count : length is ≡ length (pieces n text)
-  pub planned : Planned (length x) (pieces n text) qs
+  pub planned : Planned (length x) (map length (pieces n text)) qs
 
 pub storing-begins : {n : ℕ} {text : Bytes} {is qs : List ℕ} {x : Bytes} (f last : ℕ) → Ready n text is qs x → Storing n text is qs f last x x last 0 0
 storing-begins f last r = record { long = refl; count = omega (arith, r .ids-count); ends = r .planned .ends; left = refl }
@@ -165,9 +168,9 @@ module _ {n : ℕ} {text : Bytes} {is qs : List ℕ} {f last : ℕ} {x₀ x : By
     stored-long = omega (arith, length-take k (drop start text), length-drop start text, next-some n (ready .some-room) text start k next h)
 
     pub storing-room : (i < length is) × (i < length qs)
-    storing-room = (omega (arith, g .count, ap length rest), omega (arith, g .count, ap length rest, ready .ids-count, ready .planned .count))
+    storing-room = (omega (arith, g .count, ap length rest), omega (arith, g .count, ap length rest, ready .ids-count, ready .planned .count, length-map (pieces n text) (length {A = ℕ})))
 
-    both-end : (getD qs i 0 + (block .headerSize + length stored) ≤ length x₀) × Ends (length x₀) (pieces n (drop (start + k) text)) (drop (i + 1) qs)
+    both-end : (getD qs i 0 + (block .headerSize + length stored) ≤ length x₀) × Ends (length x₀) (map length (pieces n (drop (start + k) text))) (drop (i + 1) qs)
     unfolding Ends
     both-end = rw add-one (rw (rest, drop-cons qs i 0 (storing-room .1)) at (g .ends))
 

@@ -1,7 +1,7 @@
 -- The ids and the places of new blocks, before any is stored. Document 01, "Create, append, unlink": "all pieces or none".
 use Prim.Native.Nat.{ℕ, zero, suc, _+_}
 use mathlib.Core.Path.{_≡_, refl, ap}
-use mathlib.Core.List.{List, [], _∷_}
+use mathlib.Core.List.{List, [], _∷_, map}
 use mathlib.Core.Option.{Option, none, some}
 use lib.ListN.{length}
 use Rattle.format.specs.Bytes.{Bytes}
@@ -33,7 +33,7 @@ storesAt is f previous ps (some qs) = some (storesOf is f previous ps qs)
 
 -- the records of the pieces, placed, are these stores
 pub blocks-placed : (ss : List Space) (names : List ℕ) (f previous : ℕ) (ps : List Bytes)
-    → placeAll ss (blockRecords names f previous ps) ≡ storesAt (idsFor names (length ps)) f previous ps (placesFor ss ps)
+    → placeAll ss (blockRecords names f previous ps) ≡ storesAt (idsFor names (length ps)) f previous ps (placesFor ss (map length ps))
 unfolding placeAll blockRecords placesFor storesOf idsFor
 blocks-placed ss names f previous [] = refl
 blocks-placed ss names f previous (p ∷ ps) =
@@ -53,11 +53,11 @@ blocks-placed ss names f previous (p ∷ ps) =
     then q (some qs) = refl
 
     go : (o : Option Fit)
-        → ((t : List Space) → placeAll t (blockRecords (i ∷ names) f i ps) ≡ storesAt (idsFor (i ∷ names) (length ps)) f i ps (placesFor t ps))
+        → ((t : List Space) → placeAll t (blockRecords (i ∷ names) f i ps) ≡ storesAt (idsFor (i ∷ names) (length ps)) f i ps (placesFor t (map length ps)))
         → bind o (λ g. prepend (record { place = g .place; bytes = b }) (placeAll (g .left) (blockRecords (i ∷ names) f i ps)))
-        ≡ storesAt (i ∷ idsFor (i ∷ names) (length ps)) f previous (p ∷ ps) (bind o (λ g. placeThen (g .place) (placesFor (g .left) ps)))
+        ≡ storesAt (i ∷ idsFor (i ∷ names) (length ps)) f previous (p ∷ ps) (bind o (λ g. placeThen (g .place) (placesFor (g .left) (map length ps))))
     go none ih = refl
-    go (some g) ih = rw (ih (g .left)) (then (g .place) (placesFor (g .left) ps))
+    go (some g) ih = rw (ih (g .left)) (then (g .place) (placesFor (g .left) (map length ps)))
 
 pub records-count : (names : List ℕ) (f previous : ℕ) (ps : List Bytes) → length (blockRecords names f previous ps) ≡ length ps
 unfolding blockRecords

@@ -1,7 +1,7 @@
 // The pieces that an append cuts its data into: which ids and places they get, and their stores.
 // Ids and places are all found before the first store, so that all pieces are written or none.
 ghost use mathlib.Core.Path.{_≡_};
-ghost use mathlib.Core.List.{List};
+ghost use mathlib.Core.List.{List, map};
 ghost use Prim.Native.Nat.{_+_, _≤_};
 ghost use lib.ListN.{length};
 ghost use Rattle.format.specs.Record.{block, longestData};
@@ -42,7 +42,7 @@ fn take_places(
 ) -> bool
     requires { ⌜ (length (now froms) ≡ length (now ends)) × (1 ≤ size) × (size ≤ longestData) ⌝ }
     requires { ⌜ length (now places) ≡ length (pieces size (now text)) ⌝ }
-    ensures { λ r. ⌜ placesFor (spacesOf (now (froms .entry)) (now (ends .entry))) (pieces size (now (text .entry))) ≡ plannedOf r (now (places .exit)) ⌝ }
+    ensures { λ r. ⌜ placesFor (spacesOf (now (froms .entry)) (now (ends .entry))) (map length (pieces size (now (text .entry)))) ≡ plannedOf r (now (places .exit)) ⌝ }
 {
     let mut start = 0;
     let mut i = 0;
@@ -70,8 +70,8 @@ pub fn plan_places(
     requires { ⌜ Safe (now image) m (now tables) ⌝ }
     requires { ⌜ (1 ≤ size) × (size ≤ longestData) ⌝ }
     requires { ⌜ length (now places) ≡ length (pieces size (now text)) ⌝ }
-    ensures are { λ r. ⌜ ((ds : List Descriptor) → Holds (now (image .entry)) ds m (now (tables .entry)) → placesFor (spaces (now (image .entry)) (fileAreas (now (image .entry)) ds)) (pieces size (now (text .entry))) ≡ plannedOf r (now (places .exit))) ⌝ }
-    ensures inside { λ r. ⌜ PlannedAt (length (now (image .entry))) (pieces size (now (text .entry))) (plannedOf r (now (places .exit))) ⌝ }
+    ensures are { λ r. ⌜ ((ds : List Descriptor) → Holds (now (image .entry)) ds m (now (tables .entry)) → placesFor (spaces (now (image .entry)) (fileAreas (now (image .entry)) ds)) (map length (pieces size (now (text .entry)))) ≡ plannedOf r (now (places .exit))) ⌝ }
+    ensures inside { λ r. ⌜ PlannedAt (length (now (image .entry))) (map length (pieces size (now (text .entry)))) (plannedOf r (now (places .exit))) ⌝ }
 {
     let mut froms = [0u32; MOST_AREAS];
     let mut ends = [0u32; MOST_AREAS];

@@ -1,7 +1,7 @@
 -- `call_append::write_pieces` meets its contract.
 use mathlib.Core.Path.{_≡_, ap, subst, _∙_}
 use mathlib.Core.Bool.{Bool}
-use mathlib.Core.List.{List}
+use mathlib.Core.List.{List, map}
 use mathlib.Core.Option.{some}
 use borrow.Author.Needs.{needs}
 use lib.ListN.{length}
@@ -28,15 +28,15 @@ abbrev placed : tie.Then1 → tie.After-plan-places
 placed t = t .before .before .before
 
 -- each piece has its place in the image, which is that of the definition, and its id
-planned : (t : tie.Then1) → let p = placed t in let a = lent p .args in Planned (length (a .image .now)) (pieces (a .chain .size) (a .text .now)) (p .plan-places .last .1 .1 .1 .1 .1 .0)
+planned : (t : tie.Then1) → let p = placed t in let a = lent p .args in Planned (length (a .image .now)) (map length (pieces (a .chain .size) (a .text .now))) (p .plan-places .last .1 .1 .1 .1 .1 .0)
 planned t =
     let p = placed t in
     let a = lent p .args in
-    subst (λ (b : Bool). PlannedAt (length (a .image .now)) (pieces (a .chain .size) (a .text .now)) (plannedOf b (p .plan-places .last .1 .1 .1 .1 .1 .0))) (t .if1 .taken) (p .plan-places .ensures .1)
+    subst (λ (b : Bool). PlannedAt (length (a .image .now)) (map length (pieces (a .chain .size) (a .text .now))) (plannedOf b (p .plan-places .last .1 .1 .1 .1 .1 .0))) (t .if1 .taken) (p .plan-places .ensures .1)
 
 places-told : (t : tie.Then1) → let p = placed t in let a = lent p .args in
     (ds : List Descriptor) → Holds (a .image .now) ds (a .m) (a .tables .now)
-    → placesFor (spaces (a .image .now) (fileAreas (a .image .now) ds)) (pieces (a .chain .size) (a .text .now)) ≡ some (p .plan-places .last .1 .1 .1 .1 .1 .0)
+    → placesFor (spaces (a .image .now) (fileAreas (a .image .now) ds)) (map length (pieces (a .chain .size) (a .text .now))) ≡ some (p .plan-places .last .1 .1 .1 .1 .1 .0)
 places-told t ds h =
     placed t .plan-places .ensures .0 ds h ∙ ap (λ (b : Bool). plannedOf b (placed t .plan-places .last .1 .1 .1 .1 .1 .0)) (t .if1 .taken)
 
