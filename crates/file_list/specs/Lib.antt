@@ -1,0 +1,2 @@
+-- The blocks of a file in a list.
+pub mod Listing
