@@ -69,7 +69,7 @@ module _ (x₀ : Bytes) (from to n : ℕ) where
     copying-step h = record {
       long = length-set x (to + i) (byteAt x (from + i)) ∙ c .long;
       storing = λ a. storing-step x₀ to (part x₀ from n) i x (c .storing a) (rw long-part (fits .1)) _ (rw long-part h)
-      (storing-copied x₀ from to n i x (c .storing a) fits a h);
+          (storing-copied x₀ from to n i x (c .storing a) fits a h);
     }
 
     pub copying-ends : n ≤ i → Apart from n to n → x ≡ put x₀ to (part x₀ from n)

@@ -32,7 +32,8 @@ use Rattle.area_pass.specs.Bridge.{record-places-each, record-bytes, record-lie
 use Rattle.collect_copies.specs.Copied.{Tables, tableOf, AllRows, inside, dropped, countsIn, copied, copiedPlaces}
 use Rattle.collect_copies.specs.First.{first-mem}
 use Rattle.collect_copies.specs.Bridge.{parted, in-area, volume-copies}
-use Rattle.collect_stores.specs.Records.{moved, bytes-long}
+use Rattle.record_places.specs.Stays.{bytes-long}
+use Rattle.collect_stores.specs.Records.{moved}
 use Rattle.collect_stores.specs.Fits.{span, fits, clear-fit}
 
 -- a record that an area is read as ends in it

@@ -15,7 +15,8 @@ use Rattle.image_laws.specs.Apart.{Apart, apart-part}
 use Rattle.image_laws.specs.Laws.{length-put, part-outside}
 use Rattle.image_laws.specs.Stores.{stores-append}
 use Rattle.collect_laws.specs.Stores.{ready-is, ready-long, records-are}
-use Rattle.collect_stores.specs.Records.{moved, moved-same, size-stays, bytes-stay}
+use Rattle.record_places.specs.Stays.{size-stays, bytes-stay}
+use Rattle.collect_stores.specs.Records.{moved, moved-same}
 use Rattle.collect_stores.specs.Moving.{Movable}
 
 -- records that can be copied into the area of n bytes at t, behind its header

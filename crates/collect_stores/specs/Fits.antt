@@ -20,7 +20,8 @@ use Rattle.area_list.specs.Described.{areaOf}
 use Rattle.area_list.specs.Places.{Clear, disjoint-clear, clear-disjoint}
 use Rattle.image_laws.specs.Apart.{Apart, apart-before, apart-after}
 use Rattle.image_laws.specs.Stores.{joinedBytes}
-use Rattle.collect_stores.specs.Records.{moved, bytes-long}
+use Rattle.record_places.specs.Stays.{bytes-long}
+use Rattle.collect_stores.specs.Records.{moved}
 use Rattle.collect_stores.specs.Filled.{Fillable}
 
 -- the bytes of the record at a place

@@ -10,7 +10,8 @@ use Rattle.calls.specs.Image.{put, part}
 use Rattle.record_places.specs.Place.{sizeAt, bytesAt, Lies, AllLie}
 use Rattle.image_laws.specs.Apart.{Apart, apart-part, apart-front}
 use Rattle.image_laws.specs.Laws.{put-none, length-put, part-outside, put-put}
-use Rattle.collect_stores.specs.Records.{moved, moved-none, moved-more, moved-within, size-stays, bytes-stay, bytes-long}
+use Rattle.record_places.specs.Stays.{size-stays, bytes-stay, bytes-long}
+use Rattle.collect_stores.specs.Records.{moved, moved-none, moved-more, moved-within}
 
 -- records that can be copied to `to`: they lie in the image, there is room, and none of them is stored over
 pub record Movable (x : Bytes) (ps : List ℕ) (to : ℕ) : Type 0 where

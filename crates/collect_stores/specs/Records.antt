@@ -14,45 +14,11 @@ use Rattle.format_laws.specs.Bytes.{same-byte, same-le16, same-le32, drop-byte,
 use Rattle.volume_laws.specs.Lists.{map-append}
 use Rattle.calls.specs.Image.{part}
 use Rattle.image_laws.specs.Stores.{joinedBytes}
-use Rattle.record_places.specs.Place.{blockAt, sizeAt, bytesAt, Lies}
-use Rattle.record_places.specs.Laws.{size-block, size-inode, size-least}
+use Rattle.record_places.specs.Place.{bytesAt}
 
 -- the records at some places, one behind the other
 unfoldable pub moved : Bytes → List ℕ → Bytes
 moved image ps = joinedBytes (map (bytesAt image) ps)
-
--- ---- one record
-
-module _ (x y : Bytes) (p : ℕ) (same : part y p (sizeAt x p) ≡ part x p (sizeAt x p)) where
-  abbrev n : ℕ
-  n = sizeAt x p
-
-  word : (i : ℕ) → i + 4 ≤ n → le32 y (p + i) ≡ le32 x (p + i)
-  word i h = sym (drop-le32 p y i) ∙ same-le32 n (drop p y) (drop p x) same i h ∙ drop-le32 p x i
-
-  half : (i : ℕ) → i + 2 ≤ n → le16 y (p + i) ≡ le16 x (p + i)
-  half i h = sym (drop-le16 p y i) ∙ same-le16 n (drop p y) (drop p x) same i h ∙ drop-le16 p x i
-
-  byte : (i : ℕ) → i < n → byteAt y (p + i) ≡ byteAt x (p + i)
-  byte i h = sym (drop-byte p y i) ∙ same-byte n (drop p y) (drop p x) same i h ∙ drop-byte p x i
-
-  kind-stays : blockAt y p ≡ blockAt x p
-  kind-stays = let z : p + 0 ≡ p = omega arith in ap (λ m. eqb m (block .magic)) (rw z at (word 0 (omega (arith, size-least x p))))
-
-  pub size-stays : sizeAt y p ≡ sizeAt x p
-  size-stays = go (blockAt x p) refl
-    where
-      go : (b : Bool) → blockAt x p ≡ b → sizeAt y p ≡ sizeAt x p
-      go true e =
-          let k = size-block x p e in
-          size-block y p (kind-stays ∙ e) ∙ rw (half 20 (omega arith)) (sym k)
-      go false e =
-          let k = size-inode x p e in
-          size-inode y p (kind-stays ∙ e) ∙ rw (byte 17 (omega (arith, size-least x p))) (sym k)
-
-  pub bytes-stay : bytesAt y p ≡ bytesAt x p
-  unfolding bytesAt
-  bytes-stay = rw size-stays same
 
 -- ---- records one behind the other
 
@@ -81,10 +47,6 @@ moved-within x ps i =
     let e = ap (moved x) (take-append-drop i ps) in
     let f = ap length (moved-append x (take i ps) (drop i ps)) in
     omega (arith, ap length e, length-append (moved x (take i ps)) (moved x (drop i ps)))
-
-pub bytes-long : (x : Bytes) (p : ℕ) → Lies x p → length (bytesAt x p) ≡ sizeAt x p
-unfolding bytesAt
-bytes-long x p h = omega (arith, length-take (sizeAt x p) (drop p x), length-drop p x)
 
 -- images that agree on every record
 pub moved-same : (x y : Bytes) (ps : List ℕ) → ((i : ℕ) → i < length ps → bytesAt y (getD ps i 0) ≡ bytesAt x (getD ps i 0)) → moved y ps ≡ moved x ps

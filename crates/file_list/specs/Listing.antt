@@ -1,12 +1,11 @@
 -- The blocks of a file listed from the last one back, and what the list holds then.
 use Prim.Native.Nat.{ℕ, zero, suc, _+_, _-_, _*_, _≤_, _<_}
-use mathlib.Core.Path.{_≡_, refl, sym, ap, subst, _∙_}
+use mathlib.Core.Path.{_≡_, refl, sym, ap, _∙_}
 use mathlib.Core.Bool.{true}
 use mathlib.Core.Option.{Option, none, some}
-use mathlib.Core.List.{List, [], _∷_, _++_, map, append-nil, append-assoc, List·Memᴰ, List·Memᴰ·cases-cons, List·Memᴰ·not-nil}
-use mathlib.Core.Logic.{⊎-elim}
+use mathlib.Core.List.{List, [], _∷_, _++_, map, append-nil, append-assoc}
 use native.Mathlib.Omega.{arith}
-use lib.ListN.{length, drop, set, length-append, length-set, drop-of-length-le}
+use lib.ListN.{length, drop, getD, set, length-append, length-set, drop-of-length-le}
 use lib.Seq.{drop-cons, drop-set-lt, getD-set-same}
 use borrow.Author.Tests.{eq-eqb, ne-eqb}
 use Rattle.format.specs.Bytes.{Bytes}
@@ -24,7 +23,7 @@ dataSize image p = length (byPlace image .text p)
 
 -- these are places of blocks of the image, and the sizes of their data
 pub record Listed (image : Bytes) (bs ns : List ℕ) : Type 0 where
-  pub lie : (p : ℕ) → List·Memᴰ p bs → Lies image p × (blockAt image p ≡ true)
+  pub lie : (i : ℕ) → i < length bs → Lies image (getD bs i 0) × (blockAt image (getD bs i 0) ≡ true)
   pub sizes : ns ≡ map (dataSize image) bs
 
 -- what an answer of `list_chain` says of a chain
@@ -78,7 +77,7 @@ module _ {image : Bytes} {c : ℕ → Option ℕ} {f count start : ℕ} where
         few = omega arith;
         chain = rw be (sym (before-none (chainBack (byPlace image) c f count start)));
         sized = rw be;
-        listed = rw (be, ne) (record { lie = λ p m. absurd (List·Memᴰ·not-nil m); sizes = refl });
+        listed = rw (be, ne) (record { lie = λ i h. absurd (omega arith); sizes = refl });
       }
 
   module _ {id left size : ℕ} {bs ns : List ℕ} (g : Listing image c f count start id left size bs ns) where
@@ -102,10 +101,15 @@ module _ {image : Bytes} {c : ℕ → Option ℕ} {f count start : ℕ} where
           chain = g .chain ∙ rw (step, b, back) (before-snoc (chainBack (byPlace image) c f k (byPlace image .previous p)) p (drop left bs));
           sized = rw b (omega (arith, g .sized, length-append (byPlace image .text p) (textOf (byPlace image) (drop left bs))));
           listed = rw (b, m) (record {
-            lie = λ q z. ⊎-elim (λ v. rw v (lies, block)) (g .listed .lie q) (List·Memᴰ·cases-cons z);
+            lie = each;
             sizes = rw (is, g .listed .sizes);
           });
         }
+      where
+        each : (i : ℕ) → i < suc (length (drop left bs))
+            → Lies image (getD (p ∷ drop left bs) i 0) × (blockAt image (getD (p ∷ drop left bs) i 0) ≡ true)
+        each zero l = (lies, block)
+        each (suc i) l = g .listed .lie i (omega arith)
 
     -- the ways it ends
     pub listing-broken : 0 < left → none ≡ blockFor (byPlace image) f c id → chainBack (byPlace image) c f count start ≡ none

@@ -28,6 +28,10 @@ use byte_fields::wide;
 
 // The id of nothing: no parent, no block before this one.
 pub const NONE: u32 = 0xffffffff;
+
+// The greatest sequence, which no record can follow.
+pub const GREATEST_SEQUENCE: u32 = 0xffffffff;
+
 // The longest data that a block may hold.
 pub const LONGEST_DATA: u32 = 2048;
 

@@ -104,14 +104,7 @@ fn changed_check(front: &[u8], old: &[u8], begin: usize, text: &[u8]) -> u16
 }
 
 // Stores at `to` the `n` bytes from `from` on with `text` in the place of those from `begin` on. What is there then is told only where the two places share no byte.
-fn copy_changed(
-    image: &mut [u8],
-    from: usize,
-    to: usize,
-    n: usize,
-    begin: usize,
-    text: &[u8],
-)
+fn copy_changed(image: &mut [u8], from: usize, to: usize, n: usize, begin: usize, text: &[u8])
     requires { ⌜ (from + n ≤ length (now image)) × (to + n ≤ length (now image)) × (begin + length (now text) ≤ n) ⌝ }
     ensures { λ _. ⌜ (Apart from n to n → now (image .exit) ≡ put (now (image .entry)) to (put (part (now (image .entry)) from n) begin (now (text .entry)))) ⌝ }
 {
@@ -138,7 +131,11 @@ pub fn write_changed(
     let front = block_front(h);
     let stop = from + n;
     let mut field: [u8; CHECK_SIZE] = [0; CHECK_SIZE];
-    store16(&mut field, 0, changed_check(&front, &image[from..stop], begin, text) as u32);
+    store16(
+        &mut field,
+        0,
+        changed_check(&front, &image[from..stop], begin, text) as u32,
+    );
     put(image, at, &front);
     put(image, at + BlockHeader::CHECK_OFFSET, &field);
     copy_changed(image, from, at + BlockHeader::SIZE, n, begin, text);

@@ -15,13 +15,11 @@ use calls::LAST_SEQUENCE;
 use calls::NO_ROOM;
 use mount_state::Mounted;
 use path_find::sequence_of;
+use record_read::GREATEST_SEQUENCE;
 use record_read::InodeHeader;
 use record_write::write_inode;
 use write_room::Place;
 use write_room::place_one;
-
-// The greatest sequence, which no record can follow.
-const GREATEST_SEQUENCE: u32 = 0xffffffff;
 
 // Stores the inode `h` with its name in the first clean file area with room, and answers 0; where there is none, the number of refusal.
 pub fn store_inode(image: &mut [u8], tables: &[u32], m: Mounted, h: InodeHeader, name: &[u8]) -> u32
