@@ -1,5 +1,5 @@
 -- What stands in an image after a put: laws for callers, who never open its definition.
-use Prim.Native.Nat.{ℕ, _+_, _-_, _≤_, _<_}
+use Prim.Native.Nat.{ℕ, max, min, _+_, _-_, _≤_, _<_}
 use mathlib.Core.Path.{_≡_, refl, sym, ap, _∙_}
 use mathlib.Core.Bool.{Bool, true, false}
 use mathlib.Core.List.{[], _++_, append-assoc}
@@ -162,6 +162,46 @@ part-around x p b fits o n h g =
 -- ---- two puts
 
 -- bytes one after the other
+-- a part that shares bytes with what was put: those from the greater beginning up to the lesser end
+module _ (x : Bytes) (p : ℕ) (b : Bytes) (fits : p + length b ≤ length x) (o n : ℕ) (h : o + n ≤ length x)
+    (meet : max o p ≤ min (o + n) (p + length b)) where
+  abbrev begin : ℕ
+  begin = max o p
+
+  abbrev shared : Bytes
+  shared = part b (begin - p) (min (o + n) (p + length b) - begin)
+
+  shared-long : length shared ≡ min (o + n) (p + length b) - begin
+  shared-long = part-length b (begin - p) (min (o + n) (p + length b) - begin) (omega arith)
+
+  within-part : begin - o + length shared ≤ length (part x o n)
+  within-part = omega (arith, shared-long, part-length x o n h)
+
+  not-shared : (j : ℕ) → j < n → ((i : ℕ) → i < length b → o + j ≡ p + i → ⊥) → byteAt (put x p b) (o + j) ≡ byteAt (put (part x o n) (begin - o) shared) j
+  not-shared j g out =
+      byte-outside x p b fits (o + j) out
+      ∙ sym (byte-outside (part x o n) (begin - o) shared within-part j (λ i w e. out (o + j - p) (omega (arith, shared-long)) (omega (arith, shared-long)))
+      ∙ part-byte x o n j g)
+
+  same-byte : (j : ℕ) → j < n → Seen p (length b) (o + j) → byteAt (put x p b) (o + j) ≡ byteAt (put (part x o n) (begin - o) shared) j
+  same-byte j g (before s) = not-shared j g (λ i w e. omega arith)
+  same-byte j g (after k e) = not-shared j g (λ i w q. omega arith)
+  same-byte j g (within i w e) =
+      let l = o + j - begin in
+      let z : begin - o + l ≡ j = omega arith in
+      let y : begin - p + l ≡ i = omega arith in
+      let inside : l < length shared = omega (arith, shared-long) in
+      ap (byteAt (put x p b)) e ∙ byte-within x p b fits i w
+      ∙ sym (ap (byteAt (put (part x o n) (begin - o) shared)) (sym z) ∙ byte-within (part x o n) (begin - o) shared within-part l inside
+      ∙ part-byte b (begin - p) (min (o + n) (p + length b) - begin) l (omega (arith, shared-long)) ∙ ap (byteAt b) y)
+
+  pub part-shared : part (put x p b) o n ≡ put (part x o n) (begin - o) shared
+  part-shared =
+      let l : length (part (put x p b) o n) ≡ n = part-length (put x p b) o n (omega (arith, length-put x p b fits)) in
+      let r : length (put (part x o n) (begin - o) shared) ≡ n = length-put (part x o n) (begin - o) shared within-part ∙ part-length x o n h in
+      ext-getD 0 (part (put x p b) o n) (put (part x o n) (begin - o) shared) (l ∙ sym r)
+      (λ j g. part-byte (put x p b) o n j (omega (arith, l)) ∙ same-byte j (omega (arith, l)) (seen p (length b) (o + j)))
+
 pub put-put : (x : Bytes) (p : ℕ) (a b : Bytes) → p + length a + length b ≤ length x
     → put (put x p a) (p + length a) b ≡ put x p (a ++ b)
 unfolding put

@@ -3,16 +3,17 @@ use Prim.Native.Nat.{ℕ, suc, _+_, _≤_, _<_}
 use mathlib.Core.Path.{_≡_, refl, sym, ap, subst, _∙_}
 use mathlib.Core.Bool.{Bool, true, false}
 use mathlib.Core.Option.{Option, none, some}
-use mathlib.Core.List.{List, [], _∷_, _++_, append-nil, append-assoc}
+use mathlib.Core.List.{List, [], _∷_, _++_, map, append-nil, append-assoc}
 use native.Mathlib.Omega.{arith}
 use native.Mathlib.Numerals.{add-one}
-use lib.ListN.{length, take, set, length-set}
+use lib.ListN.{length, take, drop, getD, set, length-set}
 use lib.Seq.{take-suc-set}
 use Rattle.format.specs.Bytes.{Bytes}
 use Rattle.format.specs.Record.{block}
 use Rattle.volume.specs.Lists.{bind}
+use Rattle.volume_laws.specs.Map.{over}
 use Rattle.calls.specs.Areas.{fileAreas}
-use Rattle.calls.specs.Storing.{Space, Fit, spaces, firstFit}
+use Rattle.calls.specs.Storing.{Space, Fit, Store, spaces, firstFit, prepend, placeAll}
 use Rattle.calls.specs.declared.Descriptor.{Descriptor}
 use Rattle.mount_state.specs.State.{Safe, Holds}
 use Rattle.mount_state.specs.declared.Mounted.{Mounted}
@@ -60,6 +61,42 @@ places-planned m ss (n ∷ ns) w =
         → PlannedAt m (n ∷ ns) (bind o (λ g. placeThen (g .place) (placesFor (g .left) ns)))
     go none h ih = tt
     go (some g) h ih = let f = h g refl in then (g .place) (placesFor (g .left) ns) (f .0) (ih (g .left) (f .1))
+
+-- records at their places
+unfoldable pub pairStores : List ℕ → List Bytes → List Store
+pairStores [] bs = []
+pairStores (q ∷ qs) [] = []
+pairStores (q ∷ qs) (b ∷ bs) = record { place = q; bytes = b } ∷ pairStores qs bs
+
+-- places behind those that are needed do not matter
+pub pairs-needed : (qs : List ℕ) (bs : List Bytes) → pairStores (take (length bs) qs) bs ≡ pairStores qs bs
+unfolding pairStores
+pairs-needed [] [] = refl
+pairs-needed [] (b ∷ bs) = refl
+pairs-needed (q ∷ qs) [] = refl
+pairs-needed (q ∷ qs) (b ∷ bs) = ap (λ (l : List Store). record { place = q; bytes = b } ∷ l) (pairs-needed qs bs)
+
+-- blocks with so much data, placed, are these stores
+pub blocks-paired : (ss : List Space) (bs : List Bytes) (ns : List ℕ) → map length bs ≡ map (λ n. block .headerSize + n) ns
+    → placeAll ss bs ≡ over (λ qs. pairStores qs bs) (placesFor ss ns)
+unfolding placeAll placesFor pairStores
+blocks-paired ss [] [] e = refl
+blocks-paired ss [] (n ∷ ns) e = absurd (omega (arith, ap length e))
+blocks-paired ss (b ∷ bs) [] e = absurd (omega (arith, ap length e))
+blocks-paired ss (b ∷ bs) (n ∷ ns) e =
+    let z : length b ≡ block .headerSize + n = ap (λ l. getD l 0 0) e in
+    rw z (go (firstFit (block .headerSize + n) ss) (λ t. blocks-paired t bs ns (ap (drop 1) e)))
+  where
+    then : (q : ℕ) (o : Option (List ℕ))
+        → prepend (record { place = q; bytes = b }) (over (λ qs. pairStores qs bs) o) ≡ over (λ qs. pairStores qs (b ∷ bs)) (placeThen q o)
+    then q none = refl
+    then q (some qs) = refl
+
+    go : (o : Option Fit) → ((t : List Space) → placeAll t bs ≡ over (λ qs. pairStores qs bs) (placesFor t ns))
+        → bind o (λ g. prepend (record { place = g .place; bytes = b }) (placeAll (g .left) bs))
+        ≡ over (λ qs. pairStores qs (b ∷ bs)) (bind o (λ g. placeThen (g .place) (placesFor (g .left) ns)))
+    go none ih = refl
+    go (some g) ih = rw (ih (g .left)) (then (g .place) (placesFor (g .left) ns))
 
 -- what an answer says of places that were sought
 abbrev pub plannedOf : Bool → List ℕ → Option (List ℕ)

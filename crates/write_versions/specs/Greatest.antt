@@ -48,7 +48,7 @@ module _ (image : Bytes) (from to : ℕ) (after : Bytes) where
   abbrev pub greatestFrom : ℕ → List ℕ → Bool
   greatestFrom s bs = isAmong lastSequence (map (λ c. recordSequence (c .block)) (records s bs))
 
-  greatest-step : (s p n : ℕ) (bs : List ℕ) → n ≡ dataSize image p
+  pub greatest-step : (s p n : ℕ) (bs : List ℕ) → n ≡ dataSize image p
       → greatestFrom s (p ∷ bs) ≡ ((holdsByte from to s n && eqb lastSequence (recordSequence (bytesAt image p))) || greatestFrom (s + n) bs)
   unfolding changesFrom isAmong all
   greatest-step s p n bs e = rw (text-size image p, ← e) (go (holdsByte from to s n))

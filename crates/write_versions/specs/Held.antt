@@ -1,15 +1,21 @@
 -- Which blocks of a list hold a byte of a range, by their sizes alone.
-use Prim.Native.Nat.{ℕ, zero, suc, _+_, _*_, _≤_, _<_}
-use mathlib.Core.Path.{_≡_, refl, sym, ap, _∙_}
-use mathlib.Core.Bool.{Bool, true, false, cond}
-use mathlib.Core.List.{List, [], _∷_, map}
+use Prim.Native.Nat.{ℕ, suc, max, min, _+_, _*_, _≤_, _<_}
+use mathlib.Core.Path.{_≡_}
+use mathlib.Core.Bool.{true, cond}
+use mathlib.Core.List.{List, [], _∷_}
 use native.Mathlib.Omega.{arith}
 use lib.ListN.{length, drop, getD}
 use lib.Seq.{drop-cons}
+use borrow.Author.Tests.{ltb-true}
 use Rattle.format.specs.Record.{block}
 use Rattle.calls.specs.Areas.{largestImage}
 use Rattle.calls.specs.Mount.{mostBlocks}
 use Rattle.calls.specs.Overwrite.{holdsByte}
+
+-- what a block and the range share is not nothing
+pub held-meets : (from to s n : ℕ) → holdsByte from to s n ≡ true → max s from < min (s + n) to
+unfolding holdsByte
+held-meets from to s n = ltb-true (max s from) (min (s + n) to)
 
 -- all of these bytes
 unfoldable pub total : List ℕ → ℕ

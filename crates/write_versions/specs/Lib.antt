@@ -3,3 +3,4 @@ pub mod Held
 pub mod Greatest
 pub mod Plan
 pub mod Version
+pub mod Stores

@@ -1,9 +1,10 @@
 -- One new version stored: its fields are those of the block that it follows.
-use Prim.Native.Nat.{ℕ, suc, _+_}
+use Prim.Native.Nat.{ℕ, suc, max, min, _+_, _-_, _≤_}
 use mathlib.Core.Path.{_≡_, sym, ap, _∙_}
 use mathlib.Core.Logic.{_≢_}
 use mathlib.Core.Bool.{true}
 use native.Mathlib.Omega.{arith}
+use native.Mathlib.Nat.{le-max-right}
 use lib.ListN.{length, take, drop}
 use Rattle.format.specs.Bytes.{Bytes, le16, le32}
 use Rattle.format.specs.Record.{block, recordSequence}
@@ -43,3 +44,19 @@ module _ {x : Bytes} {p n at : ℕ} (v : Versioned x p n at) (begin : ℕ) (text
       let s : next ≡ suc sequence = more (λ e. v .follows (known ∙ e)) in
       stored (apart-sym (apart-part (apart-sym (v .apart)) (block .headerSize) n (omega arith)))
       ∙ rw (text-part, s, ie, oe, pe, ← known, ← w .id p, ← w .owner p, ← w .previous p)
+
+from-first : (f b d : ℕ) → f ≤ b → d - f - (b - f) ≡ d - b
+from-first f b d h = omega arith
+
+-- with a part of a text, from b up to d in the file, where the text begins at `from`
+pub version-part : (x y : Bytes) (p n at s from to : ℕ) (text : Bytes) (b d : ℕ) → b ≡ max s from → d ≡ min (s + n) to
+    → y ≡ put x at (newVersion (record {
+    block = bytesAt x p;
+    text = put (byPlace x .text p) (b - s) (part text (b - from) (d - from - (b - from)));
+    }))
+    → y ≡ put x at (newVersion (record {
+    block = bytesAt x p;
+    text = put (byPlace x .text p) (max s from - s) (part text (max s from - from) (min (s + n) to - max s from));
+    }))
+version-part x y p n at s from to text b d be de stored =
+    rw (from-first from (max s from) (min (s + n) to) (le-max-right s from)) at (rw (be, de) at stored)

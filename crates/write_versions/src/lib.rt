@@ -2,27 +2,28 @@
 // The places are all found before the first store, so that all are written or none.
 ghost use mathlib.Core.Path.{_≡_};
 ghost use mathlib.Core.Logic.{_≢_};
-ghost use mathlib.Core.Bool.{_&&_};
+ghost use mathlib.Core.Bool.{true, _&&_};
 ghost use mathlib.Core.List.{List, map};
-ghost use Prim.Native.Nat.{suc, max, min, _+_, _*_, _≤_};
+ghost use Prim.Native.Nat.{suc, max, min, _+_, _-_, _*_, _≤_};
 ghost use lib.ListN.{length, take};
 ghost use lib.Dec.{eqb};
 ghost use Rattle.format.specs.Bytes.{Bytes};
 ghost use Rattle.format.specs.Record.{block, recordSequence};
 ghost use Rattle.calls.specs.Areas.{fileAreas};
 ghost use Rattle.calls.specs.Mount.{mostBlocks};
-ghost use Rattle.calls.specs.Image.{put};
-ghost use Rattle.calls.specs.Storing.{spaces, isAmong};
+ghost use Rattle.calls.specs.Image.{put, part};
+ghost use Rattle.calls.specs.Storing.{spaces, storeAll, isAmong};
 ghost use Rattle.calls.specs.Rewrite.{lastSequence};
 ghost use Rattle.calls.specs.Overwrite.{holdsByte, changesFrom, newVersion};
 ghost use Rattle.calls.specs.declared.Descriptor.{Descriptor};
 ghost use Rattle.record_places.specs.Place.{bytesAt, byPlace, Lies};
 ghost use Rattle.mount_state.specs.State.{Safe, Holds};
 ghost use Rattle.write_room.specs.Spaces.{spacesOf};
-ghost use Rattle.write_room.specs.Plan.{placesFor, plannedOf, PlannedAt};
+ghost use Rattle.write_room.specs.Plan.{placesFor, plannedOf, PlannedAt, pairStores};
 ghost use Rattle.file_list.specs.Listing.{Listed};
 ghost use Rattle.write_versions.specs.Held.{sizesHeld, Sizes};
 ghost use Rattle.write_versions.specs.Version.{Versioned};
+ghost use Rattle.write_versions.specs.Stores.{versionsOf, Storable, Fresh};
 use byte_fields::load32;
 use calls::MOST_AREAS;
 use mount_state::Mounted;
@@ -175,4 +176,53 @@ fn store_version(image: &mut [u8], p: u32, n: u32, at: u32, begin: usize, text: 
         length: n,
     };
     write_changed(&mut *image, at as usize, header, old + BlockHeader::SIZE, begin, text);
+}
+
+// Stores at `at` the next version of the block at `p`, of `n` bytes from `s` on in its file, with what it holds of the range taken from the text.
+fn store_part(
+    image: &mut [u8],
+    p: u32,
+    n: u32,
+    at: u32,
+    s: usize,
+    range: Range,
+    text: &[u8],
+)
+    requires { ⌜ (p + (block .headerSize + n) ≤ length (now image)) × (at + (block .headerSize + n) ≤ length (now image)) × (s + n ≤ mostBlocks * 65535) ⌝ }
+    requires { ⌜ (range .to ≡ range .from + length (now text)) × (holdsByte (range .from) (range .to) s n ≡ true) ⌝ }
+    ensures { λ _. ⌜ (Versioned (now (image .entry)) p n at → now (image .exit) ≡ put (now (image .entry)) at (newVersion (record { block = bytesAt (now (image .entry)) p; text = put (byPlace (now (image .entry)) .text p) (max s (range .from) - s) (part (now (text .entry)) (max s (range .from) - range .from) (min (s + n) (range .to) - max s (range .from))) }))) ⌝ }
+{
+    let begin = begin_in(range, s);
+    let first = begin - range.from;
+    let last = end_in(range, s, n as usize) - range.from;
+    store_version(&mut *image, p, n, at, begin - s, &text[first..last]);
+}
+
+// Stores the new versions of the blocks that hold a byte of the range, in file order, each at its place.
+pub fn store_versions(
+    image: &mut [u8],
+    blocks: &[u32],
+    sizes: &[u32],
+    places: &[u32],
+    range: Range,
+    text: &[u8],
+)
+    requires { ⌜ Storable (now image) (now blocks) (now sizes) (now places) (range .from) (range .to) (now text) ⌝ }
+    ensures { λ _. ⌜ (Fresh (now (image .entry)) (now (blocks .entry)) (now (sizes .entry)) (now (places .entry)) (range .from) (range .to) → now (image .exit) ≡ storeAll (now (image .entry)) (pairStores (now (places .entry)) (versionsOf (now (image .entry)) (now (blocks .entry)) (range .from) (now (text .entry))))) ⌝ }
+{
+    let mut s = 0;
+    let mut k = 0;
+    let mut i = 0;
+    while i < blocks.len() {
+        let n = sizes[i] as usize;
+        if holds(range, s, n) {
+            store_part(&mut *image, blocks[i], sizes[i], places[k], s, range, text);
+            k += 1;
+            s += n;
+            i += 1;
+        } else {
+            s += n;
+            i += 1;
+        }
+    }
 }

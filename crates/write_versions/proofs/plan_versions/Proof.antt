@@ -32,8 +32,8 @@ take-places-requires c κs =
     let f = c .before .before .before .before .before in
     let s = lent f in
     let r = f .find-spaces .result in (
-      (omega (arith, f .find-spaces .ensures .1, length-take r (f .find-spaces .last .1 .1 .0), length-take r (f .find-spaces .last .1 .1 .1 .0)), s .pre .1),
-      s .pre .2,
+      (omega (arith, f .find-spaces .ensures .1, length-take r (f .find-spaces .last .1 .1 .0), length-take r (f .find-spaces .last .1 .1 .1 .0)), s .pre .1 .0),
+      s .pre .1 .1,
     )
 
 returns : tie.Need-returns
