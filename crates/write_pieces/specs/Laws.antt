@@ -25,8 +25,8 @@ use Rattle.image_laws.specs.Laws.{length-put}
 use Rattle.table_words.specs.Occupancy.{bits, capacity, firstZero}
 use Rattle.write_ids.specs.Window.{Marks}
 use Rattle.write_ids.specs.Laws.{unused-within}
-use Rattle.write_room.specs.Spaces.{spacesOf, fitOf}
-use Rattle.write_room.specs.Plan.{placesFor, Ends, Planned, Planning, planning-begins, planning-fails, planning-on, planning-ends}
+use Rattle.write_room.specs.Spaces.{spacesOf, fitOf, EndsWithin}
+use Rattle.write_room.specs.Plan.{placesFor, EachAt, Planned, Planning, planning-begins, planning-fails, planning-on, planning-ends}
 use Rattle.write_room.specs.declared.Place.{Place}
 use Rattle.write_room.specs.declared.Place.the-variants.{At, Nowhere}
 use Rattle.write_sizes.specs.Cut.{pieces, nextLength, next-some, pieces-next, pieces-end}
@@ -142,7 +142,7 @@ module _ {names₀ words₀ ids₀ words ids : List ℕ} {i : ℕ} (g : Taking n
 pub record Storing (n : ℕ) (text : Bytes) (is qs : List ℕ) (f last : ℕ) (x₀ x : Bytes) (previous start i : ℕ) : Type 0 where
   pub long : length x ≡ length x₀
   pub count : i + length (pieces n (drop start text)) ≡ length is
-  pub ends : Ends (length x₀) (map length (pieces n (drop start text))) (drop i qs)
+  pub ends : EachAt (EndsWithin (length x₀)) (map length (pieces n (drop start text))) (drop i qs)
   pub left : storeAll x (storesOf (drop i is) f previous (pieces n (drop start text)) (drop i qs)) ≡ storeAll x₀ (storesOf is f last (pieces n text) qs)
 
 -- as many ids and places as pieces, and the places in the image
@@ -170,8 +170,8 @@ module _ {n : ℕ} {text : Bytes} {is qs : List ℕ} {f last : ℕ} {x₀ x : By
     pub storing-room : (i < length is) × (i < length qs)
     storing-room = (omega (arith, g .count, ap length rest), omega (arith, g .count, ap length rest, ready .ids-count, ready .planned .count, length-map (pieces n text) (length {A = ℕ})))
 
-    both-end : (getD qs i 0 + (block .headerSize + length stored) ≤ length x₀) × Ends (length x₀) (map length (pieces n (drop (start + k) text))) (drop (i + 1) qs)
-    unfolding Ends
+    both-end : (getD qs i 0 + (block .headerSize + length stored) ≤ length x₀) × EachAt (EndsWithin (length x₀)) (map length (pieces n (drop (start + k) text))) (drop (i + 1) qs)
+    unfolding EachAt
     both-end = rw add-one (rw (rest, drop-cons qs i 0 (storing-room .1)) at (g .ends))
 
     pub storing-fits : getD qs i 0 + (block .headerSize + length stored) ≤ length x

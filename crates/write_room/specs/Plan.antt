@@ -17,7 +17,7 @@ use Rattle.calls.specs.Storing.{Space, Fit, Store, spaces, firstFit, prepend, p
 use Rattle.calls.specs.declared.Descriptor.{Descriptor}
 use Rattle.mount_state.specs.State.{Safe, Holds}
 use Rattle.mount_state.specs.declared.Mounted.{Mounted}
-use Rattle.write_room.specs.Spaces.{spacesOf, fitOf, Within, fit-within}
+use Rattle.write_room.specs.Spaces.{spacesOf, fitOf, Each, OfParts, EndsWithin, Within, FitIn, fit-each}
 use Rattle.write_room.specs.Rows.{rowSpaces, rows-within, rows-are}
 use Rattle.write_room.specs.declared.Place.{Place}
 use Rattle.write_room.specs.declared.Place.the-variants.{At, Nowhere}
@@ -31,15 +31,42 @@ unfoldable pub placesFor : List Space → List ℕ → Option (List ℕ)
 placesFor ss [] = some []
 placesFor ss (n ∷ ns) = bind (firstFit (block .headerSize + n) ss) (λ f. placeThen (f .place) (placesFor (f .left) ns))
 
--- every such block ends within m
-unfoldable pub Ends : ℕ → List ℕ → List ℕ → Type 0
-Ends m [] qs = Unit {0}
-Ends m (n ∷ ns) [] = Unit {0}
-Ends m (n ∷ ns) (q ∷ qs) = (q + (block .headerSize + n) ≤ m) × Ends m ns qs
+-- P holds of where every such block lies
+unfoldable pub EachAt : (Space → Type 0) → List ℕ → List ℕ → Type 0
+EachAt P [] qs = Unit {0}
+EachAt P (n ∷ ns) [] = Unit {0}
+EachAt P (n ∷ ns) (q ∷ qs) = P (record { from = q; end = q + (block .headerSize + n) }) × EachAt P ns qs
+
+-- what holds of every space holds of where the blocks go, and there is a place for each
+abbrev pub PlacesIn : (Space → Type 0) → List ℕ → List ℕ → Type 0
+PlacesIn P ns qs = EachAt P ns qs × (length qs ≡ length ns)
+
+pub places-each : (P : Space → Type 0) → OfParts P → (ss : List Space) (ns qs : List ℕ) → placesFor ss ns ≡ some qs → Each P ss → PlacesIn P ns qs
+unfolding placesFor EachAt
+places-each P c ss [] qs e w = (tt, ap length (sym (some-is e)))
+  where
+    some-is : {l : List ℕ} → some [] ≡ some l → [] ≡ l
+    some-is q = cc
+places-each P c ss (n ∷ ns) qs e w =
+    go (firstFit (block .headerSize + n) ss) (λ g q. fit-each P c (block .headerSize + n) ss g q w) (λ u rs q v. places-each P c u ns rs q v) e
+  where
+    then : (q : ℕ) (o : Option (List ℕ)) → P (record { from = q; end = q + (block .headerSize + n) })
+        → ((rs : List ℕ) → o ≡ some rs → PlacesIn P ns rs) → placeThen q o ≡ some qs → PlacesIn P (n ∷ ns) qs
+    then q none h ih z = let y : _≡_ {A = ℕ} 0 1 = cc in absurd (omega arith)
+    then q (some rs) h ih z =
+        let y : q ∷ rs ≡ qs = cc in
+        let i = ih rs refl in
+        subst (PlacesIn P (n ∷ ns)) y ((h, i .0), ap suc (i .1))
+
+    go : (o : Option Fit) → ((g : Fit) → o ≡ some g → FitIn P (block .headerSize + n) g)
+        → ((u : List Space) (rs : List ℕ) → placesFor u ns ≡ some rs → Each P u → PlacesIn P ns rs)
+        → bind o (λ g. placeThen (g .place) (placesFor (g .left) ns)) ≡ some qs → PlacesIn P (n ∷ ns) qs
+    go none h ih z = let y : _≡_ {A = ℕ} 0 1 = cc in absurd (omega arith)
+    go (some g) h ih z = let f = h g refl in then (g .place) (placesFor (g .left) ns) (f .0) (λ rs q. ih (g .left) rs q (f .1)) z
 
 -- as many places as blocks, and within what the spaces lie within
 pub record Planned (m : ℕ) (ns qs : List ℕ) : Type 0 where
-  pub ends : Ends m ns qs
+  pub ends : EachAt (EndsWithin m) ns qs
   pub count : length qs ≡ length ns
 
 abbrev pub PlannedAt : ℕ → List ℕ → Option (List ℕ) → Type 0
@@ -47,20 +74,11 @@ PlannedAt m ns none = Unit {0}
 PlannedAt m ns (some qs) = Planned m ns qs
 
 places-planned : (m : ℕ) (ss : List Space) (ns : List ℕ) → Within m ss → PlannedAt m ns (placesFor ss ns)
-unfolding placesFor Ends
-places-planned m ss [] w = record { ends = tt; count = refl }
-places-planned m ss (n ∷ ns) w =
-    go (firstFit (block .headerSize + n) ss) (λ g e. fit-within (block .headerSize + n) m ss g e w) (λ u v. places-planned m u ns v)
+places-planned m ss ns w = go (placesFor ss ns) (λ qs e. places-each (EndsWithin m) (λ s t h g k. omega arith) ss ns qs e w)
   where
-    then : (q : ℕ) (o : Option (List ℕ)) → q + (block .headerSize + n) ≤ m → PlannedAt m ns o → PlannedAt m (n ∷ ns) (placeThen q o)
-    then q none h i = tt
-    then q (some qs) h i = record { ends = (h, i .ends); count = ap suc (i .count) }
-
-    go : (o : Option Fit) → ((g : Fit) → o ≡ some g → (g .place + (block .headerSize + n) ≤ m) × Within m (g .left))
-        → ((u : List Space) → Within m u → PlannedAt m ns (placesFor u ns))
-        → PlannedAt m (n ∷ ns) (bind o (λ g. placeThen (g .place) (placesFor (g .left) ns)))
-    go none h ih = tt
-    go (some g) h ih = let f = h g refl in then (g .place) (placesFor (g .left) ns) (f .0) (ih (g .left) (f .1))
+    go : (o : Option (List ℕ)) → ((qs : List ℕ) → o ≡ some qs → PlacesIn (EndsWithin m) ns qs) → PlannedAt m ns o
+    go none h = tt
+    go (some qs) h = let k = h qs refl in record { ends = k .0; count = k .1 }
 
 -- records at their places
 unfoldable pub pairStores : List ℕ → List Bytes → List Store

@@ -45,30 +45,48 @@ abbrev pub EndsAt : ℕ → ℕ → Place → Type 0
 EndsAt n m (At p) = p + n ≤ m
 EndsAt n m Nowhere = Unit {0}
 
--- every space ends within m
-abbrev pub Within : ℕ → List Space → Type 0
-Within m [] = Unit {0}
-Within m (s ∷ ss) = (s .end ≤ m) × Within m ss
+-- P holds of every space
+abbrev pub Each : (Space → Type 0) → List Space → Type 0
+Each P [] = Unit {0}
+Each P (s ∷ ss) = P s × Each P ss
 
--- what fits lies within what the spaces lie within, and so do the spaces left
-pub fit-within : (n m : ℕ) (ss : List Space) (f : Fit) → firstFit n ss ≡ some f → Within m ss → (f .place + n ≤ m) × Within m (f .left)
+-- what holds of a space holds of every part of it
+abbrev pub OfParts : (Space → Type 0) → Type 0
+OfParts P = (s t : Space) → s .from ≤ t .from → t .end ≤ s .end → P s → P t
+
+-- every space ends within m
+abbrev pub EndsWithin : ℕ → Space → Type 0
+EndsWithin m s = s .end ≤ m
+
+abbrev pub Within : ℕ → List Space → Type 0
+Within m = Each (EndsWithin m)
+
+-- what holds of every space holds of where n bytes fit, and of the spaces left
+abbrev pub FitIn : (Space → Type 0) → ℕ → Fit → Type 0
+FitIn P n f = P (record { from = f .place; end = f .place + n }) × Each P (f .left)
+
+pub fit-each : (P : Space → Type 0) → OfParts P → (n : ℕ) (ss : List Space) (f : Fit) → firstFit n ss ≡ some f → Each P ss → FitIn P n f
 unfolding firstFit
-fit-within n m [] f e w = let z : _≡_ {A = ℕ} 0 1 = cc in absurd (omega arith)
-fit-within n m (s ∷ ss) f e w = go (leb (s .from + n) (s .end)) refl (λ g q. fit-within n m ss g q (w .1)) e
+fit-each P c n [] f e w = let z : _≡_ {A = ℕ} 0 1 = cc in absurd (omega arith)
+fit-each P c n (s ∷ ss) f e w = go (leb (s .from + n) (s .end)) refl (λ g q. fit-each P c n ss g q (w .1)) e
   where
-    go : (b : Bool) → leb (s .from + n) (s .end) ≡ b → ((g : Fit) → firstFit n ss ≡ some g → (g .place + n ≤ m) × Within m (g .left))
+    go : (b : Bool) → leb (s .from + n) (s .end) ≡ b → ((g : Fit) → firstFit n ss ≡ some g → FitIn P n g)
         → cond b (some (record { place = s .from; left = record { from = s .from + n; end = s .end } ∷ ss })) (keepSpace s (firstFit n ss)) ≡ some f
-        → (f .place + n ≤ m) × Within m (f .left)
+        → FitIn P n f
     go true t ih q =
         let r : _≡_ {A = Fit} (record { place = s .from; left = record { from = s .from + n; end = s .end } ∷ ss }) f = cc in
-        subst (λ (x : Fit). (x .place + n ≤ m) × Within m (x .left)) r (omega (arith, leb-true (s .from + n) (s .end) t, w .0), w)
+        let l = leb-true (s .from + n) (s .end) t in
+        subst (FitIn P n) r (
+          c s (record { from = s .from; end = s .from + n }) (omega arith) l (w .0),
+          (c s (record { from = s .from + n; end = s .end }) (omega arith) (omega arith) (w .0), w .1),
+        )
     go false t ih q =
         let k = kept-fit s (firstFit n ss) f q in
         let h = ih (k .0) (k .1) in
         (rw (k .2) (h .0), rw (k .3) (w .0, h .1))
 
 pub fit-place : (n m : ℕ) (ss : List Space) (r : Place) (left : List Space) → firstFit n ss ≡ fitOf r left → Within m ss → EndsAt n m r
-fit-place n m ss (At p) left e w = fit-within n m ss _ e w .0
+fit-place n m ss (At p) left e w = fit-each (EndsWithin m) (λ s t h g k. omega arith) n ss _ e w .0
 fit-place n m ss Nowhere left e w = tt
 
 -- one space more behind

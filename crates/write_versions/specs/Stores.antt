@@ -17,7 +17,7 @@ use Rattle.volume.specs.Contents.{textOf}
 use Rattle.volume_laws.specs.Map.{textOf-map}
 use Rattle.volume_laws.specs.Tests.{or-is-false}
 use Rattle.calls.specs.Image.{put, part}
-use Rattle.calls.specs.Storing.{Store, storeAll}
+use Rattle.calls.specs.Storing.{Space, storeAll}
 use Rattle.calls.specs.Rewrite.{lastSequence}
 use Rattle.calls.specs.Overwrite.{Change, holdsByte, changesFrom, changes, textAfter, newVersion}
 use Rattle.image_laws.specs.Apart.{Apart}
@@ -27,7 +27,8 @@ use Rattle.record_places.specs.Laws.{place-views, size-block}
 use Rattle.record_places.specs.Stays.{kind-stays, size-stays, bytes-stay}
 use Rattle.file_list.specs.Listing.{dataSize, Listed}
 use Rattle.file_blocks.specs.Walk.{data-long}
-use Rattle.write_room.specs.Plan.{Ends, pairStores}
+use Rattle.write_room.specs.Spaces.{EndsWithin}
+use Rattle.write_room.specs.Plan.{EachAt, pairStores}
 use Rattle.write_versions.specs.Held.{held-meets, total, sizesHeld, Sizes, Position, position-begins, position-next, position-within}
 use Rattle.write_versions.specs.Greatest.{listed-size, listed-long, text-size, greatestFrom, greatest-step}
 use Rattle.write_versions.specs.Version.{Versioned}
@@ -36,11 +37,9 @@ use Rattle.write_versions.specs.Version.{Versioned}
 abbrev pub versionsOf : Bytes → List ℕ → ℕ → Bytes → List Bytes
 versionsOf image bs from text = map newVersion (changes (map (bytesAt image) bs) from text)
 
--- the m bytes from p on are apart from the blocks with so much data at their places
-unfoldable pub ApartFrom : ℕ → ℕ → List ℕ → List ℕ → Type 0
-ApartFrom p m [] qs = Unit {0}
-ApartFrom p m (n ∷ ns) [] = Unit {0}
-ApartFrom p m (n ∷ ns) (q ∷ qs) = Apart p m q (block .headerSize + n) × ApartFrom p m ns qs
+-- none of the m bytes from p on is in the space
+abbrev pub ClearOf : ℕ → ℕ → Space → Type 0
+ClearOf p m s = (j : ℕ) → j < m → s .from ≤ p + j → p + j < s .end → ⊥
 
 -- nothing at any place
 pairs-none : (qs : List ℕ) → pairStores qs [] ≡ []
@@ -52,14 +51,14 @@ pairs-none (q ∷ qs) = refl
 pub record Storable (image : Bytes) (bs ns qs : List ℕ) (from to : ℕ) (text : Bytes) : Type 0 where
   pub listed : Listed image bs ns
   pub sizes : Sizes ns
-  pub ends : Ends (length image) (sizesHeld from to 0 ns) qs
+  pub ends : EachAt (EndsWithin (length image)) (sizesHeld from to 0 ns) qs
   pub count : length (sizesHeld from to 0 ns) ≤ length qs
   pub range : to ≡ from + length text
   pub within : to ≤ total ns
 
 -- what makes them the versions that are meant: the places are apart from the blocks, and each has a sequence that can be followed
 pub record Fresh (image : Bytes) (bs ns qs : List ℕ) (from to : ℕ) : Type 0 where
-  pub apart : (j : ℕ) → j < length bs → ApartFrom (getD bs j 0) (sizeAt image (getD bs j 0)) (sizesHeld from to 0 ns) qs
+  pub apart : (j : ℕ) → j < length bs → EachAt (ClearOf (getD bs j 0) (sizeAt image (getD bs j 0))) (sizesHeld from to 0 ns) qs
   pub follows : (after : Bytes) → greatestFrom image from to after 0 bs ≡ false
 
 -- ---- the loop
@@ -67,7 +66,7 @@ pub record Fresh (image : Bytes) (bs ns qs : List ℕ) (from to : ℕ) : Type 0 
 -- of what is meant: the blocks before i, which begins at s, are done, and those to come make the whole
 pub record Going (x₀ : Bytes) (bs ns qs : List ℕ) (from to : ℕ) (after x : Bytes) (s k i : ℕ) : Type 0 where
   pub stays : (j : ℕ) → j < length bs → part x (getD bs j 0) (sizeAt x₀ (getD bs j 0)) ≡ part x₀ (getD bs j 0) (sizeAt x₀ (getD bs j 0))
-  pub apart : (j : ℕ) → j < length bs → ApartFrom (getD bs j 0) (sizeAt x₀ (getD bs j 0)) (sizesHeld from to s (drop i ns)) (drop k qs)
+  pub apart : (j : ℕ) → j < length bs → EachAt (ClearOf (getD bs j 0) (sizeAt x₀ (getD bs j 0))) (sizesHeld from to s (drop i ns)) (drop k qs)
   pub follows : greatestFrom x₀ from to after s (drop i bs) ≡ false
   pub texts : drop s (textOf (byPlace x₀) bs) ≡ textOf (byPlace x₀) (drop i bs)
   pub left : storeAll x (pairStores (drop k qs) (map newVersion (changesFrom from to after s (map (bytesAt x₀) (drop i bs)))))
@@ -77,7 +76,7 @@ pub record Storing (x₀ : Bytes) (bs ns qs : List ℕ) (from to : ℕ) (text x 
   pub position : Position ns s i
   pub long : length x ≡ length x₀
   pub count : k + length (sizesHeld from to s (drop i ns)) ≤ length qs
-  pub ends : Ends (length x₀) (sizesHeld from to s (drop i ns)) (drop k qs)
+  pub ends : EachAt (EndsWithin (length x₀)) (sizesHeld from to s (drop i ns)) (drop k qs)
   pub going : Fresh x₀ bs ns qs from to → Going x₀ bs ns qs from to (textAfter (map (bytesAt x₀) bs) from text) x s k i
 
 module _ {x₀ : Bytes} {bs ns qs : List ℕ} {from to : ℕ} {text : Bytes} (ok : Storable x₀ bs ns qs from to text) where
@@ -204,8 +203,8 @@ module _ {x₀ : Bytes} {bs ns qs : List ℕ} {from to : ℕ} {text : Bytes} (ok
         more-places : drop k qs ≡ at ∷ drop (k + 1) qs
         more-places = let y : k + 1 ≡ suc k = omega arith in rw y (drop-cons qs k 0 storing-row)
 
-        both-end : (at + (block .headerSize + n) ≤ length x₀) × Ends (length x₀) (sizesHeld from to (s + n) (drop (i + 1) ns)) (drop (k + 1) qs)
-        unfolding Ends
+        both-end : (at + (block .headerSize + n) ≤ length x₀) × EachAt (EndsWithin (length x₀)) (sizesHeld from to (s + n) (drop (i + 1) ns)) (drop (k + 1) qs)
+        unfolding EachAt
         both-end = rw (z, more-places) at (g .ends)
 
         pub storing-fits : at + (block .headerSize + n) ≤ length x
@@ -213,9 +212,11 @@ module _ {x₀ : Bytes} {bs ns qs : List ℕ} {from to : ℕ} {text : Bytes} (ok
 
         all-apart : (f : Fresh x₀ bs ns qs from to) (j : ℕ) → j < length bs
             → Apart (getD bs j 0) (sizeAt x₀ (getD bs j 0)) at (block .headerSize + n)
-            × ApartFrom (getD bs j 0) (sizeAt x₀ (getD bs j 0)) (sizesHeld from to (s + n) (drop (i + 1) ns)) (drop (k + 1) qs)
-        unfolding ApartFrom
-        all-apart f j l = rw (z, more-places) at (g .going f .apart j l)
+            × EachAt (ClearOf (getD bs j 0) (sizeAt x₀ (getD bs j 0))) (sizesHeld from to (s + n) (drop (i + 1) ns)) (drop (k + 1) qs)
+        unfolding EachAt
+        all-apart f j l =
+            let c = rw (z, more-places) at (g .going f .apart j l) in
+            (record { no-common = λ a b u v q. c .0 a u (omega arith) (omega arith) }, c .1)
 
         -- the block is still what it was
         versioned : Fresh x₀ bs ns qs from to → Versioned x p n at
