@@ -1,0 +1,221 @@
+-- The blocks of a file after an overwrite, block by block: what they are, what they hold, and how many headers a read of them follows.
+use Prim.Native.Nat.{ℕ, suc, min, max, _+_, _-_, _≤_}
+use mathlib.Core.Path.{_≡_, refl, sym, ap, _∙_}
+use mathlib.Core.Logic.{⊎-elim}
+use mathlib.Core.Bool.{Bool, true, false, cond}
+use mathlib.Core.List.{List, [], _∷_, _++_, map, append-assoc, List·Memᴰ, List·Memᴰ·head, List·Memᴰ·tail, List·Memᴰ·cases-cons, List·Memᴰ·not-nil}
+use mathlib.Core.List.{Memᴰ·map, Memᴰ·cast}
+use native.Mathlib.Omega.{arith}
+use lib.ListN.{length, take, drop, length-append}
+use lib.Seq.{take-add, drop-drop, drop-at, take-append-seam, take-all}
+use borrow.Author.Tests.{ltb-false}
+use Rattle.format.specs.Bytes.{Bytes}
+use Rattle.format.specs.Record.{recordId, recordSequence, recordLink, blockPrevious}
+use Rattle.format_laws.specs.Crc.{Octets}
+use Rattle.format_laws.specs.Octets.{octets-take, octets-drop}
+use Rattle.volume.specs.View.{byBytes}
+use Rattle.volume.specs.Contents.{textOf, headersFrom}
+use Rattle.volume_laws.specs.Once.{Nodup}
+use Rattle.calls.specs.Image.{put, part}
+use Rattle.calls.specs.Overwrite.{holdsByte, Change, changesFrom, newVersion}
+use Rattle.image_laws.specs.Apart.{Apart}
+use Rattle.image_laws.specs.Laws.{part-length, length-put, part-outside}
+use Rattle.demand2.specs.NewRecord.{IsBlock}
+use Rattle.demand2_overwrite.specs.Versions.{changedId, Meant}
+
+-- how many bytes of data a block holds
+abbrev pub held : Bytes → ℕ
+held b = length (byBytes .text b)
+
+-- the change of the block b, whose data begin at s in the file
+abbrev pub changeAt : Bytes → ℕ → Bytes → Change
+changeAt after s b = record { block = b; text = part after s (held b) }
+
+-- c is the new version of b: "rewritten with the same id, owner, previous and length, sequence plus one, and its changed data"
+pub record Rewritten (after : Bytes) (s : ℕ) (b c : Bytes) : Type 0 where
+  pub bytes-are : c ≡ newVersion (changeAt after s b)
+  pub is : IsBlock c (recordId b) (suc (recordSequence b)) (recordLink b) (blockPrevious b) (part after s (held b))
+  pub same-length : held c ≡ held b
+
+-- The blocks of a file before and after, of which the first begins at s in it: "each block that holds a byte of the written range is rewritten",
+-- and a block that holds none is the very same record
+pub data BlocksAfter (from to : ℕ) (after : Bytes) : ℕ → List Bytes → List Bytes → Type 0 where
+  no-more : {s : ℕ} → BlocksAfter from to after s [] []
+  as-before : {s : ℕ} {b : Bytes} {bs cs : List Bytes} → holdsByte from to s (held b) ≡ false → BlocksAfter from to after (s + held b) bs cs
+      → BlocksAfter from to after s (b ∷ bs) (b ∷ cs)
+  rewritten : {s : ℕ} {b c : Bytes} {bs cs : List Bytes} → holdsByte from to s (held b) ≡ true → Rewritten after s b c
+      → BlocksAfter from to after (s + held b) bs cs → BlocksAfter from to after s (b ∷ bs) (c ∷ cs)
+
+-- ---- the changes
+
+-- a change: its block is one of the file's, and its data are as long and are bytes
+pub record ChangeOf (bs : List Bytes) (c : Change) : Type 0 where
+  pub block-there : List·Memᴰ (c .block) bs
+  pub same-length : length (c .text) ≡ held (c .block)
+  pub octets : Octets (c .text)
+
+module _ (from to : ℕ) (after : Bytes) (octets-after : Octets after) where
+  pub each-change : (s : ℕ) (bs : List Bytes) → s + length (textOf byBytes bs) ≤ length after
+      → (c : Change) → List·Memᴰ c (changesFrom from to after s bs) → ChangeOf bs c
+  unfolding changesFrom textOf
+  each-change s [] h c m = absurd (List·Memᴰ·not-nil m)
+  each-change s (b ∷ bs) h c m =
+      go (holdsByte from to s (held b)) m (each-change (s + held b) bs (omega (arith, length-append (byBytes .text b) (textOf byBytes bs))) c)
+    where
+      here : c ≡ changeAt after s b → ChangeOf (b ∷ bs) c
+      here e = rw e (record {
+        block-there = List·Memᴰ·head refl;
+        same-length = part-length after s (held b) (omega (arith, length-append (byBytes .text b) (textOf byBytes bs)));
+        octets = octets-take (held b) (drop s after) (octets-drop s after octets-after);
+      })
+
+      there : ChangeOf bs c → ChangeOf (b ∷ bs) c
+      there k = record { block-there = List·Memᴰ·tail (k .block-there); same-length = k .same-length; octets = k .octets }
+
+      go : (x : Bool) → List·Memᴰ c (cond x (changeAt after s b ∷ changesFrom from to after (s + held b) bs) (changesFrom from to after (s + held b) bs))
+          → (List·Memᴰ c (changesFrom from to after (s + held b) bs) → ChangeOf bs c) → ChangeOf (b ∷ bs) c
+      go true m ih = ⊎-elim here (λ n. there (ih n)) (List·Memᴰ·cases-cons m)
+      go false m ih = there (ih m)
+
+module _ (from to : ℕ) (after : Bytes) where
+  -- the ids of the changes are ids of the blocks
+  changed-ids : (s : ℕ) (bs : List Bytes) (i : ℕ) → List·Memᴰ i (map changedId (changesFrom from to after s bs)) → List·Memᴰ i (map recordId bs)
+  unfolding changesFrom
+  changed-ids s [] i m = m
+  changed-ids s (b ∷ bs) i m = go (holdsByte from to s (held b)) m (changed-ids (s + held b) bs i)
+    where
+      go : (x : Bool)
+          → List·Memᴰ i (map changedId (cond x (changeAt after s b ∷ changesFrom from to after (s + held b) bs) (changesFrom from to after (s + held b) bs)))
+          → (List·Memᴰ i (map changedId (changesFrom from to after (s + held b) bs)) → List·Memᴰ i (map recordId bs))
+          → List·Memᴰ i (recordId b ∷ map recordId bs)
+      go true m ih = ⊎-elim List·Memᴰ·head (λ n. List·Memᴰ·tail (ih n)) (List·Memᴰ·cases-cons m)
+      go false m ih = List·Memᴰ·tail (ih m)
+
+  -- and each is changed once
+  pub changes-once : (s : ℕ) (bs : List Bytes) → Nodup (map recordId bs) → Nodup (map changedId (changesFrom from to after s bs))
+  unfolding changesFrom
+  changes-once s [] h = tt
+  changes-once s (b ∷ bs) h = go (holdsByte from to s (held b)) (changes-once (s + held b) bs (h .1)) (changed-ids (s + held b) bs (recordId b))
+    where
+      go : (x : Bool) → Nodup (map changedId (changesFrom from to after (s + held b) bs))
+          → (List·Memᴰ (recordId b) (map changedId (changesFrom from to after (s + held b) bs)) → List·Memᴰ (recordId b) (map recordId bs))
+          → Nodup (map changedId (cond x (changeAt after s b ∷ changesFrom from to after (s + held b) bs) (changesFrom from to after (s + held b) bs)))
+      go true ih up = ((λ m. h .0 (up m)), ih)
+      go false ih up = ih
+
+  -- Of each block φ gives the record that stands for it afterwards: the new version where it is changed, and itself where no change bears its id.
+  pub blocks-after : (φ : Bytes → Bytes) (s : ℕ) (bs : List Bytes) → Nodup (map recordId bs)
+      → ((c : Change) → List·Memᴰ c (changesFrom from to after s bs) → φ (c .block) ≡ newVersion c)
+      → ((b : Bytes) → List·Memᴰ b bs → ¬ List·Memᴰ (recordId b) (map changedId (changesFrom from to after s bs)) → φ b ≡ b)
+      → ((c : Change) → List·Memᴰ c (changesFrom from to after s bs) → Meant c × (length (c .text) ≡ held (c .block)))
+      → BlocksAfter from to after s bs (map φ bs)
+  unfolding changesFrom
+  blocks-after φ s [] once here others is = no-more
+  blocks-after φ s (b ∷ bs) once here others is =
+      go (holdsByte from to s (held b)) refl here others is (blocks-after φ (s + held b) bs (once .1))
+      (λ m. once .0 (changed-ids (s + held b) bs (recordId b) m))
+    where
+      later : List Change
+      later = changesFrom from to after (s + held b) bs
+
+      go : (x : Bool) → holdsByte from to s (held b) ≡ x
+          → ((c : Change) → List·Memᴰ c (cond x (changeAt after s b ∷ later) later) → φ (c .block) ≡ newVersion c)
+          → ((a : Bytes) → List·Memᴰ a (b ∷ bs) → ¬ List·Memᴰ (recordId a) (map changedId (cond x (changeAt after s b ∷ later) later)) → φ a ≡ a)
+          → ((c : Change) → List·Memᴰ c (cond x (changeAt after s b ∷ later) later) → Meant c × (length (c .text) ≡ held (c .block)))
+          → (((c : Change) → List·Memᴰ c later → φ (c .block) ≡ newVersion c)
+          → ((a : Bytes) → List·Memᴰ a bs → ¬ List·Memᴰ (recordId a) (map changedId later) → φ a ≡ a)
+          → ((c : Change) → List·Memᴰ c later → Meant c × (length (c .text) ≡ held (c .block)))
+          → BlocksAfter from to after (s + held b) bs (map φ bs))
+          → ¬ List·Memᴰ (recordId b) (map changedId later) → BlocksAfter from to after s (b ∷ bs) (φ b ∷ map φ bs)
+      go true e here others is ih apart =
+          let q = here (changeAt after s b) (List·Memᴰ·head refl) in
+          let k = is (changeAt after s b) (List·Memᴰ·head refl) in
+          rewritten {c = φ b} e (record { bytes-are = q; is = rw q (k .0); same-length = ap held q ∙ ap length (k .0 .text-is) ∙ k .1 })
+          (ih (λ c m. here c (List·Memᴰ·tail m))
+          (λ a m n. others a (List·Memᴰ·tail m)
+          (λ z. ⊎-elim (λ y. once .0 (Memᴰ·cast (sym y) (Memᴰ·map recordId m))) n (List·Memᴰ·cases-cons z)))
+          (λ c m. is c (List·Memᴰ·tail m)))
+      go false e here others is ih apart =
+          rw (others b (List·Memᴰ·head refl) apart) (as-before e (ih here (λ a m n. others a (List·Memᴰ·tail m) n) is))
+
+-- ---- what they are
+
+module _ {from to : ℕ} {after : Bytes} where
+  pub after-ids : {s : ℕ} {bs cs : List Bytes} → BlocksAfter from to after s bs cs → map recordId cs ≡ map recordId bs
+  after-ids no-more = refl
+  after-ids (as-before e t) = rw (after-ids t)
+  after-ids (rewritten e k t) = rw (k .is .id-is, after-ids t)
+
+  pub after-lengths : {s : ℕ} {bs cs : List Bytes} → BlocksAfter from to after s bs cs → map held cs ≡ map held bs
+  after-lengths no-more = refl
+  after-lengths (as-before e t) = rw (after-lengths t)
+  after-lengths (rewritten e k t) = rw (k .same-length, after-lengths t)
+
+  after-number : {s : ℕ} {bs cs : List Bytes} → BlocksAfter from to after s bs cs → length cs ≡ length bs
+  after-number no-more = refl
+  after-number (as-before e t) = ap suc (after-number t)
+  after-number (rewritten e k t) = ap suc (after-number t)
+
+  -- as many headers are followed to the block of any byte
+  pub after-headers : {s : ℕ} {bs cs : List Bytes} → BlocksAfter from to after s bs cs → (p : ℕ) → headersFrom byBytes p cs ≡ headersFrom byBytes p bs
+  unfolding headersFrom
+  after-headers no-more p = refl
+  after-headers (as-before {b = b} e t) p = rw (after-number t, after-headers t (p - held b))
+  after-headers (rewritten {b = b} e k t) p = rw (k .same-length, after-number t, after-headers t (p - held b))
+
+-- ---- what they hold
+
+-- where no byte is held, none is shared
+apart : (from n s k : ℕ) → holdsByte from (from + n) s k ≡ false → Apart s k from n
+unfolding holdsByte
+apart from n s k e = record { no-common = λ i j f g q. omega (arith, ltb-false (max s from) (min (s + k) (from + n)) e) }
+
+-- two parts that stand one behind the other
+part-add : (x : Bytes) (s n m : ℕ) → part x s n ++ part x (s + n) m ≡ part x s (n + m)
+part-add x s n m = sym (take-add n m (drop s x) ∙ rw (drop-drop n s x))
+
+module _ (before : Bytes) (offset : ℕ) (text : Bytes) (fits : offset + length text ≤ length before) where
+  -- what the file will hold
+  abbrev after : Bytes
+  after = put before offset text
+
+  -- the first of the blocks, and those behind it
+  joined : (s : ℕ) (b : Bytes) (bs : List Bytes) (t u : Bytes) → t ≡ part after s (held b)
+      → u ≡ part after (s + held b) (length (textOf byBytes bs)) → t ++ u ≡ part after s (length (textOf byBytes (b ∷ bs)))
+  unfolding textOf
+  joined s b bs t u p q = rw (p, q)
+      (part-add after s (held b) (length (textOf byBytes bs)) ∙ ap (part after s) (sym (length-append (byBytes .text b) (textOf byBytes bs))))
+
+  module _ (front b : Bytes) (bs : List Bytes) (e : before ≡ front ++ textOf byBytes (b ∷ bs)) where
+    behind : before ≡ (front ++ byBytes .text b) ++ textOf byBytes bs
+    unfolding textOf
+    behind = e ∙ sym (append-assoc front (byBytes .text b) (textOf byBytes bs))
+
+    -- a block that holds no byte of the range holds its part of what the file will hold
+    own : (s : ℕ) → length front ≡ s → holdsByte offset (offset + length text) s (held b) ≡ false → byBytes .text b ≡ part after s (held b)
+    unfolding textOf
+    own s l h =
+        sym (take-append-seam (byBytes .text b) (textOf byBytes bs))
+        ∙ ap (take (held b)) (sym (drop-at front (byBytes .text b ++ textOf byBytes bs) s l) ∙ ap (drop s) (sym e))
+        ∙ sym (part-outside before offset text fits s (held b) (apart offset (length text) s (held b) h))
+
+  -- the blocks behind the first bytes of the file hold what comes behind them
+  text-from : {s : ℕ} {bs cs : List Bytes} → BlocksAfter offset (offset + length text) after s bs cs → (front : Bytes) → length front ≡ s
+      → before ≡ front ++ textOf byBytes bs → textOf byBytes cs ≡ part after s (length (textOf byBytes bs))
+  unfolding textOf
+  text-from no-more front l e = refl
+  text-from {s} (as-before {b = b} {bs = bs} {cs = cs} h t) front l e =
+      joined s b bs (byBytes .text b) (textOf byBytes cs) (own front b bs e s l h)
+      (text-from t (front ++ byBytes .text b) (omega (arith, length-append front (byBytes .text b))) (behind front b bs e))
+  text-from {s} (rewritten {b = b} {c = c} {bs = bs} {cs = cs} h k t) front l e =
+      joined s b bs (byBytes .text c) (textOf byBytes cs) (k .is .text-is)
+      (text-from t (front ++ byBytes .text b) (omega (arith, length-append front (byBytes .text b))) (behind front b bs e))
+
+-- "The range then reads as the new data, every other byte as before"
+pub after-text : (old new : List Bytes) (offset : ℕ) (text : Bytes) → offset + length text ≤ length (textOf byBytes old)
+    → BlocksAfter offset (offset + length text) (put (textOf byBytes old) offset text) 0 old new
+    → textOf byBytes new ≡ put (textOf byBytes old) offset text
+after-text old new offset text fits t =
+    text-from (textOf byBytes old) offset text fits t [] refl refl
+    ∙ take-all (length (textOf byBytes old)) (put (textOf byBytes old) offset text)
+    (omega (arith, length-put (textOf byBytes old) offset text fits))

@@ -1,0 +1,150 @@
+-- New versions of blocks, stored one after the other: each counts for its id, and every other block that did.
+use Prim.Native.Nat.{ℕ, suc, _<_}
+use mathlib.Core.Path.{_≡_, refl, sym, _∙_}
+use mathlib.Core.Logic.{⊎-elim}
+use mathlib.Core.Option.{some}
+use mathlib.Core.List.{List, [], _∷_, map, List·Memᴰ, List·Memᴰ·head, List·Memᴰ·tail, List·Memᴰ·cases-cons, List·Memᴰ·not-nil, Memᴰ·map}
+use mathlib.Core.List.{List·Memᴰ·eq-of-singleton, Memᴰ·cast}
+use native.Mathlib.Omega.{arith}
+use Rattle.format.specs.Bytes.{Bytes}
+use Rattle.format.specs.Record.{recordId, recordSequence, recordLink, blockPrevious}
+use Rattle.volume.specs.View.{byBytes}
+use Rattle.volume.specs.Counting.{Volume, blockOf, blockIds}
+use Rattle.volume_laws.specs.Once.{Nodup, Alike, alike-length}
+use Rattle.volume_laws.specs.Counting.{counting-mem, counting-top, ids-of}
+use Rattle.calls.specs.Image.{put}
+use Rattle.calls.specs.Mount.{acceptedRecords, volume}
+use Rattle.calls.specs.Overwrite.{Change, newVersion}
+use Rattle.calls.specs.declared.Descriptor.{Descriptor}
+use Rattle.calls_laws.specs.Checks.{Passes}
+use Rattle.calls_laws.specs.Records.{volume-sound}
+use Rattle.demand2.specs.Store.{freePlace, RecordFits, OneStored, one-stored}
+use Rattle.demand2.specs.Places.{Written}
+use Rattle.demand2.specs.Added.{Same, Added, Changed, added-changed, known-ids, same-count}
+use Rattle.demand2.specs.Mounted.{agreed-inodes, agreed-blocks, accepted-kind, few-ids, ids-few, blocks-added, inodes-same, still-passes}
+use Rattle.demand2.specs.NewRecord.{IsBlock}
+use Rattle.demand2.specs.Pieces.{written-first, written-none}
+
+-- the id of the block that is changed
+abbrev pub changedId : Change → ℕ
+changedId c = recordId (c .block)
+
+-- its new version reads as what was meant: "the same id, owner, previous .., sequence plus one, and its changed data"
+abbrev pub Meant : Change → Type 0
+Meant c = IsBlock (newVersion c) (changedId c) (suc (recordSequence (c .block))) (recordLink (c .block)) (blockPrevious (c .block)) (c .text)
+
+-- What is asked of a change: its block counts, and its new version is as meant.
+pub record Renews (v : Volume Bytes) (c : Change) : Type 0 where
+  pub counts : blockOf byBytes v (changedId c) ≡ some (c .block)
+  pub is : Meant c
+
+-- What the new versions leave: image′ is the image afterwards.
+pub record AllRenewed (image image′ : Bytes) (ds : List Descriptor) (cs : List Change) : Type 0 where
+  pub passes : Passes image′ ds
+  pub same-inodes : Same (volume image ds .inodes) (volume image′ ds .inodes)
+  -- no id is new
+  pub same-ids : Alike (blockIds byBytes (volume image′ ds)) (blockIds byBytes (volume image ds))
+  -- the new versions count, and of every other block the record that did
+  pub here : (c : Change) → List·Memᴰ c cs → blockOf byBytes (volume image′ ds) (changedId c) ≡ some (newVersion c)
+  pub others : (j : ℕ) → ¬ List·Memᴰ j (map changedId cs) → blockOf byBytes (volume image′ ds) j ≡ blockOf byBytes (volume image ds) j
+
+-- one of them
+module _ (image : Bytes) (ds : List Descriptor) (p : Passes image ds) (c : Change) (g : Renews (volume image ds) c) (area : Descriptor)
+    (fits : RecordFits image ds area (newVersion c)) where
+  -- the new version
+  abbrev b : Bytes
+  b = newVersion c
+
+  -- the image afterwards
+  abbrev image′ : Bytes
+  image′ = put image (freePlace image area) b
+
+  -- the volumes before and afterwards
+  abbrev v : Volume Bytes
+  v = volume image ds
+
+  abbrev w : Volume Bytes
+  w = volume image′ ds
+
+  stored : OneStored image image′ ds area b
+  stored = one-stored image ds (p .described) area b fits (g .is .whole)
+
+  -- the block is one of the volume's
+  was-there : List·Memᴰ (c .block) (v .blocks)
+  was-there = counting-mem byBytes (v .blocks) (changedId c) (c .block) (g .counts) .0
+
+  -- its new version is newer than every record of its id
+  newer : (r : Bytes) → List·Memᴰ r (acceptedRecords image ds) → recordId r ≡ recordId b → recordSequence r < recordSequence b
+  newer r m e = ⊎-elim
+      (λ k. absurd (omega (arith, volume-sound image ds .inode-id r k, volume-sound image ds .block-id (c .block) was-there .0, e, g .is .id-is)))
+      (λ k. omega (arith, counting-top byBytes (v .blocks) (changedId c) (c .block) (g .counts) r k (e ∙ g .is .id-is), g .is .sequence-is))
+      (accepted-kind image ds r m)
+
+  -- one block record more
+  added : Added byBytes (v .blocks) (w .blocks) b
+  added = blocks-added stored (fits .file) newer (g .is .is-block)
+
+  same-inodes : Same (v .inodes) (w .inodes)
+  same-inodes = inodes-same stored (fits .file) newer (g .is .is-block)
+
+  -- and no id more
+  same-ids : Alike (blockIds byBytes w) (blockIds byBytes v)
+  same-ids = known-ids byBytes (v .blocks) (w .blocks) b added (agreed-blocks image ds p)
+      (Memᴰ·cast (g .is .id-is) (ids-of byBytes (v .blocks) .each (changedId c) (c .block) (g .counts)))
+
+  -- so that the image still mounts
+  still : Passes image′ ds
+  still = still-passes stored (fits .file) newer p (few-ids w
+      (omega (arith, same-count byBytes (v .inodes) (w .inodes) same-inodes (agreed-inodes image ds p), ids-few v (p .few) .0))
+      (omega (arith, alike-length (blockIds byBytes w) (blockIds byBytes v) same-ids, ids-few v (p .few) .1)))
+
+  changed : Changed byBytes (blockOf byBytes v) (blockOf byBytes w) b
+  changed = added-changed byBytes (v .blocks) (w .blocks) b added (agreed-blocks image ds p)
+
+  one-renewed : AllRenewed image image′ ds (c ∷ [])
+  one-renewed = record {
+    passes = still;
+    same-inodes = same-inodes;
+    same-ids = same-ids;
+    here = λ d m. let e = List·Memᴰ·eq-of-singleton m in rw (e, ← g .is .id-is) (changed .here);
+    others = λ j n. changed .others j (λ e. n (List·Memᴰ·head (e ∙ g .is .id-is)));
+  }
+
+-- one, and then others of other ids
+renewed-on : {image image′ image″ : Bytes} {ds : List Descriptor} {c : Change} {cs : List Change} → ¬ List·Memᴰ (changedId c) (map changedId cs)
+    → AllRenewed image image′ ds (c ∷ []) → AllRenewed image′ image″ ds cs → AllRenewed image image″ ds (c ∷ cs)
+renewed-on {c = c} apart g h = record {
+  passes = h .passes;
+  same-inodes = record { to = λ r m. h .same-inodes .to r (g .same-inodes .to r m); back = λ r m. g .same-inodes .back r (h .same-inodes .back r m) };
+  same-ids = record {
+    nodup-l = h .same-ids .nodup-l;
+    nodup-m = g .same-ids .nodup-m;
+    to = λ x m. g .same-ids .to x (h .same-ids .to x m);
+    back = λ x m. h .same-ids .back x (g .same-ids .back x m);
+  };
+  here = λ d m. ⊎-elim (λ e. rw e (h .others (changedId c) apart ∙ g .here c (List·Memᴰ·head refl))) (h .here d) (List·Memᴰ·cases-cons m);
+  others = λ j n. h .others j (λ m. n (List·Memᴰ·tail m)) ∙ g .others j (λ m. n (List·Memᴰ·head (List·Memᴰ·eq-of-singleton m)));
+}
+
+-- all of them, of blocks of different ids
+pub all-renewed : (ds : List Descriptor) (cs : List Change) (image image′ : Bytes) → Passes image ds → Nodup (map changedId cs)
+    → ((c : Change) → List·Memᴰ c cs → Renews (volume image ds) c) → Written ds image (map newVersion cs) image′ → AllRenewed image image′ ds cs
+all-renewed ds [] image image′ p apart g w = rw (written-none w) (record {
+  passes = p;
+  same-inodes = record { to = λ r k. k; back = λ r k. k };
+  same-ids = record {
+    nodup-l = ids-of byBytes (volume image ds .blocks) .nodup;
+    nodup-m = ids-of byBytes (volume image ds .blocks) .nodup;
+    to = λ x m. m;
+    back = λ x m. m;
+  };
+  here = λ c m. absurd (List·Memᴰ·not-nil m);
+  others = λ j n. refl;
+})
+all-renewed ds (c ∷ cs) image image′ p apart g w =
+    let o = written-first w in
+    let one = one-renewed image ds p c (g c (List·Memᴰ·head refl)) (o .area) (o .fits) in
+    renewed-on (apart .0) one (all-renewed ds cs (put image (freePlace image (o .area)) (newVersion c)) image′ (one .passes) (apart .1)
+    (λ d m. let k = g d (List·Memᴰ·tail m) in
+    record { counts = one .others (changedId d) (λ n. apart .0 (Memᴰ·cast (sym (List·Memᴰ·eq-of-singleton n)) (Memᴰ·map changedId m))) ∙ k .counts; is = k .is })
+    (o .rest))
