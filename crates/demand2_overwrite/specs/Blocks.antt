@@ -1,5 +1,5 @@
 -- The blocks of a file after an overwrite, block by block: what they are, what they hold, and how many headers a read of them follows.
-use Prim.Native.Nat.{ℕ, suc, min, max, _+_, _-_, _≤_}
+use Prim.Native.Nat.{ℕ, suc, min, max, _+_, _-_, _≤_, _<_}
 use mathlib.Core.Path.{_≡_, refl, sym, ap, _∙_}
 use mathlib.Core.Logic.{⊎-elim}
 use mathlib.Core.Bool.{Bool, true, false, cond}
@@ -8,7 +8,7 @@ use mathlib.Core.List.{Memᴰ·map, Memᴰ·cast}
 use native.Mathlib.Omega.{arith}
 use lib.ListN.{length, take, drop, length-append}
 use lib.Seq.{take-add, drop-drop, drop-at, take-append-seam, take-all}
-use borrow.Author.Tests.{ltb-false}
+use borrow.Author.Tests.{ltb-true, ltb-false}
 use Rattle.format.specs.Bytes.{Bytes}
 use Rattle.format.specs.Record.{recordId, recordSequence, recordLink, blockPrevious}
 use Rattle.format_laws.specs.Crc.{Octets}
@@ -37,16 +37,31 @@ pub record Rewritten (after : Bytes) (s : ℕ) (b c : Bytes) : Type 0 where
   pub is : IsBlock c (recordId b) (suc (recordSequence b)) (recordLink b) (blockPrevious b) (part after s (held b))
   pub same-length : held c ≡ held b
 
+-- a block of n bytes that begins at s in its file "holds a byte of the written range", which goes from `from` up to `to`: a byte of both
+abbrev pub HoldsByte : ℕ → ℕ → ℕ → ℕ → Type 0
+HoldsByte from to s n = (i : ℕ) × (i < n) × (from ≤ s + i) × (s + i < to)
+
 -- The blocks of a file before and after, of which the first begins at s in it: "each block that holds a byte of the written range is rewritten",
 -- and a block that holds none is the very same record
 pub data BlocksAfter (from to : ℕ) (after : Bytes) : ℕ → List Bytes → List Bytes → Type 0 where
   no-more : {s : ℕ} → BlocksAfter from to after s [] []
-  as-before : {s : ℕ} {b : Bytes} {bs cs : List Bytes} → holdsByte from to s (held b) ≡ false → BlocksAfter from to after (s + held b) bs cs
+  as-before : {s : ℕ} {b : Bytes} {bs cs : List Bytes} → ¬ HoldsByte from to s (held b) → BlocksAfter from to after (s + held b) bs cs
       → BlocksAfter from to after s (b ∷ bs) (b ∷ cs)
-  rewritten : {s : ℕ} {b c : Bytes} {bs cs : List Bytes} → holdsByte from to s (held b) ≡ true → Rewritten after s b c
+  rewritten : {s : ℕ} {b c : Bytes} {bs cs : List Bytes} → HoldsByte from to s (held b) → Rewritten after s b c
       → BlocksAfter from to after (s + held b) bs cs → BlocksAfter from to after s (b ∷ bs) (c ∷ cs)
 
 -- ---- the changes
+
+-- the test of a change finds such a byte, the first of both
+holds-true : (from to s n : ℕ) → holdsByte from to s n ≡ true → HoldsByte from to s n
+unfolding holdsByte
+holds-true from to s n e =
+    let h = ltb-true (max s from) (min (s + n) to) e in
+    (max s from - s, omega arith, omega arith, omega arith)
+
+holds-false : (from to s n : ℕ) → holdsByte from to s n ≡ false → ¬ HoldsByte from to s n
+unfolding holdsByte
+holds-false from to s n e t = omega (arith, ltb-false (max s from) (min (s + n) to) e, t .1, t .2, t .3)
 
 -- a change: its block is one of the file's, and its data are as long and are bytes
 pub record ChangeOf (bs : List Bytes) (c : Change) : Type 0 where
@@ -76,6 +91,17 @@ module _ (from to : ℕ) (after : Bytes) (octets-after : Octets after) where
           → (List·Memᴰ c (changesFrom from to after (s + held b) bs) → ChangeOf bs c) → ChangeOf (b ∷ bs) c
       go true m ih = ⊎-elim here (λ n. there (ih n)) (List·Memᴰ·cases-cons m)
       go false m ih = there (ih m)
+
+-- "0 bytes write nothing"
+pub no-changes : (from to : ℕ) (after : Bytes) (s : ℕ) (bs : List Bytes) → to ≤ from → changesFrom from to after s bs ≡ []
+unfolding changesFrom
+no-changes from to after s [] h = refl
+no-changes from to after s (b ∷ bs) h = go (holdsByte from to s (held b)) refl (no-changes from to after (s + held b) bs h)
+  where
+    go : (x : Bool) → holdsByte from to s (held b) ≡ x → changesFrom from to after (s + held b) bs ≡ []
+        → cond x (changeAt after s b ∷ changesFrom from to after (s + held b) bs) (changesFrom from to after (s + held b) bs) ≡ []
+    go true e ih = let t = holds-true from to s (held b) e in absurd (omega (arith, t .2, t .3))
+    go false e ih = ih
 
 module _ (from to : ℕ) (after : Bytes) where
   -- the ids of the changes are ids of the blocks
@@ -130,13 +156,13 @@ module _ (from to : ℕ) (after : Bytes) where
       go true e here others is ih apart =
           let q = here (changeAt after s b) (List·Memᴰ·head refl) in
           let k = is (changeAt after s b) (List·Memᴰ·head refl) in
-          rewritten {c = φ b} e (record { bytes-are = q; is = rw q (k .0); same-length = ap held q ∙ ap length (k .0 .text-is) ∙ k .1 })
+          rewritten {c = φ b} (holds-true from to s (held b) e) (record { bytes-are = q; is = rw q (k .0); same-length = ap held q ∙ ap length (k .0 .text-is) ∙ k .1 })
           (ih (λ c m. here c (List·Memᴰ·tail m))
           (λ a m n. others a (List·Memᴰ·tail m)
           (λ z. ⊎-elim (λ y. once .0 (Memᴰ·cast (sym y) (Memᴰ·map recordId m))) n (List·Memᴰ·cases-cons z)))
           (λ c m. is c (List·Memᴰ·tail m)))
       go false e here others is ih apart =
-          rw (others b (List·Memᴰ·head refl) apart) (as-before e (ih here (λ a m n. others a (List·Memᴰ·tail m) n) is))
+          rw (others b (List·Memᴰ·head refl) apart) (as-before (holds-false from to s (held b) e) (ih here (λ a m n. others a (List·Memᴰ·tail m) n) is))
 
 -- ---- what they are
 
@@ -166,9 +192,8 @@ module _ {from to : ℕ} {after : Bytes} where
 -- ---- what they hold
 
 -- where no byte is held, none is shared
-apart : (from n s k : ℕ) → holdsByte from (from + n) s k ≡ false → Apart s k from n
-unfolding holdsByte
-apart from n s k e = record { no-common = λ i j f g q. omega (arith, ltb-false (max s from) (min (s + k) (from + n)) e) }
+apart : (from n s k : ℕ) → ¬ HoldsByte from (from + n) s k → Apart s k from n
+apart from n s k h = record { no-common = λ i j f g q. h (i, f, omega arith, omega arith) }
 
 -- two parts that stand one behind the other
 part-add : (x : Bytes) (s n m : ℕ) → part x s n ++ part x (s + n) m ≡ part x s (n + m)
@@ -192,7 +217,7 @@ module _ (before : Bytes) (offset : ℕ) (text : Bytes) (fits : offset + length 
     behind = e ∙ sym (append-assoc front (byBytes .text b) (textOf byBytes bs))
 
     -- a block that holds no byte of the range holds its part of what the file will hold
-    own : (s : ℕ) → length front ≡ s → holdsByte offset (offset + length text) s (held b) ≡ false → byBytes .text b ≡ part after s (held b)
+    own : (s : ℕ) → length front ≡ s → ¬ HoldsByte offset (offset + length text) s (held b) → byBytes .text b ≡ part after s (held b)
     unfolding textOf
     own s l h =
         sym (take-append-seam (byBytes .text b) (textOf byBytes bs))

@@ -1,25 +1,30 @@
 -- New versions of blocks, stored one after the other: each counts for its id, and every other block that did.
 use Prim.Native.Nat.{ℕ, suc, _<_}
-use mathlib.Core.Path.{_≡_, refl, sym, _∙_}
+use mathlib.Core.Path.{_≡_, refl, sym, ap, _∙_}
 use mathlib.Core.Logic.{⊎-elim}
+use mathlib.Core.Bool.{Bool, true, false, not}
 use mathlib.Core.Option.{some}
-use mathlib.Core.List.{List, [], _∷_, map, List·Memᴰ, List·Memᴰ·head, List·Memᴰ·tail, List·Memᴰ·cases-cons, List·Memᴰ·not-nil, Memᴰ·map}
-use mathlib.Core.List.{List·Memᴰ·eq-of-singleton, Memᴰ·cast}
+use mathlib.Core.List.{List, [], _∷_, _++_, map, append-nil, List·Memᴰ, List·Memᴰ·head, List·Memᴰ·tail, List·Memᴰ·cases-cons, List·Memᴰ·not-nil, Memᴰ·map}
+use mathlib.Core.List.{List·Memᴰ·eq-of-singleton, Memᴰ·of-map, Memᴰ·cast}
 use native.Mathlib.Omega.{arith}
 use Rattle.format.specs.Bytes.{Bytes}
 use Rattle.format.specs.Record.{recordId, recordSequence, recordLink, blockPrevious}
+use Rattle.format.specs.Reading.{Placed}
+use Rattle.volume.specs.Lists.{keep}
 use Rattle.volume.specs.View.{byBytes}
-use Rattle.volume.specs.Counting.{Volume, blockOf, blockIds}
+use Rattle.volume.specs.Counting.{Volume, volumeOf, blockOf, blockIds}
+use Rattle.volume_laws.specs.Lists.{keep-append, keep-none, map-append}
 use Rattle.volume_laws.specs.Once.{Nodup, Alike, alike-length}
 use Rattle.volume_laws.specs.Counting.{counting-mem, counting-top, ids-of}
 use Rattle.calls.specs.Image.{put}
-use Rattle.calls.specs.Mount.{acceptedRecords, volume}
+use Rattle.calls.specs.Areas.{fileAreas}
+use Rattle.calls.specs.Mount.{bytesOf, recordsOf, recordsIn, acceptedRecords, volume}
 use Rattle.calls.specs.Overwrite.{Change, newVersion}
 use Rattle.calls.specs.declared.Descriptor.{Descriptor}
 use Rattle.calls_laws.specs.Checks.{Passes}
 use Rattle.calls_laws.specs.Records.{volume-sound}
-use Rattle.demand2.specs.Store.{freePlace, RecordFits, OneStored, one-stored}
-use Rattle.demand2.specs.Places.{Written}
+use Rattle.demand2.specs.Store.{freePlace, RecordFits, OneStored, one-stored, file-listed}
+use Rattle.demand2.specs.Places.{Written, AreaGrown}
 use Rattle.demand2.specs.Added.{Same, Added, Changed, added-changed, known-ids, same-count}
 use Rattle.demand2.specs.Mounted.{agreed-inodes, agreed-blocks, accepted-kind, few-ids, ids-few, blocks-added, inodes-same, still-passes}
 use Rattle.demand2.specs.NewRecord.{IsBlock}
@@ -148,3 +153,38 @@ all-renewed ds (c ∷ cs) image image′ p apart g w =
     (λ d m. let k = g d (List·Memᴰ·tail m) in
     record { counts = one .others (changedId d) (λ n. apart .0 (Memᴰ·cast (sym (List·Memᴰ·eq-of-singleton n)) (Memᴰ·map changedId m))) ∙ k .counts; is = k .is })
     (o .rest))
+
+-- ---- inodes
+
+-- where only blocks came to areas, the inode records are the same, in the same order
+inodes-in : (image image′ : Bytes) (bs : List Bytes) → ((b : Bytes) → List·Memᴰ b bs → byBytes .isBlock b ≡ true)
+    → (fs : List Descriptor) → ((d : Descriptor) → List·Memᴰ d fs → AreaGrown image image′ d bs)
+    → keep (λ r. not (byBytes .isBlock r)) (recordsIn image′ fs) ≡ keep (λ r. not (byBytes .isBlock r)) (recordsIn image fs)
+unfolding recordsIn
+inodes-in image image′ bs are [] grown = refl
+inodes-in image image′ bs are (d ∷ fs) grown =
+    keep-append inode (bytesOf (recordsOf image′ d)) (recordsIn image′ fs)
+    ∙ rw (here (grown d (List·Memᴰ·head refl)), inodes-in image image′ bs are fs (λ e m. grown e (List·Memᴰ·tail m)))
+    (sym (keep-append inode (bytesOf (recordsOf image d)) (recordsIn image fs)))
+  where
+    inode : Bytes → Bool
+    inode r = not (byBytes .isBlock r)
+
+    here : AreaGrown image image′ d bs → keep inode (bytesOf (recordsOf image′ d)) ≡ keep inode (bytesOf (recordsOf image d))
+    here g =
+        ap (λ (l : List Placed). keep inode (bytesOf l)) (g .reads)
+        ∙ ap (keep inode) (map-append (λ (p : Placed). p .bytes) (recordsOf image d) (g .more))
+        ∙ keep-append inode (bytesOf (recordsOf image d)) (bytesOf (g .more))
+        ∙ ap (λ (l : List Bytes). keep inode (bytesOf (recordsOf image d)) ++ l) (keep-none inode (bytesOf (g .more)) (λ b m. block b m))
+        ∙ append-nil (keep inode (bytesOf (recordsOf image d)))
+      where
+        block : (b : Bytes) → List·Memᴰ b (bytesOf (g .more)) → inode b ≡ false
+        block b m =
+            let r = Memᴰ·of-map (λ (p : Placed). p .bytes) (g .more) m in
+            ap not (are b (Memᴰ·cast (sym (r .2)) (g .new (r .0) (r .1))))
+
+pub inodes-kept : (image image′ : Bytes) (ds : List Descriptor) (bs : List Bytes) → ((b : Bytes) → List·Memᴰ b bs → byBytes .isBlock b ≡ true)
+    → fileAreas image′ ds ≡ fileAreas image ds → ((d : Descriptor) → List·Memᴰ d ds → AreaGrown image image′ d bs)
+    → volume image′ ds .inodes ≡ volume image ds .inodes
+unfolding volume volumeOf acceptedRecords
+inodes-kept image image′ ds bs are same grown = rw same (inodes-in image image′ bs are (fileAreas image ds) (λ d m. grown d (file-listed image ds d m)))
