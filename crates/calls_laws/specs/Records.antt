@@ -55,7 +55,8 @@ stored-mem image fs b s = go fs (s .listed)
 
 -- ---- a record that is taken is whole
 
-front-whole : (t : Bytes) → 0 < recordSize t → (0 < length (take (recordSize t) t)) × (recordSize (take (recordSize t) t) ≡ length (take (recordSize t) t))
+front-whole : (t : Bytes) → 0 < recordSize t
+    → (0 < length (take (recordSize t) t)) × (recordSize (take (recordSize t) t) ≡ length (take (recordSize t) t))
 front-whole t h =
     let l = length-take-le (recordSize t) t (records-lawful .inside t) in
     (omega arith, records-lawful .local t (take (recordSize t) t) h (take-take (recordSize t) (recordSize t) t (omega arith)) ∙ sym l)

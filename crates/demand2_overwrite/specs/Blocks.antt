@@ -69,51 +69,60 @@ pub record ChangeOf (bs : List Bytes) (c : Change) : Type 0 where
   pub same-length : length (c .text) ≡ held (c .block)
   pub octets : Octets (c .text)
 
-module _ (from to : ℕ) (after : Bytes) (octets-after : Octets after) where
-  pub each-change : (s : ℕ) (bs : List Bytes) → s + length (textOf byBytes bs) ≤ length after
+-- φ gives the record that stands for each block afterwards: the new version where it is changed, and itself where no change bears its id
+pub record Turns (φ : Bytes → Bytes) (bs : List Bytes) (cs : List Change) : Type 0 where
+  pub here : (c : Change) → List·Memᴰ c cs → φ (c .block) ≡ newVersion c
+  pub others : (b : Bytes) → List·Memᴰ b bs → ¬ List·Memᴰ (recordId b) (map changedId cs) → φ b ≡ b
+  pub meant : (c : Change) → List·Memᴰ c cs → Meant c
+  pub lengths : (c : Change) → List·Memᴰ c cs → length (c .text) ≡ held (c .block)
+
+module _ (from to : ℕ) (after : Bytes) where
+  -- the changes of the blocks behind the first one, and those with it where it is changed
+  abbrev later : ℕ → Bytes → List Bytes → List Change
+  later s b bs = changesFrom from to after (s + held b) bs
+
+  abbrev perhaps : Bool → ℕ → Bytes → List Bytes → List Change
+  perhaps x s b bs = cond x (changeAt after s b ∷ later s b bs) (later s b bs)
+
+  pub each-change : Octets after → (s : ℕ) (bs : List Bytes) → s + length (textOf byBytes bs) ≤ length after
       → (c : Change) → List·Memᴰ c (changesFrom from to after s bs) → ChangeOf bs c
   unfolding changesFrom textOf
-  each-change s [] h c m = absurd (List·Memᴰ·not-nil m)
-  each-change s (b ∷ bs) h c m =
-      go (holdsByte from to s (held b)) m (each-change (s + held b) bs (omega (arith, length-append (byBytes .text b) (textOf byBytes bs))) c)
+  each-change o s [] h c m = absurd (List·Memᴰ·not-nil m)
+  each-change o s (b ∷ bs) h c m =
+      go (holdsByte from to s (held b)) m (each-change o (s + held b) bs (omega (arith, length-append (byBytes .text b) (textOf byBytes bs))) c)
     where
       here : c ≡ changeAt after s b → ChangeOf (b ∷ bs) c
       here e = rw e (record {
         block-there = List·Memᴰ·head refl;
         same-length = part-length after s (held b) (omega (arith, length-append (byBytes .text b) (textOf byBytes bs)));
-        octets = octets-take (held b) (drop s after) (octets-drop s after octets-after);
+        octets = octets-take (held b) (drop s after) (octets-drop s after o);
       })
 
       there : ChangeOf bs c → ChangeOf (b ∷ bs) c
       there k = record { block-there = List·Memᴰ·tail (k .block-there); same-length = k .same-length; octets = k .octets }
 
-      go : (x : Bool) → List·Memᴰ c (cond x (changeAt after s b ∷ changesFrom from to after (s + held b) bs) (changesFrom from to after (s + held b) bs))
-          → (List·Memᴰ c (changesFrom from to after (s + held b) bs) → ChangeOf bs c) → ChangeOf (b ∷ bs) c
+      go : (x : Bool) → List·Memᴰ c (perhaps x s b bs) → (List·Memᴰ c (later s b bs) → ChangeOf bs c) → ChangeOf (b ∷ bs) c
       go true m ih = ⊎-elim here (λ n. there (ih n)) (List·Memᴰ·cases-cons m)
       go false m ih = there (ih m)
 
--- "0 bytes write nothing"
-pub no-changes : (from to : ℕ) (after : Bytes) (s : ℕ) (bs : List Bytes) → to ≤ from → changesFrom from to after s bs ≡ []
-unfolding changesFrom
-no-changes from to after s [] h = refl
-no-changes from to after s (b ∷ bs) h = go (holdsByte from to s (held b)) refl (no-changes from to after (s + held b) bs h)
-  where
-    go : (x : Bool) → holdsByte from to s (held b) ≡ x → changesFrom from to after (s + held b) bs ≡ []
-        → cond x (changeAt after s b ∷ changesFrom from to after (s + held b) bs) (changesFrom from to after (s + held b) bs) ≡ []
-    go true e ih = let t = holds-true from to s (held b) e in absurd (omega (arith, t .2, t .3))
-    go false e ih = ih
+  -- "0 bytes write nothing"
+  pub no-changes : to ≤ from → (s : ℕ) (bs : List Bytes) → changesFrom from to after s bs ≡ []
+  unfolding changesFrom
+  no-changes h s [] = refl
+  no-changes h s (b ∷ bs) = go (holdsByte from to s (held b)) refl (no-changes h (s + held b) bs)
+    where
+      go : (x : Bool) → holdsByte from to s (held b) ≡ x → later s b bs ≡ [] → perhaps x s b bs ≡ []
+      go true e ih = let t = holds-true from to s (held b) e in absurd (omega (arith, t .2, t .3))
+      go false e ih = ih
 
-module _ (from to : ℕ) (after : Bytes) where
   -- the ids of the changes are ids of the blocks
   changed-ids : (s : ℕ) (bs : List Bytes) (i : ℕ) → List·Memᴰ i (map changedId (changesFrom from to after s bs)) → List·Memᴰ i (map recordId bs)
   unfolding changesFrom
   changed-ids s [] i m = m
   changed-ids s (b ∷ bs) i m = go (holdsByte from to s (held b)) m (changed-ids (s + held b) bs i)
     where
-      go : (x : Bool)
-          → List·Memᴰ i (map changedId (cond x (changeAt after s b ∷ changesFrom from to after (s + held b) bs) (changesFrom from to after (s + held b) bs)))
-          → (List·Memᴰ i (map changedId (changesFrom from to after (s + held b) bs)) → List·Memᴰ i (map recordId bs))
-          → List·Memᴰ i (recordId b ∷ map recordId bs)
+      go : (x : Bool) → List·Memᴰ i (map changedId (perhaps x s b bs))
+          → (List·Memᴰ i (map changedId (later s b bs)) → List·Memᴰ i (map recordId bs)) → List·Memᴰ i (recordId b ∷ map recordId bs)
       go true m ih = ⊎-elim List·Memᴰ·head (λ n. List·Memᴰ·tail (ih n)) (List·Memᴰ·cases-cons m)
       go false m ih = List·Memᴰ·tail (ih m)
 
@@ -123,46 +132,41 @@ module _ (from to : ℕ) (after : Bytes) where
   changes-once s [] h = tt
   changes-once s (b ∷ bs) h = go (holdsByte from to s (held b)) (changes-once (s + held b) bs (h .1)) (changed-ids (s + held b) bs (recordId b))
     where
-      go : (x : Bool) → Nodup (map changedId (changesFrom from to after (s + held b) bs))
-          → (List·Memᴰ (recordId b) (map changedId (changesFrom from to after (s + held b) bs)) → List·Memᴰ (recordId b) (map recordId bs))
-          → Nodup (map changedId (cond x (changeAt after s b ∷ changesFrom from to after (s + held b) bs) (changesFrom from to after (s + held b) bs)))
+      go : (x : Bool) → Nodup (map changedId (later s b bs))
+          → (List·Memᴰ (recordId b) (map changedId (later s b bs)) → List·Memᴰ (recordId b) (map recordId bs))
+          → Nodup (map changedId (perhaps x s b bs))
       go true ih up = ((λ m. h .0 (up m)), ih)
       go false ih up = ih
 
-  -- Of each block φ gives the record that stands for it afterwards: the new version where it is changed, and itself where no change bears its id.
-  pub blocks-after : (φ : Bytes → Bytes) (s : ℕ) (bs : List Bytes) → Nodup (map recordId bs)
-      → ((c : Change) → List·Memᴰ c (changesFrom from to after s bs) → φ (c .block) ≡ newVersion c)
-      → ((b : Bytes) → List·Memᴰ b bs → ¬ List·Memᴰ (recordId b) (map changedId (changesFrom from to after s bs)) → φ b ≡ b)
-      → ((c : Change) → List·Memᴰ c (changesFrom from to after s bs) → Meant c × (length (c .text) ≡ held (c .block)))
+  pub blocks-after : (φ : Bytes → Bytes) (s : ℕ) (bs : List Bytes) → Nodup (map recordId bs) → Turns φ bs (changesFrom from to after s bs)
       → BlocksAfter from to after s bs (map φ bs)
   unfolding changesFrom
-  blocks-after φ s [] once here others is = no-more
-  blocks-after φ s (b ∷ bs) once here others is =
-      go (holdsByte from to s (held b)) refl here others is (blocks-after φ (s + held b) bs (once .1))
+  blocks-after φ s [] once t = no-more
+  blocks-after φ s (b ∷ bs) once t = go (holdsByte from to s (held b)) refl t (blocks-after φ (s + held b) bs (once .1))
       (λ m. once .0 (changed-ids (s + held b) bs (recordId b) m))
     where
-      later : List Change
-      later = changesFrom from to after (s + held b) bs
-
-      go : (x : Bool) → holdsByte from to s (held b) ≡ x
-          → ((c : Change) → List·Memᴰ c (cond x (changeAt after s b ∷ later) later) → φ (c .block) ≡ newVersion c)
-          → ((a : Bytes) → List·Memᴰ a (b ∷ bs) → ¬ List·Memᴰ (recordId a) (map changedId (cond x (changeAt after s b ∷ later) later)) → φ a ≡ a)
-          → ((c : Change) → List·Memᴰ c (cond x (changeAt after s b ∷ later) later) → Meant c × (length (c .text) ≡ held (c .block)))
-          → (((c : Change) → List·Memᴰ c later → φ (c .block) ≡ newVersion c)
-          → ((a : Bytes) → List·Memᴰ a bs → ¬ List·Memᴰ (recordId a) (map changedId later) → φ a ≡ a)
-          → ((c : Change) → List·Memᴰ c later → Meant c × (length (c .text) ≡ held (c .block)))
-          → BlocksAfter from to after (s + held b) bs (map φ bs))
-          → ¬ List·Memᴰ (recordId b) (map changedId later) → BlocksAfter from to after s (b ∷ bs) (φ b ∷ map φ bs)
-      go true e here others is ih apart =
-          let q = here (changeAt after s b) (List·Memᴰ·head refl) in
-          let k = is (changeAt after s b) (List·Memᴰ·head refl) in
-          rewritten {c = φ b} (holds-true from to s (held b) e) (record { bytes-are = q; is = rw q (k .0); same-length = ap held q ∙ ap length (k .0 .text-is) ∙ k .1 })
-          (ih (λ c m. here c (List·Memᴰ·tail m))
-          (λ a m n. others a (List·Memᴰ·tail m)
-          (λ z. ⊎-elim (λ y. once .0 (Memᴰ·cast (sym y) (Memᴰ·map recordId m))) n (List·Memᴰ·cases-cons z)))
-          (λ c m. is c (List·Memᴰ·tail m)))
-      go false e here others is ih apart =
-          rw (others b (List·Memᴰ·head refl) apart) (as-before (holds-false from to s (held b) e) (ih here (λ a m n. others a (List·Memᴰ·tail m) n) is))
+      go : (x : Bool) → holdsByte from to s (held b) ≡ x → Turns φ (b ∷ bs) (perhaps x s b bs)
+          → (Turns φ bs (later s b bs) → BlocksAfter from to after (s + held b) bs (map φ bs))
+          → ¬ List·Memᴰ (recordId b) (map changedId (later s b bs)) → BlocksAfter from to after s (b ∷ bs) (φ b ∷ map φ bs)
+      go true e t ih apart =
+          let c = changeAt after s b in
+          let q = t .here c (List·Memᴰ·head refl) in
+          let k = t .meant c (List·Memᴰ·head refl) in
+          rewritten {c = φ b} (holds-true from to s (held b) e)
+          (record { bytes-are = q; is = rw q k; same-length = ap held q ∙ ap length (k .text-is) ∙ t .lengths c (List·Memᴰ·head refl) })
+          (ih (record {
+            here = λ d m. t .here d (List·Memᴰ·tail m);
+            others = λ a m n. t .others a (List·Memᴰ·tail m)
+                (λ z. ⊎-elim (λ y. once .0 (Memᴰ·cast (sym y) (Memᴰ·map recordId m))) n (List·Memᴰ·cases-cons z));
+            meant = λ d m. t .meant d (List·Memᴰ·tail m);
+            lengths = λ d m. t .lengths d (List·Memᴰ·tail m);
+          }))
+      go false e t ih apart = rw (t .others b (List·Memᴰ·head refl) apart) (as-before (holds-false from to s (held b) e) (ih (record {
+        here = t .here;
+        others = λ a m. t .others a (List·Memᴰ·tail m);
+        meant = t .meant;
+        lengths = t .lengths;
+      })))
 
 -- ---- what they are
 

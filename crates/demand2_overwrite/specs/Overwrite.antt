@@ -11,8 +11,8 @@ use lib.Dec.{T, eqb, eqb→eq, ltb, leb, nltb→le, leb→le, le→leb}
 use Rattle.format.specs.Bytes.{Bytes, byteAt, le32}
 use Rattle.format.specs.Ids.{rootId, isDirectoryId, isFileId, isBlockId}
 use Rattle.format.specs.Reading.{areaClean}
-use Rattle.format.specs.Record.{block, recordSize, recordId, recordSequence, recordLink, blockPrevious, dataLength, longestData, previousRule, blockRule}
-use Rattle.format.specs.Record.{blockRules, acceptable, declaredSize}
+use Rattle.format.specs.Record.{block, recordSize, recordId, recordSequence, recordLink, blockPrevious, dataLength, longestData}
+use Rattle.format.specs.Record.{previousRule, blockRule, blockRules, acceptable, declaredSize}
 use Rattle.format_laws.specs.Crc.{Octets}
 use Rattle.format_laws.specs.Encoding.{MeantBlock, octets-none}
 use Rattle.format_laws.specs.Octets.{octets-drop, octets-append}
@@ -40,7 +40,8 @@ use Rattle.calls.specs.Append.{mostAppended, isBroken}
 use Rattle.calls.specs.Lookup.{resolve}
 use Rattle.calls.specs.Read.{Given, given, refused, giveBlocks, give, readGiven, readAnswer}
 use Rattle.calls.specs.Rewrite.{lastSequence}
-use Rattle.calls.specs.Overwrite.{Change, changes, textAfter, newVersion, oldBlocks, overwritePlan, overwriteTo, overwriting, overwriteOf, overwriteImage, imageOverwritten}
+use Rattle.calls.specs.Overwrite.{Change, changes, textAfter, newVersion, oldBlocks, overwritePlan, overwriteTo, overwriting, overwriteOf}
+use Rattle.calls.specs.Overwrite.{overwriteImage, imageOverwritten}
 use Rattle.calls.specs.declared.Descriptor.{Descriptor}
 use Rattle.calls.specs.declared.ReadAnswer.{ReadAnswer}
 use Rattle.image_laws.specs.Laws.{length-put, byte-within, byte-outside}
@@ -51,14 +52,16 @@ use Rattle.calls_laws.specs.Unused.{not-among}
 use Rattle.demand2.specs.Octet.{octets-put, le32-fits, record-octets}
 use Rattle.demand2.specs.Area.{Whole}
 use Rattle.demand2.specs.Store.{SameHeaders}
-use Rattle.demand2.specs.Places.{AreaGrown, areas-grown, place-found, Written, all-placed, octets-written, written-areas, written-headers, written-clean}
+use Rattle.demand2.specs.Places.{AreaGrown, areas-grown, place-found, Written, all-placed, octets-written}
+use Rattle.demand2.specs.Places.{written-areas, written-headers, written-clean}
 use Rattle.demand2.specs.Added.{same-lookup}
 use Rattle.demand2.specs.Lineage.{mem-dec}
 use Rattle.demand2.specs.Mounted.{agreed-inodes}
 use Rattle.demand2.specs.Found.{passed-check, lookup-nine, lookup-refused, root-there, found-lives, resolved, resolve-alike, read-given, read-kept}
 use Rattle.demand2.specs.NewRecord.{block-made}
 use Rattle.demand2_overwrite.specs.Versions.{changedId, Meant, AllRenewed, all-renewed, inodes-kept}
-use Rattle.demand2_overwrite.specs.Blocks.{held, BlocksAfter, ChangeOf, each-change, changes-once, no-changes, blocks-after, after-ids, after-lengths, after-headers, after-text}
+use Rattle.demand2_overwrite.specs.Blocks.{held, BlocksAfter, ChangeOf, each-change, changes-once, no-changes, blocks-after}
+use Rattle.demand2_overwrite.specs.Blocks.{after-ids, after-lengths, after-headers, after-text}
 
 -- what an accepted overwrite found
 pub record OverwriteGoes (image : Bytes) (ds : List Descriptor) (base path : Bytes) (offset : ℕ) (text : Bytes) : Type 0 where
@@ -116,8 +119,8 @@ module _ (image : Bytes) (ds : List Descriptor) (base path : Bytes) (offset : �
   pub overwrite-goes : overwriteOf image ds base path offset text ≡ 0 → OverwriteGoes image ds base path offset text
   unfolding overwriteOf overwriting overwritePlan
   overwrite-goes e =
-      let w = attempt-goes (mountNumber image ds) (λ f. overwriteTo image ds f offset text) (not (goodPath base path) || ltb mostAppended (length text))
-      (lookupNames byBytes before (pathNames base path)) (lookup-refused byBytes before (pathNames base path)) e in
+      let w = attempt-goes (mountNumber image ds) (λ f. overwriteTo image ds f offset text)
+      (not (goodPath base path) || ltb mostAppended (length text)) (lookupNames byBytes before (pathNames base path)) (lookup-refused byBytes before (pathNames base path)) e in
       let o = or-is-false (not (goodPath base path)) (ltb mostAppended (length text)) (w .good) in
       let c = checked (w .inode) (w .checked) in
       let old = c .1 .0 in
@@ -227,8 +230,8 @@ text-octets [] h = octets-none
 text-octets (b ∷ bs) h = octets-append (byBytes .text b) (textOf byBytes bs) (octets-drop 24 b (h b (List·Memᴰ·head refl)))
     (text-octets bs (λ c m. h c (List·Memᴰ·tail m)))
 
-module _ (image : Bytes) (ds : List Descriptor) (base path : Bytes) (offset : ℕ) (text : Bytes) (octets-image : Octets image) (octets-text : Octets text)
-    (g : OverwriteGoes image ds base path offset text) where
+module _ (image : Bytes) (ds : List Descriptor) (base path : Bytes) (offset : ℕ) (text : Bytes) (octets-image : Octets image)
+    (octets-text : Octets text) (g : OverwriteGoes image ds base path offset text) where
   -- the checks of the mount, before
   p : Passes image ds
   p = passes image ds (g .mounted)
@@ -325,7 +328,7 @@ module _ (image : Bytes) (ds : List Descriptor) (base path : Bytes) (offset : �
 
   -- of an id either a new version, in the place of the block of the file, or what did
   data Now (i : ℕ) : Type 0 where
-    new-version : (c : Change) → List·Memᴰ c cs → changedId c ≡ i → blockOf byBytes v i ≡ some (c .block) → blockOf byBytes w i ≡ some (newVersion c) → Now i
+    new-version : (c : Change) → List·Memᴰ c cs → blockOf byBytes v i ≡ some (c .block) → blockOf byBytes w i ≡ some (newVersion c) → Now i
     as-it-was : blockOf byBytes w i ≡ blockOf byBytes v i → Now i
 
   now : (i : ℕ) → Now i
@@ -334,7 +337,7 @@ module _ (image : Bytes) (ds : List Descriptor) (base path : Bytes) (offset : �
       go : Dec (List·Memᴰ i (map changedId cs)) → Now i
       go (yes m) =
           let r = Memᴰ·of-map changedId cs m in
-          new-version (r .0) (r .1) (r .2) (rw (r .2) at (blocks .counts (r .0 .block) (change-of (r .0) (r .1) .block-there)))
+          new-version (r .0) (r .1) (rw (r .2) at (blocks .counts (r .0 .block) (change-of (r .0) (r .1) .block-there)))
           (rw (r .2) at (renewed .here (r .0) (r .1)))
       go (no m) = as-it-was (renewed .others i m)
 
@@ -343,7 +346,7 @@ module _ (image : Bytes) (ds : List Descriptor) (base path : Bytes) (offset : �
   same-owns h i = go (now i)
     where
       go : Now i → owns byBytes (blockOf byBytes w) h i ≡ owns byBytes (blockOf byBytes v) h i
-      go (new-version c m e a b) = rw (owns, a, b, made c m .owner-is)
+      go (new-version c m a b) = rw (owns, a, b, made c m .owner-is)
       go (as-it-was e) = rw (owns, e)
 
   -- the record that counts afterwards in the place of b
@@ -362,7 +365,7 @@ module _ (image : Bytes) (ds : List Descriptor) (base path : Bytes) (offset : �
       own = counting-mem byBytes (v .blocks) i r e .1
 
       go : Now i → (blockOf byBytes w i ≡ some (turned r)) × (blockPrevious (turned r) ≡ blockPrevious r)
-      go (new-version c m q a b) =
+      go (new-version c m a b) =
           let z : c .block ≡ r = cc in
           let u : turned r ≡ newVersion c = rw (own, b) in
           (b ∙ ap some (sym u), ap blockPrevious u ∙ made c m .previous-is ∙ ap blockPrevious z)
@@ -378,9 +381,12 @@ module _ (image : Bytes) (ds : List Descriptor) (base path : Bytes) (offset : �
   new-blocks : BlocksAfter offset (offset + length text) after 0 old new
   unfolding changes
   new-blocks = blocks-after offset (offset + length text) after turned 0 old (blocks .once)
-      (λ c m. rw (renewed .here c m))
-      (λ b m n. rw (renewed .others (recordId b) n, blocks .counts b m))
-      (λ c m. (made c m, change-of c m .same-length))
+      (record {
+        here = λ c m. rw (renewed .here c m);
+        others = λ b m n. rw (renewed .others (recordId b) n, blocks .counts b m);
+        meant = made;
+        lengths = λ c m. change-of c m .same-length;
+      })
 
   -- and of any other file
   others-whole : (h : ℕ) → h ≢ f → fileBlocks byBytes w h ≡ fileBlocks byBytes v h
@@ -391,7 +397,7 @@ module _ (image : Bytes) (ds : List Descriptor) (base path : Bytes) (offset : �
       mine i r q t = let u : T (eqb (byBytes .owner r) h) = rw q at t in sym (eqb→eq (byBytes .owner r) h u)
 
       go : (i : ℕ) → T (owns byBytes (blockOf byBytes v) h i) → Now i → blockOf byBytes w i ≡ blockOf byBytes v i
-      go i t (new-version c m e a b) = absurd (n (mine i (c .block) a t ∙ blocks .owner (c .block) (change-of c m .block-there)))
+      go i t (new-version c m a b) = absurd (n (mine i (c .block) a t ∙ blocks .owner (c .block) (change-of c m .block-there)))
       go i t (as-it-was e) = e
 
   -- ---- inodes
@@ -426,11 +432,13 @@ module _ (image : Bytes) (ds : List Descriptor) (base path : Bytes) (offset : �
   long : length after ≡ length was
   long = length-put was offset text (g .within)
 
-  read-before : (position room : ℕ) → readGiven image ds f position room ≡ cond (leb position (length was)) (giveBlocks old position room) (refused 14)
+  read-before : (position room : ℕ)
+      → readGiven image ds f position room ≡ cond (leb position (length was)) (giveBlocks old position room) (refused 14)
   unfolding give
   read-before position room = read-given image ds (g .mounted) f position room ∙ rw (give, lives, g .no-directory, g .not-broken)
 
-  read-after : (position room : ℕ) → readGiven image′ ds f position room ≡ cond (leb position (length was)) (giveBlocks new position room) (refused 14)
+  read-after : (position room : ℕ)
+      → readGiven image′ ds f position room ≡ cond (leb position (length was)) (giveBlocks new position room) (refused 14)
   unfolding give
   read-after position room =
       read-given image′ ds still-mounts f position room ∙ rw (give, new-fates f, lives, g .no-directory, new-whole, new-text, long)
@@ -493,7 +501,7 @@ module _ (image : Bytes) (ds : List Descriptor) (base path : Bytes) (offset : �
     other-blocks = renewed .others;
     same-ids = renewed .same-ids;
     ids = alike-length (blockIds byBytes w) (blockIds byBytes v) (renewed .same-ids);
-    no-changes = λ e. no-changes offset (offset + length text) after 0 old (omega (arith, ap length e));
+    no-changes = λ e. no-changes offset (offset + length text) after (omega (arith, ap length e)) 0 old;
     went = all-went;
     areas = areas-grown ds (p .described) all-went;
     same-areas = written-areas ds (p .described) all-went;
@@ -515,17 +523,19 @@ module _ (image : Bytes) (ds : List Descriptor) (base path : Bytes) (offset : �
 pub overwrite : (image : Bytes) (ds : List Descriptor) (base path : Bytes) (offset : ℕ) (text : Bytes) → Octets image → Octets text
     → overwriteOf image ds base path offset text ≡ 0
     → AfterOverwrite image (imageOverwritten image ds base path offset text) ds base path offset text
-overwrite image ds base path offset text oi ot e = after-overwrite image ds base path offset text oi ot (overwrite-goes image ds base path offset text e)
+overwrite image ds base path offset text oi ot e =
+    after-overwrite image ds base path offset text oi ot (overwrite-goes image ds base path offset text e)
 
 -- "0 bytes write nothing", accepted or refused
-pub overwrite-nothing : (image : Bytes) (ds : List Descriptor) (base path : Bytes) (offset : ℕ) → imageOverwritten image ds base path offset [] ≡ image
+pub overwrite-nothing : (image : Bytes) (ds : List Descriptor) (base path : Bytes) (offset : ℕ)
+    → imageOverwritten image ds base path offset [] ≡ image
 unfolding imageOverwritten overwritePlan changes placeAll storeAll
 overwrite-nothing image ds base path offset = go (overwriting image ds base path offset [])
   where
     go : (a : Attempt ℕ) → leaves image (overwriteImage image ds offset []) a ≡ image
     go (goes f) =
         let bs = oldBlocks image ds f in
-        rw (overwritePlan, changes, no-changes offset (offset + 0) (textAfter bs offset []) 0 bs (omega arith), placeAll, storeAll)
+        rw (overwritePlan, changes, no-changes offset (offset + 0) (textAfter bs offset []) (omega arith) 0 bs, placeAll, storeAll)
     go (refuses r) = refl
 
 -- "For a write, 5 is tested again": an overwrite makes no new id, and never answers 5 when the image mounts

@@ -4,8 +4,8 @@ use mathlib.Core.Path.{_≡_, refl, sym, ap, _∙_}
 use mathlib.Core.Logic.{⊎-elim}
 use mathlib.Core.Bool.{Bool, true, false, not}
 use mathlib.Core.Option.{some}
-use mathlib.Core.List.{List, [], _∷_, _++_, map, append-nil, List·Memᴰ, List·Memᴰ·head, List·Memᴰ·tail, List·Memᴰ·cases-cons, List·Memᴰ·not-nil, Memᴰ·map}
-use mathlib.Core.List.{List·Memᴰ·eq-of-singleton, Memᴰ·of-map, Memᴰ·cast}
+use mathlib.Core.List.{List, [], _∷_, _++_, map, append-nil, List·Memᴰ, List·Memᴰ·head, List·Memᴰ·tail, List·Memᴰ·cases-cons, List·Memᴰ·not-nil}
+use mathlib.Core.List.{Memᴰ·map, List·Memᴰ·eq-of-singleton, Memᴰ·of-map, Memᴰ·cast}
 use native.Mathlib.Omega.{arith}
 use Rattle.format.specs.Bytes.{Bytes}
 use Rattle.format.specs.Record.{recordId, recordSequence, recordLink, blockPrevious}
@@ -151,7 +151,8 @@ all-renewed ds (c ∷ cs) image image′ p apart g w =
     let one = one-renewed image ds p c (g c (List·Memᴰ·head refl)) (o .area) (o .fits) in
     renewed-on (apart .0) one (all-renewed ds cs (put image (freePlace image (o .area)) (newVersion c)) image′ (one .passes) (apart .1)
     (λ d m. let k = g d (List·Memᴰ·tail m) in
-    record { counts = one .others (changedId d) (λ n. apart .0 (Memᴰ·cast (sym (List·Memᴰ·eq-of-singleton n)) (Memᴰ·map changedId m))) ∙ k .counts; is = k .is })
+    let other = one .others (changedId d) (λ n. apart .0 (Memᴰ·cast (sym (List·Memᴰ·eq-of-singleton n)) (Memᴰ·map changedId m))) in
+    record { counts = other ∙ k .counts; is = k .is })
     (o .rest))
 
 -- ---- inodes
@@ -187,4 +188,5 @@ pub inodes-kept : (image image′ : Bytes) (ds : List Descriptor) (bs : List Byt
     → fileAreas image′ ds ≡ fileAreas image ds → ((d : Descriptor) → List·Memᴰ d ds → AreaGrown image image′ d bs)
     → volume image′ ds .inodes ≡ volume image ds .inodes
 unfolding volume volumeOf acceptedRecords
-inodes-kept image image′ ds bs are same grown = rw same (inodes-in image image′ bs are (fileAreas image ds) (λ d m. grown d (file-listed image ds d m)))
+inodes-kept image image′ ds bs are same grown = rw same
+    (inodes-in image image′ bs are (fileAreas image ds) (λ d m. grown d (file-listed image ds d m)))
