@@ -11,6 +11,7 @@ use lib.Seq.{take-add, drop-drop, drop-at, take-append-seam, take-all}
 use borrow.Author.Tests.{ltb-true, ltb-false}
 use Rattle.format.specs.Bytes.{Bytes}
 use Rattle.format.specs.Record.{recordId, recordSequence, recordLink, blockPrevious}
+use Rattle.format.specs.Encoding.{blockBytes}
 use Rattle.format_laws.specs.Crc.{Octets}
 use Rattle.format_laws.specs.Octets.{octets-take, octets-drop}
 use Rattle.volume.specs.View.{byBytes}
@@ -31,24 +32,25 @@ held b = length (byBytes .text b)
 abbrev pub changeAt : Bytes → ℕ → Bytes → Change
 changeAt after s b = record { block = b; text = part after s (held b) }
 
--- c is the new version of b: "rewritten with the same id, owner, previous and length, sequence plus one, and its changed data"
+-- c is the new version of b, whose data begin at s in a file that will hold `after`: "rewritten with the same id, owner, previous and length,
+-- sequence plus one, and its changed data"
 pub record Rewritten (after : Bytes) (s : ℕ) (b c : Bytes) : Type 0 where
-  pub bytes-are : c ≡ newVersion (changeAt after s b)
   pub is : IsBlock c (recordId b) (suc (recordSequence b)) (recordLink b) (blockPrevious b) (part after s (held b))
   pub same-length : held c ≡ held b
+  pub bytes-are : c ≡ blockBytes (recordId b) (suc (recordSequence b)) (recordLink b) (blockPrevious b) (part after s (held b))
 
 -- a block of n bytes that begins at s in its file "holds a byte of the written range", which goes from `from` up to `to`: a byte of both
 abbrev pub HoldsByte : ℕ → ℕ → ℕ → ℕ → Type 0
 HoldsByte from to s n = (i : ℕ) × (i < n) × (from ≤ s + i) × (s + i < to)
 
--- The blocks of a file before and after, of which the first begins at s in it: "each block that holds a byte of the written range is rewritten",
--- and a block that holds none is the very same record
-pub data BlocksAfter (from to : ℕ) (after : Bytes) : ℕ → List Bytes → List Bytes → Type 0 where
-  no-more : {s : ℕ} → BlocksAfter from to after s [] []
-  as-before : {s : ℕ} {b : Bytes} {bs cs : List Bytes} → ¬ HoldsByte from to s (held b) → BlocksAfter from to after (s + held b) bs cs
-      → BlocksAfter from to after s (b ∷ bs) (b ∷ cs)
-  rewritten : {s : ℕ} {b c : Bytes} {bs cs : List Bytes} → HoldsByte from to s (held b) → Rewritten after s b c
-      → BlocksAfter from to after (s + held b) bs cs → BlocksAfter from to after s (b ∷ bs) (c ∷ cs)
+-- The blocks of a file before and after, of which the first begins at s in it, and the records that are written for them: "each block that holds a
+-- byte of the written range is rewritten", "in file order", and a block that holds none is the very same record
+pub data BlocksAfter (from to : ℕ) (after : Bytes) : ℕ → List Bytes → List Bytes → List Bytes → Type 0 where
+  no-more : {s : ℕ} → BlocksAfter from to after s [] [] []
+  as-before : {s : ℕ} {b : Bytes} {bs cs ws : List Bytes} → ¬ HoldsByte from to s (held b) → BlocksAfter from to after (s + held b) bs cs ws
+      → BlocksAfter from to after s (b ∷ bs) (b ∷ cs) ws
+  rewritten : {s : ℕ} {b c : Bytes} {bs cs ws : List Bytes} → HoldsByte from to s (held b) → Rewritten after s b c
+      → BlocksAfter from to after (s + held b) bs cs ws → BlocksAfter from to after s (b ∷ bs) (c ∷ cs) (c ∷ ws)
 
 -- ---- the changes
 
@@ -139,28 +141,28 @@ module _ (from to : ℕ) (after : Bytes) where
       go false ih up = ih
 
   pub blocks-after : (φ : Bytes → Bytes) (s : ℕ) (bs : List Bytes) → Nodup (map recordId bs) → Turns φ bs (changesFrom from to after s bs)
-      → BlocksAfter from to after s bs (map φ bs)
-  unfolding changesFrom
+      → BlocksAfter from to after s bs (map φ bs) (map newVersion (changesFrom from to after s bs))
+  unfolding changesFrom newVersion
   blocks-after φ s [] once t = no-more
   blocks-after φ s (b ∷ bs) once t = go (holdsByte from to s (held b)) refl t (blocks-after φ (s + held b) bs (once .1))
       (λ m. once .0 (changed-ids (s + held b) bs (recordId b) m))
     where
       go : (x : Bool) → holdsByte from to s (held b) ≡ x → Turns φ (b ∷ bs) (perhaps x s b bs)
-          → (Turns φ bs (later s b bs) → BlocksAfter from to after (s + held b) bs (map φ bs))
-          → ¬ List·Memᴰ (recordId b) (map changedId (later s b bs)) → BlocksAfter from to after s (b ∷ bs) (φ b ∷ map φ bs)
+          → (Turns φ bs (later s b bs) → BlocksAfter from to after (s + held b) bs (map φ bs) (map newVersion (later s b bs)))
+          → ¬ List·Memᴰ (recordId b) (map changedId (later s b bs))
+          → BlocksAfter from to after s (b ∷ bs) (φ b ∷ map φ bs) (map newVersion (perhaps x s b bs))
       go true e t ih apart =
           let c = changeAt after s b in
-          let q = t .here c (List·Memᴰ·head refl) in
           let k = t .meant c (List·Memᴰ·head refl) in
-          rewritten {c = φ b} (holds-true from to s (held b) e)
-          (record { bytes-are = q; is = rw q k; same-length = ap held q ∙ ap length (k .text-is) ∙ t .lengths c (List·Memᴰ·head refl) })
+          rw (t .here c (List·Memᴰ·head refl)) (rewritten {c = newVersion c} (holds-true from to s (held b) e)
+          (record { is = k; same-length = ap length (k .text-is) ∙ t .lengths c (List·Memᴰ·head refl); bytes-are = refl })
           (ih (record {
             here = λ d m. t .here d (List·Memᴰ·tail m);
             others = λ a m n. t .others a (List·Memᴰ·tail m)
                 (λ z. ⊎-elim (λ y. once .0 (Memᴰ·cast (sym y) (Memᴰ·map recordId m))) n (List·Memᴰ·cases-cons z));
             meant = λ d m. t .meant d (List·Memᴰ·tail m);
             lengths = λ d m. t .lengths d (List·Memᴰ·tail m);
-          }))
+          })))
       go false e t ih apart = rw (t .others b (List·Memᴰ·head refl) apart) (as-before (holds-false from to s (held b) e) (ih (record {
         here = t .here;
         others = λ a m. t .others a (List·Memᴰ·tail m);
@@ -171,23 +173,23 @@ module _ (from to : ℕ) (after : Bytes) where
 -- ---- what they are
 
 module _ {from to : ℕ} {after : Bytes} where
-  pub after-ids : {s : ℕ} {bs cs : List Bytes} → BlocksAfter from to after s bs cs → map recordId cs ≡ map recordId bs
+  pub after-ids : {s : ℕ} {bs cs ws : List Bytes} → BlocksAfter from to after s bs cs ws → map recordId cs ≡ map recordId bs
   after-ids no-more = refl
   after-ids (as-before e t) = rw (after-ids t)
   after-ids (rewritten e k t) = rw (k .is .id-is, after-ids t)
 
-  pub after-lengths : {s : ℕ} {bs cs : List Bytes} → BlocksAfter from to after s bs cs → map held cs ≡ map held bs
+  pub after-lengths : {s : ℕ} {bs cs ws : List Bytes} → BlocksAfter from to after s bs cs ws → map held cs ≡ map held bs
   after-lengths no-more = refl
   after-lengths (as-before e t) = rw (after-lengths t)
   after-lengths (rewritten e k t) = rw (k .same-length, after-lengths t)
 
-  after-number : {s : ℕ} {bs cs : List Bytes} → BlocksAfter from to after s bs cs → length cs ≡ length bs
+  after-number : {s : ℕ} {bs cs ws : List Bytes} → BlocksAfter from to after s bs cs ws → length cs ≡ length bs
   after-number no-more = refl
   after-number (as-before e t) = ap suc (after-number t)
   after-number (rewritten e k t) = ap suc (after-number t)
 
   -- as many headers are followed to the block of any byte
-  pub after-headers : {s : ℕ} {bs cs : List Bytes} → BlocksAfter from to after s bs cs → (p : ℕ) → headersFrom byBytes p cs ≡ headersFrom byBytes p bs
+  pub after-headers : {s : ℕ} {bs cs ws : List Bytes} → BlocksAfter from to after s bs cs ws → (p : ℕ) → headersFrom byBytes p cs ≡ headersFrom byBytes p bs
   unfolding headersFrom
   after-headers no-more p = refl
   after-headers (as-before {b = b} e t) p = rw (after-number t, after-headers t (p - held b))
@@ -229,7 +231,7 @@ module _ (before : Bytes) (offset : ℕ) (text : Bytes) (fits : offset + length 
         ∙ sym (part-outside before offset text fits s (held b) (apart offset (length text) s (held b) h))
 
   -- the blocks behind the first bytes of the file hold what comes behind them
-  text-from : {s : ℕ} {bs cs : List Bytes} → BlocksAfter offset (offset + length text) after s bs cs → (front : Bytes) → length front ≡ s
+  text-from : {s : ℕ} {bs cs ws : List Bytes} → BlocksAfter offset (offset + length text) after s bs cs ws → (front : Bytes) → length front ≡ s
       → before ≡ front ++ textOf byBytes bs → textOf byBytes cs ≡ part after s (length (textOf byBytes bs))
   unfolding textOf
   text-from no-more front l e = refl
@@ -241,10 +243,10 @@ module _ (before : Bytes) (offset : ℕ) (text : Bytes) (fits : offset + length 
       (text-from t (front ++ byBytes .text b) (omega (arith, length-append front (byBytes .text b))) (behind front b bs e))
 
 -- "The range then reads as the new data, every other byte as before"
-pub after-text : (old new : List Bytes) (offset : ℕ) (text : Bytes) → offset + length text ≤ length (textOf byBytes old)
-    → BlocksAfter offset (offset + length text) (put (textOf byBytes old) offset text) 0 old new
+pub after-text : (old new ws : List Bytes) (offset : ℕ) (text : Bytes) → offset + length text ≤ length (textOf byBytes old)
+    → BlocksAfter offset (offset + length text) (put (textOf byBytes old) offset text) 0 old new ws
     → textOf byBytes new ≡ put (textOf byBytes old) offset text
-after-text old new offset text fits t =
+after-text old new ws offset text fits t =
     text-from (textOf byBytes old) offset text fits t [] refl refl
     ∙ take-all (length (textOf byBytes old)) (put (textOf byBytes old) offset text)
     (omega (arith, length-put (textOf byBytes old) offset text fits))

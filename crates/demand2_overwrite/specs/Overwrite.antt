@@ -20,7 +20,7 @@ use Rattle.format_laws.specs.Record.{only-block}
 use Rattle.volume.specs.Lists.{all}
 use Rattle.volume.specs.View.{byBytes}
 use Rattle.volume.specs.Counting.{Volume, volumeOf, inodeOf, blockOf, blockIds}
-use Rattle.volume.specs.Fate.{live, fateOf, lineage, namesOf}
+use Rattle.volume.specs.Fate.{live, fateOf, liveIds, lineage, namesOf}
 use Rattle.volume.specs.Contents.{owns, fileBlocks, textOf}
 use Rattle.volume.specs.Path.{goodPath, pathNames}
 use Rattle.volume.specs.Tree.{Found, found, absent, lookupNames}
@@ -120,7 +120,8 @@ module _ (image : Bytes) (ds : List Descriptor) (base path : Bytes) (offset : �
   unfolding overwriteOf overwriting overwritePlan
   overwrite-goes e =
       let w = attempt-goes (mountNumber image ds) (λ f. overwriteTo image ds f offset text)
-      (not (goodPath base path) || ltb mostAppended (length text)) (lookupNames byBytes before (pathNames base path)) (lookup-refused byBytes before (pathNames base path)) e in
+      (not (goodPath base path) || ltb mostAppended (length text)) (lookupNames byBytes before (pathNames base path))
+      (lookup-refused byBytes before (pathNames base path)) e in
       let o = or-is-false (not (goodPath base path)) (ltb mostAppended (length text)) (w .good) in
       let c = checked (w .inode) (w .checked) in
       let old = c .1 .0 in
@@ -152,11 +153,12 @@ pub record AfterOverwrite (image image′ : Bytes) (ds : List Descriptor) (base 
   pub old : List Bytes
   pub whole-before : fileBlocks byBytes (volume image ds) file ≡ some old
   pub within : offset + length text ≤ length (textOf byBytes old)
-  -- its blocks afterwards, in the same order: "each block that holds a byte of the written range is rewritten with the same id, owner, previous
-  -- and length, sequence plus one, and its changed data", and each that holds none is the very same record
+  -- its blocks afterwards, in the same order, and the records written: "each block that holds a byte of the written range is rewritten with the
+  -- same id, owner, previous and length, sequence plus one, and its changed data", and each that holds none is the very same record
   pub new : List Bytes
   pub whole-after : fileBlocks byBytes (volume image′ ds) file ≡ some new
-  pub blocks-after : BlocksAfter offset (offset + length text) (textAfter old offset text) 0 old new
+  pub written : List Bytes
+  pub blocks-after : BlocksAfter offset (offset + length text) (textAfter old offset text) 0 old new written
   pub block-ids : map recordId new ≡ map recordId old
   pub block-lengths : map held new ≡ map held old
   -- "The range then reads as the new data, every other byte as before"
@@ -178,20 +180,20 @@ pub record AfterOverwrite (image image′ : Bytes) (ds : List Descriptor) (base 
   -- the inode records are the same, in the same order
   pub inodes : volume image′ ds .inodes ≡ volume image ds .inodes
   pub fates : (i : ℕ) → fateOf byBytes (volume image′ ds) i ≡ fateOf byBytes (volume image ds) i
+  pub live-ones : liveIds byBytes (volume image′ ds) ≡ liveIds byBytes (volume image ds)
   pub lineages : (i : ℕ) → lineage byBytes (volume image′ ds) i ≡ lineage byBytes (volume image ds) i
   pub names : (i : ℕ) → namesOf byBytes (volume image′ ds) i ≡ namesOf byBytes (volume image ds) i
   -- the new versions count, and of every other block the record that did; no id is new, and so 5 is not tested again
-  pub counts : (c : Change) → List·Memᴰ c (changes old offset text) → blockOf byBytes (volume image′ ds) (changedId c) ≡ some (newVersion c)
-  pub other-blocks : (i : ℕ) → ¬ List·Memᴰ i (map changedId (changes old offset text))
-      → blockOf byBytes (volume image′ ds) i ≡ blockOf byBytes (volume image ds) i
+  pub counts : (b : Bytes) → List·Memᴰ b written → blockOf byBytes (volume image′ ds) (recordId b) ≡ some b
+  pub other-blocks : (i : ℕ) → ¬ List·Memᴰ i (map recordId written) → blockOf byBytes (volume image′ ds) i ≡ blockOf byBytes (volume image ds) i
   pub same-ids : Alike (blockIds byBytes (volume image′ ds)) (blockIds byBytes (volume image ds))
   pub ids : length (blockIds byBytes (volume image′ ds)) ≡ length (blockIds byBytes (volume image ds))
   -- "0 bytes write nothing"
-  pub no-changes : text ≡ [] → changes old offset text ≡ []
+  pub none-written : text ≡ [] → written ≡ []
   -- "all or none, in file order": one after the other they went to the start of the free space of the first clean file area with room for each
-  pub went : Written ds image (map newVersion (changes old offset text)) image′
-  -- so that each area reads as its old records followed by those that went there
-  pub areas : (d : Descriptor) → List·Memᴰ d ds → AreaGrown image image′ d (map newVersion (changes old offset text))
+  pub went : Written ds image written image′
+  -- so that each area reads as its old records, at their places, followed by those that went there: nothing is erased
+  pub areas : (d : Descriptor) → List·Memᴰ d ds → AreaGrown image image′ d written
   -- the file areas are the same, with the headers that they had, and each is as clean as it was
   pub same-areas : fileAreas image′ ds ≡ fileAreas image ds
   pub headers : SameHeaders image image′ ds
@@ -378,7 +380,7 @@ module _ (image : Bytes) (ds : List Descriptor) (base path : Bytes) (offset : �
   new-whole : fileBlocks byBytes w f ≡ some new
   new-whole = blocks-map byBytes v w f turned (same-owns f) still-there ∙ rw (g .not-broken)
 
-  new-blocks : BlocksAfter offset (offset + length text) after 0 old new
+  new-blocks : BlocksAfter offset (offset + length text) after 0 old new (map newVersion cs)
   unfolding changes
   new-blocks = blocks-after offset (offset + length text) after turned 0 old (blocks .once)
       (record {
@@ -400,6 +402,17 @@ module _ (image : Bytes) (ds : List Descriptor) (base path : Bytes) (offset : �
       go i t (new-version c m a b) = absurd (n (mine i (c .block) a t ∙ blocks .owner (c .block) (change-of c m .block-there)))
       go i t (as-it-was e) = e
 
+  -- the records that are written
+  counted : (b : Bytes) → List·Memᴰ b (map newVersion cs) → blockOf byBytes w (recordId b) ≡ some b
+  counted b m =
+      let r = Memᴰ·of-map newVersion cs m in
+      rw (← r .2, made (r .0) (r .1) .id-is) (renewed .here (r .0) (r .1))
+
+  renewed-id : (i : ℕ) → List·Memᴰ i (map changedId cs) → List·Memᴰ i (map recordId (map newVersion cs))
+  renewed-id i m =
+      let r = Memᴰ·of-map changedId cs m in
+      Memᴰ·cast (sym (r .2) ∙ sym (made (r .0) (r .1) .id-is)) (Memᴰ·map recordId (Memᴰ·map newVersion (r .1)))
+
   -- ---- inodes
 
   same-inodes : w .inodes ≡ v .inodes
@@ -409,6 +422,10 @@ module _ (image : Bytes) (ds : List Descriptor) (base path : Bytes) (offset : �
   new-fates : (i : ℕ) → fateOf byBytes w i ≡ fateOf byBytes v i
   unfolding fateOf
   new-fates i = rw same-inodes
+
+  same-live : liveIds byBytes w ≡ liveIds byBytes v
+  unfolding liveIds fateOf
+  same-live = rw (liveIds, same-inodes)
 
   new-lineages : (i : ℕ) → lineage byBytes w i ≡ lineage byBytes v i
   unfolding lineage
@@ -427,7 +444,7 @@ module _ (image : Bytes) (ds : List Descriptor) (base path : Bytes) (offset : �
   lives = found-lives byBytes v (root .0) (root .1) (pathNames base path) f (g .found-there)
 
   new-text : textOf byBytes new ≡ after
-  new-text = after-text old new offset text (g .within) new-blocks
+  new-text = after-text old new (map newVersion cs) offset text (g .within) new-blocks
 
   long : length after ≡ length was
   long = length-put was offset text (g .within)
@@ -477,6 +494,7 @@ module _ (image : Bytes) (ds : List Descriptor) (base path : Bytes) (offset : �
     within = g .within;
     new = new;
     whole-after = new-whole;
+    written = map newVersion cs;
     blocks-after = new-blocks;
     block-ids = after-ids new-blocks;
     block-lengths = after-lengths new-blocks;
@@ -495,13 +513,14 @@ module _ (image : Bytes) (ds : List Descriptor) (base path : Bytes) (offset : �
     contents = others-whole;
     inodes = same-inodes;
     fates = new-fates;
+    live-ones = same-live;
     lineages = new-lineages;
     names = new-names;
-    counts = renewed .here;
-    other-blocks = renewed .others;
+    counts = counted;
+    other-blocks = λ i n. renewed .others i (λ m. n (renewed-id i m));
     same-ids = renewed .same-ids;
     ids = alike-length (blockIds byBytes w) (blockIds byBytes v) (renewed .same-ids);
-    no-changes = λ e. no-changes offset (offset + length text) after (omega (arith, ap length e)) 0 old;
+    none-written = λ e. ap (map newVersion) (no-changes offset (offset + length text) after (omega (arith, ap length e)) 0 old);
     went = all-went;
     areas = areas-grown ds (p .described) all-went;
     same-areas = written-areas ds (p .described) all-went;
