@@ -183,7 +183,7 @@ pub record AfterOverwrite (image image′ : Bytes) (ds : List Descriptor) (base 
   pub live-ones : liveIds byBytes (volume image′ ds) ≡ liveIds byBytes (volume image ds)
   pub lineages : (i : ℕ) → lineage byBytes (volume image′ ds) i ≡ lineage byBytes (volume image ds) i
   pub names : (i : ℕ) → namesOf byBytes (volume image′ ds) i ≡ namesOf byBytes (volume image ds) i
-  -- the new versions count, and of every other block the record that did; no id is new, and so 5 is not tested again
+  -- the new versions count, and of every other block the record that did; no id is new, and there are as many: "5 is tested again" in vain
   pub counts : (b : Bytes) → List·Memᴰ b written → blockOf byBytes (volume image′ ds) (recordId b) ≡ some b
   pub other-blocks : (i : ℕ) → ¬ List·Memᴰ i (map recordId written) → blockOf byBytes (volume image′ ds) i ≡ blockOf byBytes (volume image ds) i
   pub same-ids : Alike (blockIds byBytes (volume image′ ds)) (blockIds byBytes (volume image ds))
