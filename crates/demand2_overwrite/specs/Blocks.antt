@@ -61,6 +61,7 @@ holds-true from to s n e =
     let h = ltb-true (max s from) (min (s + n) to) e in
     (max s from - s, omega arith, omega arith, omega arith)
 
+-- and where it fails there is none
 holds-false : (from to s n : ℕ) → holdsByte from to s n ≡ false → ¬ HoldsByte from to s n
 unfolding holdsByte
 holds-false from to s n e t = omega (arith, ltb-false (max s from) (min (s + n) to) e, t .1, t .2, t .3)
@@ -86,6 +87,7 @@ module _ (from to : ℕ) (after : Bytes) where
   abbrev perhaps : Bool → ℕ → Bytes → List Bytes → List Change
   perhaps x s b bs = cond x (changeAt after s b ∷ later s b bs) (later s b bs)
 
+  -- what holds of each change
   pub each-change : Octets after → (s : ℕ) (bs : List Bytes) → s + length (textOf byBytes bs) ≤ length after
       → (c : Change) → List·Memᴰ c (changesFrom from to after s bs) → ChangeOf bs c
   unfolding changesFrom textOf
@@ -140,6 +142,7 @@ module _ (from to : ℕ) (after : Bytes) where
       go true ih up = ((λ m. h .0 (up m)), ih)
       go false ih up = ih
 
+  -- the blocks are then as told
   pub blocks-after : (φ : Bytes → Bytes) (s : ℕ) (bs : List Bytes) → Nodup (map recordId bs) → Turns φ bs (changesFrom from to after s bs)
       → BlocksAfter from to after s bs (map φ bs) (map newVersion (changesFrom from to after s bs))
   unfolding changesFrom newVersion
@@ -173,16 +176,19 @@ module _ (from to : ℕ) (after : Bytes) where
 -- ---- what they are
 
 module _ {from to : ℕ} {after : Bytes} where
+  -- the same ids, in the same order
   pub after-ids : {s : ℕ} {bs cs ws : List Bytes} → BlocksAfter from to after s bs cs ws → map recordId cs ≡ map recordId bs
   after-ids no-more = refl
   after-ids (as-before e t) = rw (after-ids t)
   after-ids (rewritten e k t) = rw (k .is .id-is, after-ids t)
 
+  -- the same lengths
   pub after-lengths : {s : ℕ} {bs cs ws : List Bytes} → BlocksAfter from to after s bs cs ws → map held cs ≡ map held bs
   after-lengths no-more = refl
   after-lengths (as-before e t) = rw (after-lengths t)
   after-lengths (rewritten e k t) = rw (k .same-length, after-lengths t)
 
+  -- as many
   after-number : {s : ℕ} {bs cs ws : List Bytes} → BlocksAfter from to after s bs cs ws → length cs ≡ length bs
   after-number no-more = refl
   after-number (as-before e t) = ap suc (after-number t)
@@ -218,6 +224,7 @@ module _ (before : Bytes) (offset : ℕ) (text : Bytes) (fits : offset + length 
       (part-add after s (held b) (length (textOf byBytes bs)) ∙ ap (part after s) (sym (length-append (byBytes .text b) (textOf byBytes bs))))
 
   module _ (front b : Bytes) (bs : List Bytes) (e : before ≡ front ++ textOf byBytes (b ∷ bs)) where
+    -- the rest of the file behind it
     behind : before ≡ (front ++ byBytes .text b) ++ textOf byBytes bs
     unfolding textOf
     behind = e ∙ sym (append-assoc front (byBytes .text b) (textOf byBytes bs))

@@ -23,8 +23,8 @@ use Rattle.volume.specs.Counting.{Volume, volumeOf, inodeOf, blockOf, blockIds}
 use Rattle.volume.specs.Fate.{live, fateOf, liveIds, lineage, namesOf}
 use Rattle.volume.specs.Contents.{owns, fileBlocks, textOf}
 use Rattle.volume.specs.Path.{goodPath, pathNames}
-use Rattle.volume.specs.Tree.{Found, found, absent, lookupNames}
-use Rattle.volume_laws.specs.Tests.{T→true, not-T→false, not-is-false, or-is-false, and-T}
+use Rattle.volume.specs.Tree.{found, absent, lookupNames}
+use Rattle.volume_laws.specs.Tests.{T→true, not-T→false, and-T}
 use Rattle.volume_laws.specs.Lists.{keep-mem}
 use Rattle.volume_laws.specs.Once.{Nodup, Alike, alike-length}
 use Rattle.volume_laws.specs.Counting.{counting-mem}
@@ -47,7 +47,7 @@ use Rattle.calls.specs.declared.ReadAnswer.{ReadAnswer}
 use Rattle.image_laws.specs.Laws.{length-put, byte-within, byte-outside}
 use Rattle.calls_laws.specs.Checks.{Passes, passes, mounts}
 use Rattle.calls_laws.specs.Records.{records-accepted, records-whole, volume-sound}
-use Rattle.calls_laws.specs.Attempt.{attempt-goes, never, found-never}
+use Rattle.calls_laws.specs.Attempt.{never, found-never}
 use Rattle.calls_laws.specs.Unused.{not-among}
 use Rattle.demand2.specs.Octet.{octets-put, le32-fits, record-octets}
 use Rattle.demand2.specs.Area.{Whole}
@@ -57,8 +57,9 @@ use Rattle.demand2.specs.Places.{written-areas, written-headers, written-clean}
 use Rattle.demand2.specs.Added.{same-lookup}
 use Rattle.demand2.specs.Lineage.{mem-dec}
 use Rattle.demand2.specs.Mounted.{agreed-inodes}
-use Rattle.demand2.specs.Found.{passed-check, lookup-nine, lookup-refused, root-there, found-lives, resolved, resolve-alike, read-given, read-kept}
+use Rattle.demand2.specs.Found.{passed-check, path-eight, root-there, found-lives, resolved, resolve-alike, read-given, read-kept}
 use Rattle.demand2.specs.NewRecord.{block-made}
+use Rattle.demand2.specs.Append.{text-goes, not-broken}
 use Rattle.demand2_overwrite.specs.Versions.{changedId, Meant, AllRenewed, all-renewed, inodes-kept}
 use Rattle.demand2_overwrite.specs.Blocks.{held, BlocksAfter, ChangeOf, each-change, changes-once, no-changes, blocks-after}
 use Rattle.demand2_overwrite.specs.Blocks.{after-ids, after-lengths, after-headers, after-text}
@@ -82,13 +83,9 @@ pub record OverwriteGoes (image : Bytes) (ds : List Descriptor) (base path : Byt
   pub goes : overwriting image ds base path offset text ≡ goes file
 
 module _ (image : Bytes) (ds : List Descriptor) (base path : Bytes) (offset : ℕ) (text : Bytes) where
+  -- the volume before
   abbrev before : Volume Bytes
   before = volume image ds
-
-  whole : (f : ℕ) (o : Option (List Bytes)) → fileBlocks byBytes before f ≡ o → isBroken o ≡ false
-      → (l : List Bytes) × (fileBlocks byBytes before f ≡ some l)
-  whole f none q z = let y : _≡_ {A = ℕ} 0 1 = cc in absurd (omega arith)
-  whole f (some l) q z = (l, q)
 
   -- the checks of `overwriteTo`
   checked : (f : ℕ) → overwriteTo image ds f offset text ≡ 0
@@ -105,37 +102,36 @@ module _ (image : Bytes) (ds : List Descriptor) (base path : Bytes) (offset : �
       let d = passed-check (isAmong lastSequence (map (λ c. recordSequence (c .block)) (changes bs offset text))) 15 _ (c .1) in
       let g = passed-check (noPlace (overwritePlan image ds f offset text)) 14 0 (d .1) in (
         a .0,
-        whole f (fileBlocks byBytes before f) refl (b .0),
+        not-broken (fileBlocks byBytes before f) (b .0),
         nltb→le (length (textOf byBytes bs)) (offset + length text) (rw (c .0) tt),
         d .0,
         place-found (overwritePlan image ds f offset text) (g .0),
       )
 
+  -- check 16
   none-last : (bs : List Bytes) → isAmong lastSequence (map (λ c. recordSequence (c .block)) (changes bs offset text)) ≡ false
       → (c : Change) → List·Memᴰ c (changes bs offset text) → recordSequence (c .block) ≢ lastSequence
   none-last bs e c m z = not-among lastSequence (map (λ c. recordSequence (c .block)) (changes bs offset text)) (λ t. rw e at t)
       (Memᴰ·cast (sym z) (Memᴰ·map (λ (c : Change). recordSequence (c .block)) m))
 
+  -- those of the path, and these
   pub overwrite-goes : overwriteOf image ds base path offset text ≡ 0 → OverwriteGoes image ds base path offset text
   unfolding overwriteOf overwriting overwritePlan
   overwrite-goes e =
-      let w = attempt-goes (mountNumber image ds) (λ f. overwriteTo image ds f offset text)
-      (not (goodPath base path) || ltb mostAppended (length text)) (lookupNames byBytes before (pathNames base path))
-      (lookup-refused byBytes before (pathNames base path)) e in
-      let o = or-is-false (not (goodPath base path)) (ltb mostAppended (length text)) (w .good) in
-      let c = checked (w .inode) (w .checked) in
+      let w = text-goes image ds base path text (λ f. overwriteTo image ds f offset text) e in
+      let c = checked (w .file) (w .checked) in
       let old = c .1 .0 in
-      let is : oldBlocks image ds (w .inode) ≡ old = rw (c .1 .1) in
+      let is : oldBlocks image ds (w .file) ≡ old = rw (c .1 .1) in
       record {
         mounted = w .mounted;
-        good = not-is-false (goodPath base path) (o .0);
-        file = w .inode;
+        good = w .good;
+        file = w .file;
         found-there = w .found-there;
         no-directory = c .0;
         old = old;
         not-broken = c .1 .1;
         within = rw is at (c .2);
-        not-last = rw is at (none-last (oldBlocks image ds (w .inode)) (c .3));
+        not-last = rw is at (none-last (oldBlocks image ds (w .file)) (c .3));
         stores = c .4 .0;
         placed = rw is at (c .4 .1);
         image-is = rw (c .4 .1);
@@ -270,9 +266,11 @@ module _ (image : Bytes) (ds : List Descriptor) (base path : Bytes) (offset : �
   blocks : FileBlocks byBytes v f old
   blocks = file-blocks byBytes v (λ r m e. omega (arith, volume-sound image ds .block-id r m .1)) f old (g .not-broken)
 
+  -- and so they are the volume's
   there : (b : Bytes) → List·Memᴰ b old → List·Memᴰ b (v .blocks)
   there b m = counting-mem byBytes (v .blocks) (recordId b) b (blocks .counts b m) .0
 
+  -- and bytes, as is what the file will hold
   block-octets : (b : Bytes) → List·Memᴰ b old → Octets b
   block-octets b m = record-octets image ds octets-image b (block-ruled image ds b (there b m) .accepted)
 
@@ -302,6 +300,7 @@ module _ (image : Bytes) (ds : List Descriptor) (base path : Bytes) (offset : �
         octets = k .octets;
       }
 
+  -- and is written
   made : (c : Change) → List·Memᴰ c cs → Meant c
   unfolding newVersion
   made c m = block-made (changedId c) (suc (recordSequence (c .block))) (recordLink (c .block)) (blockPrevious (c .block)) (c .text) (meant c m)
@@ -310,19 +309,23 @@ module _ (image : Bytes) (ds : List Descriptor) (base path : Bytes) (offset : �
   each : (P : Bytes → Type 0) → ((c : Change) → Meant c → P (newVersion c)) → (b : Bytes) → List·Memᴰ b (map newVersion cs) → P b
   each P h b m = let r = Memᴰ·of-map newVersion cs m in rw (← r .2) (h (r .0) (made (r .0) (r .1)))
 
+  -- where they went
   all-went : Written ds image (map newVersion cs) image′
   unfolding imageOverwritten
   all-went = rw (imageOverwritten, g .goes, g .image-is) (all-placed ds image (map newVersion cs) (g .stores) (p .described)
       (each (Whole recordSize) (λ c k. k .whole)) (g .placed))
 
+  -- of each block one new version
   once : Nodup (map changedId cs)
   unfolding changes
   once = changes-once offset (offset + length text) after 0 old (blocks .once)
 
+  -- what holds of any new versions
   renewed : AllRenewed image image′ ds cs
   renewed = all-renewed ds cs image image′ p once
       (λ c m. record { counts = blocks .counts (c .block) (change-of c m .block-there); is = made c m }) all-went
 
+  -- the image still mounts
   still-mounts : mountNumber image′ ds ≡ 0
   still-mounts = mounts image′ ds (renewed .passes)
 
@@ -343,6 +346,7 @@ module _ (image : Bytes) (ds : List Descriptor) (base path : Bytes) (offset : �
           (rw (r .2) at (renewed .here (r .0) (r .1)))
       go (no m) = as-it-was (renewed .others i m)
 
+  -- each belongs to the file that it belonged to
   same-owns : (h i : ℕ) → owns byBytes (blockOf byBytes w) h i ≡ owns byBytes (blockOf byBytes v) h i
   unfolding owns
   same-owns h i = go (now i)
@@ -359,6 +363,7 @@ module _ (image : Bytes) (ds : List Descriptor) (base path : Bytes) (offset : �
   abbrev turned : Bytes → Bytes
   turned b = orSame b (blockOf byBytes w (recordId b))
 
+  -- it names the block that b named
   still-there : (i : ℕ) (r : Bytes) → blockOf byBytes v i ≡ some r → T (owns byBytes (blockOf byBytes v) f i)
       → (blockOf byBytes w i ≡ some (turned r)) × (blockPrevious (turned r) ≡ blockPrevious r)
   still-there i r e t = go (now i)
@@ -377,9 +382,11 @@ module _ (image : Bytes) (ds : List Descriptor) (base path : Bytes) (offset : �
   abbrev new : List Bytes
   new = map turned old
 
+  -- they are a whole file
   new-whole : fileBlocks byBytes w f ≡ some new
   new-whole = blocks-map byBytes v w f turned (same-owns f) still-there ∙ rw (g .not-broken)
 
+  -- as told block by block
   new-blocks : BlocksAfter offset (offset + length text) after 0 old new (map newVersion cs)
   unfolding changes
   new-blocks = blocks-after offset (offset + length text) after turned 0 old (blocks .once)
@@ -402,12 +409,13 @@ module _ (image : Bytes) (ds : List Descriptor) (base path : Bytes) (offset : �
       go i t (new-version c m a b) = absurd (n (mine i (c .block) a t ∙ blocks .owner (c .block) (change-of c m .block-there)))
       go i t (as-it-was e) = e
 
-  -- the records that are written
+  -- the records that are written count
   counted : (b : Bytes) → List·Memᴰ b (map newVersion cs) → blockOf byBytes w (recordId b) ≡ some b
   counted b m =
       let r = Memᴰ·of-map newVersion cs m in
       rw (← r .2, made (r .0) (r .1) .id-is) (renewed .here (r .0) (r .1))
 
+  -- and have the ids of the changes
   renewed-id : (i : ℕ) → List·Memᴰ i (map changedId cs) → List·Memᴰ i (map recordId (map newVersion cs))
   renewed-id i m =
       let r = Memᴰ·of-map changedId cs m in
@@ -415,10 +423,12 @@ module _ (image : Bytes) (ds : List Descriptor) (base path : Bytes) (offset : �
 
   -- ---- inodes
 
+  -- only blocks were written
   same-inodes : w .inodes ≡ v .inodes
   same-inodes = inodes-kept image image′ ds (map newVersion cs) (each (λ b. byBytes .isBlock b ≡ true) (λ c k. k .is-block))
       (written-areas ds (p .described) all-went) (areas-grown ds (p .described) all-went)
 
+  -- so that all that turns on inodes is as it was
   new-fates : (i : ℕ) → fateOf byBytes w i ≡ fateOf byBytes v i
   unfolding fateOf
   new-fates i = rw same-inodes
@@ -437,18 +447,21 @@ module _ (image : Bytes) (ds : List Descriptor) (base path : Bytes) (offset : �
 
   -- ---- what is read
 
+  -- the file lives
   root : (r : Bytes) × (inodeOf byBytes v rootId ≡ some r)
   root = root-there v (p .root)
 
   lives : fateOf byBytes v f ≡ live
   lives = found-lives byBytes v (root .0) (root .1) (pathNames base path) f (g .found-there)
 
+  -- what it holds, and that it is as long
   new-text : textOf byBytes new ≡ after
   new-text = after-text old new (map newVersion cs) offset text (g .within) new-blocks
 
   long : length after ≡ length was
   long = length-put was offset text (g .within)
 
+  -- a read of it, before and afterwards
   read-before : (position room : ℕ)
       → readGiven image ds f position room ≡ cond (leb position (length was)) (giveBlocks old position room) (refused 14)
   unfolding give
@@ -561,15 +574,10 @@ overwrite-nothing image ds base path offset = go (overwriting image ds base path
 pub never-five : (image : Bytes) (ds : List Descriptor) (base path : Bytes) (offset : ℕ) (text : Bytes) → mountNumber image ds ≡ 0
     → overwriteOf image ds base path offset text ≢ 5
 unfolding overwriteOf overwriting overwriteTo attemptAt all
-never-five image ds base path offset text m e = found-never 5 _ (cond bad (absent 8) walked) (λ z. omega arith) (led bad)
+never-five image ds base path offset text m e =
+    found-never 5 _ (cond bad (absent 8) (lookupNames byBytes (volume image ds) (pathNames base path))) (λ z. omega arith)
+    (λ r q z. omega (arith, path-eight byBytes (volume image ds) bad (pathNames base path) r q))
     (λ i. never 5 _ (λ z. omega arith) tt) (rw (overwriteOf, overwriting, attemptAt, m) at e)
   where
     bad : Bool
     bad = not (goodPath base path) || ltb mostAppended (length text)
-
-    walked : Found
-    walked = lookupNames byBytes (volume image ds) (pathNames base path)
-
-    led : (b : Bool) (r : ℕ) → cond b (absent 8) walked ≡ absent r → r ≢ 5
-    led true r q z = let y : 8 ≡ r = cc in omega arith
-    led false r q z = omega (arith, lookup-nine byBytes (volume image ds) (pathNames base path) r q)

@@ -71,6 +71,7 @@ module _ (image : Bytes) (ds : List Descriptor) (p : Passes image ds) (c : Chang
   abbrev w : Volume Bytes
   w = volume image′ ds
 
+  -- what becomes of the image
   stored : OneStored image image′ ds area b
   stored = one-stored image ds (p .described) area b fits (g .is .whole)
 
@@ -89,10 +90,11 @@ module _ (image : Bytes) (ds : List Descriptor) (p : Passes image ds) (c : Chang
   added : Added byBytes (v .blocks) (w .blocks) b
   added = blocks-added stored (fits .file) newer (g .is .is-block)
 
+  -- and the inode records as they were
   same-inodes : Same (v .inodes) (w .inodes)
   same-inodes = inodes-same stored (fits .file) newer (g .is .is-block)
 
-  -- and no id more
+  -- and no id is new
   same-ids : Alike (blockIds byBytes w) (blockIds byBytes v)
   same-ids = known-ids byBytes (v .blocks) (w .blocks) b added (agreed-blocks image ds p)
       (Memᴰ·cast (g .is .id-is) (ids-of byBytes (v .blocks) .each (changedId c) (c .block) (g .counts)))
@@ -103,9 +105,11 @@ module _ (image : Bytes) (ds : List Descriptor) (p : Passes image ds) (c : Chang
       (omega (arith, same-count byBytes (v .inodes) (w .inodes) same-inodes (agreed-inodes image ds p), ids-few v (p .few) .0))
       (omega (arith, alike-length (blockIds byBytes w) (blockIds byBytes v) same-ids, ids-few v (p .few) .1)))
 
+  -- what counts
   changed : Changed byBytes (blockOf byBytes v) (blockOf byBytes w) b
   changed = added-changed byBytes (v .blocks) (w .blocks) b added (agreed-blocks image ds p)
 
+  -- all of it
   one-renewed : AllRenewed image image′ ds (c ∷ [])
   one-renewed = record {
     passes = still;
@@ -184,6 +188,7 @@ inodes-in image image′ bs are (d ∷ fs) grown =
             let r = Memᴰ·of-map (λ (p : Placed). p .bytes) (g .more) m in
             ap not (are b (Memᴰ·cast (sym (r .2)) (g .new (r .0) (r .1))))
 
+-- and so of an image
 pub inodes-kept : (image image′ : Bytes) (ds : List Descriptor) (bs : List Bytes) → ((b : Bytes) → List·Memᴰ b bs → byBytes .isBlock b ≡ true)
     → fileAreas image′ ds ≡ fileAreas image ds → ((d : Descriptor) → List·Memᴰ d ds → AreaGrown image image′ d bs)
     → volume image′ ds .inodes ≡ volume image ds .inodes

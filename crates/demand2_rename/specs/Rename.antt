@@ -40,7 +40,7 @@ use Rattle.calls_laws.specs.Unused.{not-among}
 use Rattle.demand2.specs.Store.{OneStored}
 use Rattle.demand2.specs.Names.{GoodName, good-name, last-mem, names-split}
 use Rattle.demand2.specs.Found.{passed-check, root-there, directory-low, free-child, found-lives, names-found, found-once}
-use Rattle.demand2.specs.Found.{lookup-nine, lookup-refused, resolved, resolve-good, resolve-found, resolve-alike, read-kept}
+use Rattle.demand2.specs.Found.{path-eight, lookup-refused, resolved, resolve-good, resolve-found, resolve-alike, read-kept}
 use Rattle.demand2.specs.Lineage.{found-named, found-sole, lookup-free}
 use Rattle.demand2.specs.NewRecord.{child-rule, IsInode, WrittenOne}
 use Rattle.demand2.specs.Rewritten.{Rewrites, rewrite-checked, AfterRewrite, inode-low, rewrite}
@@ -240,8 +240,9 @@ own-beginning image ds base old new ns e z = apart image ds base old new (rename
 -- "For a write, 5 is tested again": a rename makes no new id, and never answers 5
 pub never-five : (image : Bytes) (ds : List Descriptor) (base old new : Bytes) → mountNumber image ds ≡ 0 → renameOf image ds base old new ≢ 5
 unfolding renameOf renaming moving attemptAt moveNumber all
-never-five image ds base old new m e = found-never 5 _ (cond bad (absent 8) walked) (λ z. omega arith) (refused bad)
-    (λ i. found-never 5 _ (lookupNames byBytes (volume image ds) (namesBefore names)) (λ z. omega arith) (led (namesBefore names))
+never-five image ds base old new m e =
+    found-never 5 _ (cond bad (absent 8) (lookupNames byBytes (volume image ds) (pathNames base old))) (λ z. omega arith) (led bad (pathNames base old))
+    (λ i. found-never 5 _ (lookupNames byBytes (volume image ds) (namesBefore names)) (λ z. omega arith) (led false (namesBefore names))
     (λ d. never 5 _ (λ z. omega arith) tt)) (rw (renameOf, renaming, attemptAt, m) at e)
   where
     names : List Bytes
@@ -250,15 +251,8 @@ never-five image ds base old new m e = found-never 5 _ (cond bad (absent 8) walk
     bad : Bool
     bad = not (goodPath base old) || not (goodPath base new) || isRoot names
 
-    walked : Found
-    walked = lookupNames byBytes (volume image ds) (pathNames base old)
-
-    led : (ns : List Bytes) (r : ℕ) → lookupNames byBytes (volume image ds) ns ≡ absent r → r ≢ 5
-    led ns r q z = omega (arith, lookup-nine byBytes (volume image ds) ns r q)
-
-    refused : (b : Bool) (r : ℕ) → cond b (absent 8) walked ≡ absent r → r ≢ 5
-    refused true r q z = let y : 8 ≡ r = cc in omega arith
-    refused false r q z = led (pathNames base old) r q z
+    led : (b : Bool) (ns : List Bytes) (r : ℕ) → cond b (absent 8) (lookupNames byBytes (volume image ds) ns) ≡ absent r → r ≢ 5
+    led b ns r q z = omega (arith, path-eight byBytes (volume image ds) b ns r q)
 
 -- ---- what it makes of the image
 

@@ -19,6 +19,7 @@ use Rattle.volume_laws.specs.Lists.{map-append}
 use Rattle.volume_laws.specs.Once.{Nodup}
 use Rattle.volume_laws.specs.Counting.{counting-mem, counting-absent}
 
+-- one more that is not there yet
 nodup-snoc : (l : List ℕ) (x : ℕ) → Nodup l → ¬ List·Memᴰ x l → Nodup (l ++ (x ∷ []))
 nodup-snoc [] x n h = (List·Memᴰ·not-nil, tt)
 nodup-snoc (y ∷ l) x n h = (
@@ -37,6 +38,7 @@ module _ {A : Type 0} (F : View A) (c : ℕ → Option A) (f : ℕ) (own-id : (i
     goes-on : chainBack F c f k (F .previous last) ≡ some before
     split : bs ≡ before ++ (last ∷ [])
 
+  -- a chain of some blocks has them
   chain-step : (k i : ℕ) (bs : List A) → chainBack F c f (suc k) i ≡ some bs → Step k i bs
   unfolding chainBack
   chain-step k i bs e = go (owns F c f i) refl (c i) refl e
@@ -52,6 +54,7 @@ module _ {A : Type 0} (F : View A) (c : ℕ → Option A) (f : ℕ) (own-id : (i
       go true t none q z = let x : _≡_ {A = ℕ} 0 1 = cc in absurd (omega arith)
       go true t (some r) q z = at-end r q (true→T t) (chainBack F c f k (F .previous r)) refl z
 
+  -- a chain of none starts at NONE
   chain-end : (i : ℕ) (bs : List A) → chainBack F c f zero i ≡ some bs → (i ≡ NONE) × (bs ≡ [])
   unfolding chainBack
   chain-end i bs e = go (eqb i NONE) refl e
@@ -60,6 +63,7 @@ module _ {A : Type 0} (F : View A) (c : ℕ → Option A) (f : ℕ) (own-id : (i
       go true q z = (eqb→eq i NONE (true→T q), cc)
       go false q z = let x : _≡_ {A = ℕ} 0 1 = cc in absurd (omega arith)
 
+  -- and one of some does not
   none-first : (k i : ℕ) (bs : List A) → i ≡ NONE → chainBack F c f (suc k) i ≡ some bs → ⊥
   none-first k i bs e q =
       let s = chain-step k i bs q in
@@ -89,6 +93,7 @@ module _ {A : Type 0} (F : View A) (c : ℕ → Option A) (f : ℕ) (own-id : (i
     before : List A
     from-it : chainBack F c f (suc rest) (F .id r) ≡ some before
 
+  -- each block of a chain is so
   chain-each : (k i : ℕ) (bs : List A) → chainBack F c f k i ≡ some bs → (r : A) → List·Memᴰ r bs → Within k r
   chain-each zero i bs e r m = absurd (List·Memᴰ·not-nil (rw (chain-end i bs e .1) at m))
   chain-each (suc k) i bs e r m =
@@ -119,6 +124,7 @@ module _ {A : Type 0} (F : View A) (c : ℕ → Option A) (f : ℕ) (own-id : (i
             from-it = rw z e;
           }
 
+  -- so that none comes twice: it would have two numbers of blocks behind it
   chain-nodup : (k i : ℕ) (bs : List A) → chainBack F c f k i ≡ some bs → Nodup (map (F .id) bs)
   chain-nodup zero i bs e = rw (chain-end i bs e .1) tt
   chain-nodup (suc k) i bs e =
@@ -143,6 +149,7 @@ pub record FileBlocks {A : Type 0} (F : View A) (v : Volume A) (f : ℕ) (bs : L
   -- none stands there twice
   pub once : Nodup (map (F .id) bs)
 
+-- where NONE is no block
 pub file-blocks : {A : Type 0} (F : View A) (v : Volume A) → ((r : A) → List·Memᴰ r (v .blocks) → F .id r ≢ NONE)
     → (f : ℕ) (bs : List A) → fileBlocks F v f ≡ some bs → FileBlocks F v f bs
 unfolding fileBlocks owns
