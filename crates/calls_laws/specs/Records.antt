@@ -1,15 +1,16 @@
 -- The records of an image's file areas, by membership: each is acceptable, so that the volume they make is sound.
 use Prim.Native.Nat.{_≤_, _<_}
-use mathlib.Core.Path.{_≡_, refl, sym, ap}
+use mathlib.Core.Path.{_≡_, refl, sym, ap, _∙_}
 use mathlib.Core.Logic.{inl, inr, ⊎-elim}
 use mathlib.Core.List.{List, [], _∷_, List·Memᴰ, List·Memᴰ·head, List·Memᴰ·tail, List·Memᴰ·append-cases, List·Memᴰ·not-nil}
 use mathlib.Core.List.{Memᴰ·append-left, Memᴰ·append-right, Memᴰ·map, Memᴰ·of-map, Memᴰ·cast}
 use native.Mathlib.Omega.{arith}
 use lib.ListN.{length, take, drop, length-take, length-drop}
+use lib.Seq.{length-take-le, take-take}
 use Rattle.format.specs.Bytes.{Bytes}
 use Rattle.format.specs.AreaHeader.{areaHeaderSize}
 use Rattle.format.specs.Record.{inode, block, recordSize}
-use Rattle.format.specs.Reading.{Placed}
+use Rattle.format.specs.Reading.{Placed, areaRecords}
 use Rattle.format_laws.specs.Record.{kind-formed, Stands, an-inode, a-block, nothing, stands}
 use Rattle.format_laws.specs.Reading.{records-lawful}
 use Rattle.format_laws.specs.Taken.{records-from, from-each}
@@ -51,6 +52,33 @@ stored-mem image fs b s = go fs (s .listed)
         let m : List·Memᴰ (s .one) (recordsOf image d) = rw e at (s .taken-there) in
         Memᴰ·append-left (recordsIn image l) (Memᴰ·cast (sym (s .bytes-are)) (Memᴰ·map (λ (p : Placed). p .bytes) m))
     go (d ∷ l) (List·Memᴰ·tail m) = Memᴰ·append-right (bytesOf (recordsOf image d)) (go l m)
+
+-- ---- a record that is taken is whole
+
+front-whole : (t : Bytes) → 0 < recordSize t
+    → (0 < length (take (recordSize t) t)) × (recordSize (take (recordSize t) t) ≡ length (take (recordSize t) t))
+front-whole t h =
+    let l = length-take-le (recordSize t) t (records-lawful .inside t) in
+    (omega arith, records-lawful .local t (take (recordSize t) t) h (take-take (recordSize t) (recordSize t) t (omega arith)) ∙ sym l)
+
+-- in an area
+pub taken-whole : (area b : Bytes) → List·Memᴰ b (bytesOf (areaRecords recordSize area)) → (0 < length b) × (recordSize b ≡ length b)
+taken-whole area b m =
+    let r = Memᴰ·of-map (λ (p : Placed). p .bytes) (areaRecords recordSize area) m in
+    rw (← r .2) (at (r .0) (r .1))
+  where
+    at : (p : Placed) → List·Memᴰ p (areaRecords recordSize area) → (0 < length (p .bytes)) × (recordSize (p .bytes) ≡ length (p .bytes))
+    at p k =
+        let t = from-each recordSize records-lawful area areaHeaderSize p (rw (records-from recordSize area) at k) in
+        rw (t .is) (front-whole (drop (p .place) area) (t .accepted))
+
+-- in areas
+pub records-whole : (image : Bytes) (fs : List Descriptor) (b : Bytes) → List·Memᴰ b (recordsIn image fs) → (0 < length b) × (recordSize b ≡ length b)
+records-whole image fs b m =
+    let s = stored image fs b m in
+    taken-whole (areaBytes image (s .area)) b (Memᴰ·cast (sym (s .bytes-are)) (Memᴰ·map (λ (p : Placed). p .bytes) (s .taken-there)))
+
+-- ---- and acceptable
 
 -- the bytes at which a record is taken are acceptable
 front-acceptable : (t : Bytes) → 0 < recordSize t → Acceptable (take (recordSize t) t)

@@ -1,22 +1,17 @@
 -- The records that survive a collection: all that is said of the copies stands in one record.
 use Prim.Native.Nat.{_≤_, _<_}
-use mathlib.Core.Path.{_≡_, refl, sym, ap, _∙_}
+use mathlib.Core.Path.{_≡_, refl, sym, ap}
 use mathlib.Core.Logic.{_⊎_, inl, inr, _≢_, ⊎-elim}
 use mathlib.Core.Bool.{Bool, true, false, not, _&&_, _||_}
 use mathlib.Core.Option.{Option, none, some}
 use mathlib.Core.List.{List, [], _∷_, _++_, List·Memᴰ, List·Memᴰ·head, List·Memᴰ·tail, List·Memᴰ·cases-cons, Memᴰ·append-left, Memᴰ·append-right}
-use mathlib.Core.List.{Memᴰ·of-map}
 use native.Mathlib.Decide.{ℕ-discrete}
-use native.Mathlib.Omega.{arith}
-use lib.ListN.{length, take, drop}
-use lib.Seq.{length-take-le, take-take}
+use lib.ListN.{length, drop}
 use lib.Dec.{T, eqb, eqb-refl, T-not}
 use Rattle.format.specs.Bytes.{Bytes}
 use Rattle.format.specs.AreaHeader.{areaHeaderSize}
 use Rattle.format.specs.Record.{recordSize, recordId, recordLink}
-use Rattle.format.specs.Reading.{Placed, areaRecords}
-use Rattle.format_laws.specs.Reading.{records-lawful}
-use Rattle.format_laws.specs.Taken.{records-from, from-each}
+use Rattle.format.specs.Reading.{areaRecords}
 use Rattle.volume.specs.Lists.{keep, all, has, same}
 use Rattle.volume.specs.View.{byBytes}
 use Rattle.volume.specs.Counting.{Volume, inodeOf, blockOf}
@@ -25,6 +20,7 @@ use Rattle.volume_laws.specs.Tests.{true→T, and-T, T-and, T-other, eqb-self}
 use Rattle.volume_laws.specs.Lists.{keep-mem, mem-keep, all-mem, same-refl, same-eq}
 use Rattle.calls.specs.Mount.{bytesOf}
 use Rattle.calls.specs.Collect.{counts, firstPlaces, dropsBlock, namesInode, dropsInode, drops, copies}
+use Rattle.calls_laws.specs.Records.{taken-whole}
 use Rattle.image_laws.specs.Stores.{joinedBytes}
 use Rattle.collect_laws.specs.Room.{copies-fit}
 
@@ -59,24 +55,6 @@ pub record Survivors (v : Volume Bytes) (area : Bytes) (elsewhere bs : List Byte
       → List·Memᴰ b bs ⊎ (¬ List·Memᴰ b bs × InodeLeft v (bytesOf (areaRecords recordSize area)) elsewhere b)
   pub block-kept : (b : Bytes) → List·Memᴰ b (bytesOf (areaRecords recordSize area)) → byBytes .isBlock b ≡ true
       → blockOf byBytes v (recordId b) ≡ some b → List·Memᴰ b bs ⊎ (¬ List·Memᴰ b bs × BlockLeft v elsewhere b)
-
--- ---- a record that is taken is whole
-
-module _ (area : Bytes) where
-  front-whole : (t : Bytes) → 0 < recordSize t → (0 < length (take (recordSize t) t)) × (recordSize (take (recordSize t) t) ≡ length (take (recordSize t) t))
-  front-whole t h =
-      let l = length-take-le (recordSize t) t (records-lawful .inside t) in
-      (omega arith, records-lawful .local t (take (recordSize t) t) h (take-take (recordSize t) (recordSize t) t (omega arith)) ∙ sym l)
-
-  taken-whole : (b : Bytes) → List·Memᴰ b (bytesOf (areaRecords recordSize area)) → (0 < length b) × (recordSize b ≡ length b)
-  taken-whole b m =
-      let r = Memᴰ·of-map (λ (p : Placed). p .bytes) (areaRecords recordSize area) m in
-      rw (← r .2) (at (r .0) (r .1))
-    where
-      at : (p : Placed) → List·Memᴰ p (areaRecords recordSize area) → (0 < length (p .bytes)) × (recordSize (p .bytes) ≡ length (p .bytes))
-      at p k =
-          let t = from-each recordSize records-lawful area areaHeaderSize p (rw (records-from recordSize area) at k) in
-          rw (t .is) (front-whole (drop (p .place) area) (t .accepted))
 
 -- ---- each record once
 

@@ -11,6 +11,7 @@ use Rattle.calls.specs.Create.{createOf, imageCreated}
 use Rattle.calls.specs.Append.{appendOf, imageAppended}
 use Rattle.calls.specs.Unlink.{unlinkOf, imageUnlinked}
 use Rattle.calls.specs.Rename.{renameOf, imageRenamed}
+use Rattle.calls.specs.Overwrite.{overwriteOf, imageOverwritten}
 use Rattle.calls.specs.Collect.{collectOf, imageCollected}
 use Rattle.calls.specs.declared.Descriptor.{Descriptor}
 use Rattle.demand2.specs.Store.{SameHeaders}
@@ -24,6 +25,8 @@ pub record CallsKeep (image : Bytes) (ds : List Descriptor) : Type 0 where
   pub append : (base path text : Bytes) → Octets text → SameHeaders image (imageAppended image ds base path text) ds
   pub unlink : (base path : Bytes) → Octets image → SameHeaders image (imageUnlinked image ds base path) ds
   pub rename : (base old new : Bytes) → Octets image → Octets base → Octets new → SameHeaders image (imageRenamed image ds base old new) ds
+  pub overwrite : (base path : Bytes) (offset : ℕ) (text : Bytes) → Octets image → Octets text
+      → SameHeaders image (imageOverwritten image ds base path offset text) ds
   pub refused-format : formatNumber image ds ≢ 0 → SameHeaders image (imageFormatted image ds) ds
   pub refused-collect : collectOf image ds ≢ 0 → SameHeaders image (imageCollected image ds) ds
 
@@ -37,6 +40,7 @@ calls-keep image ds = record {
   append = λ base path text t. appended base path text t (ℕ-discrete (appendOf image ds base path text) 0);
   unlink = λ base path o. unlinked base path o (ℕ-discrete (unlinkOf image ds base path) 0);
   rename = λ base old new o b p. renamed base old new o b p (ℕ-discrete (renameOf image ds base old new) 0);
+  overwrite = λ base path offset text o t. overwritten base path offset text o t (ℕ-discrete (overwriteOf image ds base path offset text) 0);
   refused-format = λ n. unchanged image (imageFormatted image ds) ds (is .refused .format n);
   refused-collect = λ n. unchanged image (imageCollected image ds) ds (is .refused .collect n);
 }
@@ -61,6 +65,12 @@ calls-keep image ds = record {
         → SameHeaders image (imageRenamed image ds base old new) ds
     renamed base old new o b p (yes e) = is .renames base old new o b p e .stored .headers
     renamed base old new o b p (no n) = unchanged image (imageRenamed image ds base old new) ds (is .refused .rename base old new n)
+
+    overwritten : (base path : Bytes) (offset : ℕ) (text : Bytes) → Octets image → Octets text
+        → Dec (overwriteOf image ds base path offset text ≡ 0) → SameHeaders image (imageOverwritten image ds base path offset text) ds
+    overwritten base path offset text o t (yes e) = is .overwrites base path offset text o t e .headers
+    overwritten base path offset text o t (no n) =
+        unchanged image (imageOverwritten image ds base path offset text) ds (is .refused .overwrite base path offset text n)
 
 -- a collect that is accepted has a source, with which a run goes on
 pub accepted-collect : (image : Bytes) (ds : List Descriptor) → collectOf image ds ≡ 0

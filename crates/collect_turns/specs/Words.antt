@@ -32,8 +32,8 @@ times d (s ∷ l) = cond (sameArea d s) 1 0 + times d l
 
 -- ---- what happens to a volume
 
--- collections of the areas l, in this order, and between them anything that leaves the areas' headers as they are, as create, append, unlink and
--- rename do
+-- collections of the areas l, in this order, and between them anything that leaves the areas' headers as they are, as create, append, unlink,
+-- rename and overwrite do
 pub data Run (ds : List Descriptor) : Bytes → List Descriptor → Bytes → Type 0 where
   ends : {image : Bytes} → Run ds image [] image
   keeps : {image between image′ : Bytes} {l : List Descriptor} → SameHeaders image between ds → Run ds between l image′ → Run ds image l image′

@@ -30,9 +30,9 @@ use Rattle.calls.specs.Refusal.{firstRefusal}
 use Rattle.calls.specs.Areas.{areaBytes, fileAreas}
 use Rattle.calls.specs.Mount.{mostBlocks, volume, mountNumber}
 use Rattle.calls.specs.Storing.{Store, spaces, placeAll, storeAll, noPlace, namedIds}
-use Rattle.calls.specs.Attempt.{Attempt, goes, refuses, leaves}
+use Rattle.calls.specs.Attempt.{Attempt, goes, refuses, numberOf, leaves}
 use Rattle.calls.specs.Append.{mostAppended, shortestLength, cutInto, piecesOf, blockRecords, newBlocks, isBroken}
-use Rattle.calls.specs.Append.{appendTo, appending, appendImage, appendOf, imageAppended}
+use Rattle.calls.specs.Append.{appendTo, attemptText, appending, appendImage, appendOf, imageAppended}
 use Rattle.calls.specs.declared.Descriptor.{Descriptor}
 use Rattle.calls.specs.Lookup.{resolve}
 use Rattle.calls.specs.Read.{given, refused, giveBlocks, give, readGiven}
@@ -63,6 +63,34 @@ nothing-cut : (image : Bytes) (ds : List Descriptor) (f : ℕ) (text : Bytes) �
 unfolding newBlocks piecesOf cutInto blockRecords
 nothing-cut image ds f [] e = refl
 nothing-cut image ds f (b ∷ l) e = let z : _≡_ {A = ℕ} 0 1 = cc in absurd (omega arith)
+
+-- what a text for what a path leads to has passed, whatever the checks of the call: an append, and document 02's overwrite
+pub record TextGoes (image : Bytes) (ds : List Descriptor) (base path text : Bytes) (checks : ℕ → ℕ) : Type 0 where
+  pub mounted : mountNumber image ds ≡ 0
+  pub good : goodPath base path ≡ true
+  pub file : ℕ
+  pub found-there : lookupNames byBytes (volume image ds) (pathNames base path) ≡ found file
+  pub checked : checks file ≡ 0
+  pub goes-on : attemptText image ds base path text checks ≡ goes file
+
+pub text-goes : (image : Bytes) (ds : List Descriptor) (base path text : Bytes) (checks : ℕ → ℕ)
+    → numberOf (attemptText image ds base path text checks) ≡ 0 → TextGoes image ds base path text checks
+text-goes image ds base path text checks e =
+    let w = attempt-goes (mountNumber image ds) checks (not (goodPath base path) || ltb mostAppended (length text))
+    (lookupNames byBytes (volume image ds) (pathNames base path)) (lookup-refused byBytes (volume image ds) (pathNames base path)) e in
+    record {
+      mounted = w .mounted;
+      good = not-is-false (goodPath base path) (or-is-false (not (goodPath base path)) (ltb mostAppended (length text)) (w .good) .0);
+      file = w .inode;
+      found-there = w .found-there;
+      checked = w .checked;
+      goes-on = w .goes-on;
+    }
+
+-- a file that passes check 13 has its blocks
+pub not-broken : (o : Option (List Bytes)) → isBroken o ≡ false → (l : List Bytes) × (o ≡ some l)
+not-broken none z = let y : _≡_ {A = ℕ} 0 1 = cc in absurd (omega arith)
+not-broken (some l) z = (l, refl)
 
 -- what an accepted append found
 pub record AppendGoes (image : Bytes) (ds : List Descriptor) (base path text : Bytes) : Type 0 where
@@ -97,26 +125,19 @@ module _ (image : Bytes) (ds : List Descriptor) (base path text : Bytes) where
       let d = passed-check (noPlace (placing f)) 14 0 (c .1) in (
         a .0,
         nltb→le mostBlocks (length (blockIds byBytes before) + length (newBlocks image ds f text)) (rw (c .0) tt),
-        whole (fileBlocks byBytes before f) refl (b .0),
+        not-broken (fileBlocks byBytes before f) (b .0),
         place-found (placing f) (d .0),
       )
-    where
-      whole : (o : Option (List Bytes)) → fileBlocks byBytes before f ≡ o → isBroken o ≡ false
-          → (l : List Bytes) × (fileBlocks byBytes before f ≡ some l)
-      whole none q z = let y : _≡_ {A = ℕ} 0 1 = cc in absurd (omega arith)
-      whole (some l) q z = (l, q)
 
   pub append-goes : appendOf image ds base path text ≡ 0 → AppendGoes image ds base path text
   unfolding appendOf appending
   append-goes e =
-      let w = attempt-goes (mountNumber image ds) (λ f. appendTo image ds f text) (not (goodPath base path) || ltb mostAppended (length text))
-      (lookupNames byBytes before (pathNames base path)) (lookup-refused byBytes before (pathNames base path)) e in
-      let o = or-is-false (not (goodPath base path)) (ltb mostAppended (length text)) (w .good) in
-      let c = checked (w .inode) (w .checked) in
+      let w = text-goes image ds base path text (λ f. appendTo image ds f text) e in
+      let c = checked (w .file) (w .checked) in
       record {
         mounted = w .mounted;
-        good = not-is-false (goodPath base path) (o .0);
-        file = w .inode;
+        good = w .good;
+        file = w .file;
         found-there = w .found-there;
         no-directory = c .0;
         old = c .2 .0;

@@ -197,6 +197,11 @@ module _ {A : Type 0} (F : View A) (v : Volume A) where
   unfolding lookupNames
   lookup-nine = walk-refused rootId
 
+  -- and with 8 for a bad path, by 8 at least
+  pub path-eight : (bad : Bool) (ns : List Bytes) (k : ℕ) → cond bad (absent 8) (lookupNames F v ns) ≡ absent k → 8 ≤ k
+  path-eight true ns k q = let z : 8 ≡ k = cc in omega arith
+  path-eight false ns k q = omega (arith, lookup-nine ns k q)
+
   pub lookup-refused : (ns : List Bytes) (k : ℕ) → lookupNames F v ns ≡ absent k → k ≢ 0
   lookup-refused ns k q z = omega (arith, lookup-nine ns k q)
 

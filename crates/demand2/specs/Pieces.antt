@@ -235,11 +235,11 @@ pub record WrittenFirst (ds : List Descriptor) (image : Bytes) (b : Bytes) (bs :
   pub fits : RecordFits image ds area b
   pub rest : Written ds (put image (freePlace image area) b) bs image′
 
-written-first : {ds : List Descriptor} {image image′ b : Bytes} {bs : List Bytes} → Written ds image (b ∷ bs) image′
+pub written-first : {ds : List Descriptor} {image image′ b : Bytes} {bs : List Bytes} → Written ds image (b ∷ bs) image′
     → WrittenFirst ds image b bs image′
 written-first (written area f t w r) = record { area = area; fits = f; rest = r }
 
-written-none : {ds : List Descriptor} {image image′ : Bytes} → Written ds image [] image′ → image′ ≡ image
+pub written-none : {ds : List Descriptor} {image image′ : Bytes} → Written ds image [] image′ → image′ ≡ image
 written-none all-written = refl
 
 -- what the blocks of a volume name is among names

@@ -19,6 +19,7 @@ use Rattle.calls.specs.Create.{creating, createOf, imageCreated}
 use Rattle.calls.specs.Append.{appending, appendOf, imageAppended}
 use Rattle.calls.specs.Unlink.{unlinking, unlinkOf, imageUnlinked}
 use Rattle.calls.specs.Rename.{renaming, renameOf, imageRenamed}
+use Rattle.calls.specs.Overwrite.{overwriting, overwriteOf, imageOverwritten}
 use Rattle.calls.specs.Collect.{collecting, collectOf, imageCollected}
 use Rattle.calls.specs.declared.Descriptor.{Descriptor}
 use Rattle.calls.specs.declared.Handle.{Handle}
@@ -80,11 +81,13 @@ pub record RefusedCalls (image : Bytes) (ds : List Descriptor) : Type 0 where
   pub append : (base path text : Bytes) → appendOf image ds base path text ≢ 0 → imageAppended image ds base path text ≡ image
   pub unlink : (base path : Bytes) → unlinkOf image ds base path ≢ 0 → imageUnlinked image ds base path ≡ image
   pub rename : (base old new : Bytes) → renameOf image ds base old new ≢ 0 → imageRenamed image ds base old new ≡ image
+  pub overwrite : (base path : Bytes) (offset : ℕ) (text : Bytes) → overwriteOf image ds base path offset text ≢ 0
+      → imageOverwritten image ds base path offset text ≡ image
   pub collect : collectOf image ds ≢ 0 → imageCollected image ds ≡ image
 
 pub refused-calls : (image : Bytes) (ds : List Descriptor) → RefusedCalls image ds
 unfolding
-    imageFormatted reportOf mountedReport areaReportOf areaReport lookupOf openOf createOf imageCreated appendOf imageAppended unlinkOf imageUnlinked renameOf imageRenamed collectOf imageCollected
+    imageFormatted reportOf mountedReport areaReportOf areaReport lookupOf openOf createOf imageCreated appendOf imageAppended unlinkOf imageUnlinked renameOf imageRenamed overwriteOf imageOverwritten collectOf imageCollected
 refused-calls image ds = record {
   format = λ h. rw (imageFormatted, eqb-differ (formatNumber image ds) 0 h);
   report = refused-report (eqb (mountNumber image ds) 0) (mountedReport image ds) (mountNumber image ds) refl;
@@ -100,5 +103,6 @@ refused-calls image ds = record {
   append = λ base path text. refused-leaves image _ (appending image ds base path text);
   unlink = λ base path. refused-leaves image _ (unlinking image ds base path);
   rename = λ base old new. refused-leaves image _ (renaming image ds base old new);
+  overwrite = λ base path offset text. refused-leaves image _ (overwriting image ds base path offset text);
   collect = refused-leaves image _ (collecting image ds);
 }

@@ -18,6 +18,7 @@ use Rattle.calls.specs.Create.{createOf, imageCreated}
 use Rattle.calls.specs.Append.{appendOf, imageAppended}
 use Rattle.calls.specs.Unlink.{unlinkOf, imageUnlinked}
 use Rattle.calls.specs.Rename.{renameOf, imageRenamed}
+use Rattle.calls.specs.Overwrite.{overwriteOf, imageOverwritten}
 use Rattle.calls.specs.Collect.{collectOf, imageCollected}
 use Rattle.calls.specs.declared.Descriptor.{Descriptor}
 use Rattle.calls_laws.specs.Checks.{passes}
@@ -27,6 +28,7 @@ use Rattle.demand2.specs.Create.{AfterCreate, create}
 use Rattle.demand2.specs.Append.{AfterAppend, append, append-nothing}
 use Rattle.demand2.specs.Unlink.{AfterUnlink, unlink}
 use Rattle.demand2_rename.specs.Rename.{AfterRename, rename}
+use Rattle.demand2_overwrite.specs.Overwrite.{AfterOverwrite, overwrite, overwrite-nothing}
 use Rattle.demand2.specs.Refused.{RefusedCalls, refused-calls}
 use Rattle.demand2_collect.specs.Collect.{AfterCollect, collect}
 
@@ -77,6 +79,10 @@ pub record Demand2 (image : Bytes) (ds : List Descriptor) : Type 0 where
   -- document 02, T-01: "Everything that isn't the moved object or below it keeps its path and contents. The moved file keeps its contents."
   pub renames : (base old new : Bytes) → Octets image → Octets base → Octets new → renameOf image ds base old new ≡ 0
       → AfterRename image (imageRenamed image ds base old new) ds base old new
+  -- document 02, T-05: "The range then reads as the new data, every other byte as before", and "0 bytes write nothing"
+  pub overwrites : (base path : Bytes) (offset : ℕ) (text : Bytes) → Octets image → Octets text → overwriteOf image ds base path offset text ≡ 0
+      → AfterOverwrite image (imageOverwritten image ds base path offset text) ds base path offset text
+  pub overwrites-nothing : (base path : Bytes) (offset : ℕ) → imageOverwritten image ds base path offset [] ≡ image
   pub collects : collectOf image ds ≡ 0 → AfterCollect image (imageCollected image ds) ds
   -- and of each refused one
   pub refused : RefusedCalls image ds
@@ -91,6 +97,8 @@ demand2 image ds = record {
   appends-nothing = append-nothing image ds;
   unlinks = unlink image ds;
   renames = rename image ds;
+  overwrites = overwrite image ds;
+  overwrites-nothing = overwrite-nothing image ds;
   collects = collect image ds;
   refused = refused-calls image ds;
 }

@@ -1,13 +1,13 @@
 -- Rename and move. Document 02, T-01: "the inode is rewritten with the same id, sequence plus one, and the new parent and name".
 use Prim.Native.Nat.{ℕ, suc}
-use mathlib.Core.Path.{_≡_, refl, sym, ap, _∙_}
+use mathlib.Core.Path.{_≡_, sym, ap, _∙_}
 use mathlib.Core.Logic.{_≢_}
 use mathlib.Core.Bool.{Bool, true, false, cond, not, _||_}
 use mathlib.Core.Option.{some}
 use mathlib.Core.List.{List, [], _∷_, _++_, List·Memᴰ, append-assoc, append-nil}
 use native.Mathlib.Omega.{arith}
 use lib.ListN.{length}
-use lib.Dec.{T, eqb, eqb-refl, T-not}
+use lib.Dec.{eqb}
 use Rattle.format.specs.Bytes.{Bytes}
 use Rattle.format.specs.Ids.{rootId, isDirectoryId}
 use Rattle.format.specs.Reading.{areaClean}
@@ -20,9 +20,9 @@ use Rattle.volume.specs.Contents.{fileBlocks}
 use Rattle.volume.specs.Path.{goodPath, pathNames}
 use Rattle.volume.specs.Lists.{all}
 use Rattle.volume.specs.Tree.{Found, found, absent, isChild, children, lookupNames}
-use Rattle.volume_laws.specs.Tests.{and-T, eqb-false, not-is-false, or-is-false}
+use Rattle.volume_laws.specs.Tests.{eqb-false, not-is-false, or-is-false}
 use Rattle.volume_laws.specs.Climb.{live-some}
-use Rattle.calls.specs.Refusal.{Check, _refused-by_, firstRefusal}
+use Rattle.calls.specs.Refusal.{_refused-by_, firstRefusal}
 use Rattle.calls.specs.Areas.{areaBytes, fileAreas}
 use Rattle.calls.specs.Mount.{volume, mountNumber}
 use Rattle.calls.specs.Storing.{Store, isAmong}
@@ -30,17 +30,17 @@ use Rattle.calls.specs.Create.{isRoot, lastName, namesBefore}
 use Rattle.calls.specs.Lookup.{resolve}
 use Rattle.calls.specs.Read.{readGiven}
 use Rattle.calls.specs.Rewrite.{lastSequence, sequenceOf, rewritten, rewritePlan, rewriteChecks}
-use Rattle.calls.specs.Attempt.{goes, refuses, numberOf, atFound, attemptAt}
+use Rattle.calls.specs.Attempt.{goes, numberOf, attemptAt}
 use Rattle.calls.specs.Rename.{movesIntoItself, moveNumber, moving, renaming, renameOf, imageRenamed}
 use Rattle.calls.specs.declared.Descriptor.{Descriptor}
 use Rattle.calls_laws.specs.Checks.{Passes, passes, mounts}
 use Rattle.calls_laws.specs.Records.{volume-sound}
-use Rattle.calls_laws.specs.Attempt.{attempt-goes}
+use Rattle.calls_laws.specs.Attempt.{attempt-goes, never, found-never}
 use Rattle.calls_laws.specs.Unused.{not-among}
 use Rattle.demand2.specs.Store.{OneStored}
 use Rattle.demand2.specs.Names.{GoodName, good-name, last-mem, names-split}
 use Rattle.demand2.specs.Found.{passed-check, root-there, directory-low, free-child, found-lives, names-found, found-once}
-use Rattle.demand2.specs.Found.{lookup-nine, lookup-refused, resolved, resolve-good, resolve-found, resolve-alike, read-kept}
+use Rattle.demand2.specs.Found.{path-eight, lookup-refused, resolved, resolve-good, resolve-found, resolve-alike, read-kept}
 use Rattle.demand2.specs.Lineage.{found-named, found-sole, lookup-free}
 use Rattle.demand2.specs.NewRecord.{child-rule, IsInode, WrittenOne}
 use Rattle.demand2.specs.Rewritten.{Rewrites, rewrite-checked, AfterRewrite, inode-low, rewrite}
@@ -237,34 +237,12 @@ own-beginning image ds base old new ns e z = apart image ds base old new (rename
 
 -- ---- the numbers that it gives
 
--- a number that no check gives is not given
-never : (n : ℕ) (l : List Check) → n ≢ 0 → T (all (λ c. not (eqb (c .number) n)) l) → firstRefusal l ≢ n
-unfolding firstRefusal all
-never n [] z t e = z (sym e)
-never n (c ∷ l) z t e = go (c .fails) e (never n l z (u .1))
-  where
-    u : T (not (eqb (c .number) n)) × T (all (λ c. not (eqb (c .number) n)) l)
-    u = and-T (not (eqb (c .number) n)) (all (λ c. not (eqb (c .number) n)) l) t
-
-    go : (b : Bool) → cond b (c .number) (firstRefusal l) ≡ n → firstRefusal l ≢ n → ⊥
-    go true q ih = T-not (eqb (c .number) n) (u .0) (rw q (eqb-refl n))
-    go false q ih = ih q
-
--- nor at what a path leads to, if the path does not give it
-found-never : (n : ℕ) (checks : ℕ → ℕ) (o : Found) → n ≢ 0 → ((r : ℕ) → o ≡ absent r → r ≢ n) → ((i : ℕ) → checks i ≢ n)
-    → numberOf (atFound checks o) ≢ n
-found-never n checks (absent r) z h c e = h r refl e
-found-never n checks (found i) z h c e = go (eqb (checks i) 0) e
-  where
-    go : (b : Bool) → numberOf (cond b (goes i) (refuses (checks i))) ≢ n
-    go true q = z (sym q)
-    go false q = c i q
-
 -- "For a write, 5 is tested again": a rename makes no new id, and never answers 5
 pub never-five : (image : Bytes) (ds : List Descriptor) (base old new : Bytes) → mountNumber image ds ≡ 0 → renameOf image ds base old new ≢ 5
 unfolding renameOf renaming moving attemptAt moveNumber all
-never-five image ds base old new m e = found-never 5 _ (cond bad (absent 8) walked) (λ z. omega arith) (refused bad)
-    (λ i. found-never 5 _ (lookupNames byBytes (volume image ds) (namesBefore names)) (λ z. omega arith) (led (namesBefore names))
+never-five image ds base old new m e =
+    found-never 5 _ (cond bad (absent 8) (lookupNames byBytes (volume image ds) (pathNames base old))) (λ z. omega arith) (led bad (pathNames base old))
+    (λ i. found-never 5 _ (lookupNames byBytes (volume image ds) (namesBefore names)) (λ z. omega arith) (led false (namesBefore names))
     (λ d. never 5 _ (λ z. omega arith) tt)) (rw (renameOf, renaming, attemptAt, m) at e)
   where
     names : List Bytes
@@ -273,15 +251,8 @@ never-five image ds base old new m e = found-never 5 _ (cond bad (absent 8) walk
     bad : Bool
     bad = not (goodPath base old) || not (goodPath base new) || isRoot names
 
-    walked : Found
-    walked = lookupNames byBytes (volume image ds) (pathNames base old)
-
-    led : (ns : List Bytes) (r : ℕ) → lookupNames byBytes (volume image ds) ns ≡ absent r → r ≢ 5
-    led ns r q z = omega (arith, lookup-nine byBytes (volume image ds) ns r q)
-
-    refused : (b : Bool) (r : ℕ) → cond b (absent 8) walked ≡ absent r → r ≢ 5
-    refused true r q z = let y : 8 ≡ r = cc in omega arith
-    refused false r q z = led (pathNames base old) r q z
+    led : (b : Bool) (ns : List Bytes) (r : ℕ) → cond b (absent 8) (lookupNames byBytes (volume image ds) ns) ≡ absent r → r ≢ 5
+    led b ns r q z = omega (arith, path-eight byBytes (volume image ds) b ns r q)
 
 -- ---- what it makes of the image
 

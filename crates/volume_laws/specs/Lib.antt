@@ -6,6 +6,7 @@ pub mod Once
 pub mod Counting
 pub mod Climb
 pub mod Tree
-pub mod Contents
 pub mod Map
+pub mod Contents
+pub mod Chain
 pub mod Sound

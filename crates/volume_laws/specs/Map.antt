@@ -16,7 +16,7 @@ use Rattle.volume.specs.Counting.{blockIds}
 use Rattle.volume.specs.Fate.{Fate, live, dead, ascend, climb, fateWithin, longestChain, fateOf, blockDead, liveIds, lineage, namesOf}
 use Rattle.volume.specs.Tree.{onward, isEntry, isChild, children, walk, lookupNames}
 use Rattle.volume.specs.Contents.{chainStart, snoc, owns, owned, unnamed, lastBlock, chainBack, fileBlocks, textOf, headersFrom}
-use Rattle.volume_laws.specs.Lists.{keep-cong, keep-map, all-cong, all-map}
+use Rattle.volume_laws.specs.Lists.{keep-cong, keep-map, all-cong, all-map, map-append}
 use Rattle.volume_laws.specs.Climb.{climb-stop, climb-on}
 
 -- what there is, seen the other way
@@ -42,6 +42,11 @@ pub record Views {A B : Type 0} (F : View A) (G : View B) (f : A → B) : Type 0
   pub previous : (a : A) → G .previous (f a) ≡ F .previous a
   pub text : (a : A) → G .text (f a) ≡ F .text a
   pub same : (a b : A) → G .same (f a) (f b) ≡ F .same a b
+
+-- one more of a list, seen the other way
+pub snoc-over : {A B : Type 0} (f : A → B) (o : Option (List A)) (r : A) → snoc (over (map f) o) (f r) ≡ over (map f) (snoc o r)
+snoc-over f none r = refl
+snoc-over f (some l) r = ap some (sym (map-append f l (r ∷ [])))
 
 has-over : {A B : Type 0} (f : A → B) (p : B → Bool) (q : A → Bool) → ((a : A) → p (f a) ≡ q a) → (o : Option A) → has p (over f o) ≡ has q o
 has-over f p q h none = refl
@@ -224,14 +229,6 @@ module _ {A B : Type 0} (F : View A) (G : View B) (f : A → B) (w : Views F G f
   lastBlock-map v i = rw (lastBlock, owned-map v i)
       (ap (λ l. chainStart (only l)) (keep-cong _ _ (owned F v i) (λ j m. unnamed-map v (owned F v i) j)))
 
-  snoc-over : (o : Option (List A)) (r : A) → snoc (over (map f) o) (f r) ≡ over (map f) (snoc o r)
-  snoc-over none r = refl
-  snoc-over (some l) r = ap some (sym (go l))
-    where
-      go : (l : List A) → map f (l ++ (r ∷ [])) ≡ map f l ++ (f r ∷ [])
-      go [] = refl
-      go (a ∷ l) = rw (go l)
-
   pub chainBack-map : (v : Volume A) (i k j : ℕ) → chainBack G (blockOf G (overVolume f v)) i k j ≡ over (map f) (chainBack F (blockOf F v) i k j)
   unfolding chainBack
   chainBack-map v i zero j = go (eqb j NONE)
@@ -246,7 +243,7 @@ module _ {A B : Type 0} (F : View A) (G : View B) (f : A → B) (w : Views F G f
           → cond b (bind (over f o) (λ r. snoc (chainBack G (blockOf G (overVolume f v)) i k (G .previous r)) r)) none
           ≡ over (map f) (cond b (bind o (λ r. snoc (chainBack F (blockOf F v) i k (F .previous r)) r)) none)
       go true none ih = refl
-      go true (some r) ih = rw (w .previous r, ih (F .previous r)) (snoc-over (chainBack F (blockOf F v) i k (F .previous r)) r)
+      go true (some r) ih = rw (w .previous r, ih (F .previous r)) (snoc-over f (chainBack F (blockOf F v) i k (F .previous r)) r)
       go false o ih = refl
 
   pub fileBlocks-map : (v : Volume A) (i : ℕ) → fileBlocks G (overVolume f v) i ≡ over (map f) (fileBlocks F v i)

@@ -1,0 +1,1 @@
+// Theorems only, in specs/: what an overwrite makes of a file system.
