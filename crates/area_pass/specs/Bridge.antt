@@ -60,14 +60,29 @@ record-places-each base p [] m = absurd (List·Memᴰ·not-nil m)
 record-places-each base p (r ∷ l) m =
     ⊎-elim (λ e. (r, List·Memᴰ·head refl, e)) (λ n. let t = record-places-each base p l n in (t .0, List·Memᴰ·tail (t .1), t .2)) (List·Memᴰ·cases-cons m)
 
-pub places-lie : (image : Bytes) (fs : List Descriptor) (p : ℕ) → List·Memᴰ p (placesIn image fs) → Lies image p
+-- a place that is listed is that of a record of one of the areas
+pub record PlacedIn (image : Bytes) (fs : List Descriptor) (p : ℕ) : Type 0 where
+  pub area : Descriptor
+  pub among : List·Memᴰ area fs
+  pub there : Placed
+  pub taken : List·Memᴰ there (recordsOf image area)
+  pub at : p ≡ area .offset + there .place
+
+pub places-in : (image : Bytes) (fs : List Descriptor) (p : ℕ) → List·Memᴰ p (placesIn image fs) → PlacedIn image fs p
 unfolding placesIn
-places-lie image [] p m = absurd (List·Memᴰ·not-nil m)
-places-lie image (d ∷ fs) p m =
+places-in image [] p m = absurd (List·Memᴰ·not-nil m)
+places-in image (d ∷ fs) p m =
     ⊎-elim
-    (λ n. let t = record-places-each (d .offset) p (recordsOf image d) n in rw (t .2) (record-lies image d (t .0) (t .1)))
-    (places-lie image fs p)
+    (λ n. let t = record-places-each (d .offset) p (recordsOf image d) n in
+        record { area = d; among = List·Memᴰ·head refl; there = t .0; taken = t .1; at = t .2 })
+    (λ n. let t = places-in image fs p n in
+        record { area = t .area; among = List·Memᴰ·tail (t .among); there = t .there; taken = t .taken; at = t .at })
     (List·Memᴰ·append-cases (recordPlaces (d .offset) (recordsOf image d)) m)
+
+pub places-lie : (image : Bytes) (fs : List Descriptor) (p : ℕ) → List·Memᴰ p (placesIn image fs) → Lies image p
+places-lie image fs p m =
+    let t = places-in image fs p m in
+    rw (t .at) (record-lies image (t .area) (t .there) (t .taken))
 
 -- the volume, of its records held by place
 abbrev pub placedVolume : Bytes → List Descriptor → Volume ℕ

@@ -1,16 +1,18 @@
 -- How an area's parts unfold, over any acceptor: a record is taken, or bytes are passed over.
 use Prim.Native.Nat.{ℕ, zero, suc, _+_, _-_, _≤_, _<_}
 use mathlib.Core.Path.{_≡_, refl, ap, _∙_}
-use mathlib.Core.Logic.{_⊎_}
+use mathlib.Core.Logic.{_⊎_, ⊎-elim}
 use mathlib.Core.Bool.{Bool, true, false, cond, _&&_}
-use mathlib.Core.List.{List, [], _∷_, _++_}
+use mathlib.Core.List.{List, [], _∷_, _++_, List·Memᴰ, List·Memᴰ·not-nil, List·Memᴰ·cases-cons}
 use native.Mathlib.Omega.{arith}
-use lib.ListN.{length, take, drop, take-append-drop}
+use lib.ListN.{length, take, drop, take-append-drop, length-append, length-drop}
 use lib.Seq.{drop-nil}
 use lib.Dec.{eqb}
 use Rattle.format.specs.Bytes.{Bytes, byteAt}
 use Rattle.format.specs.Record.{recordSize}
-use Rattle.format.specs.Reading.{Acceptor, ERASED, Part, taken, stretch, skip, parts, placed, erasedEnd, freeSize, Stretch, damagedBytes, damaged, totalSize}
+use Rattle.format.specs.AreaHeader.{areaHeaderSize}
+use Rattle.format.specs.Reading.{Acceptor, ERASED, Part, taken, stretch, skip, parts, Placed, placed, erasedEnd, freeSize, Stretch, damagedBytes, damaged, totalSize}
+use Rattle.format.specs.Reading.{areaParts, areaRecords, areaFree}
 use Rattle.format_laws.specs.Record.{record-inside, record-local, record-blank}
 
 -- what the laws ask of an acceptor
@@ -164,6 +166,38 @@ erased-end-le (b ∷ s) = go (eqb (erasedEnd s) (length s) && eqb b ERASED) (era
     go : (t : Bool) → erasedEnd s ≤ length s → cond t (suc (erasedEnd s)) (erasedEnd s) ≤ suc (length s)
     go true h = omega arith
     go false h = omega arith
+
+-- ---- no record reaches into the free space
+
+free-le : (l : List Part) → freeSize l ≤ length (joined l)
+unfolding freeSize joined
+free-le [] = omega arith
+free-le (taken r ∷ []) = omega arith
+free-le (stretch s ∷ []) = omega (arith, erased-end-le s, length-append s [])
+free-le (taken r ∷ q ∷ l) = omega (arith, free-le (q ∷ l), length-append r (joined (q ∷ l)))
+free-le (stretch s ∷ q ∷ l) = omega (arith, free-le (q ∷ l), length-append s (joined (q ∷ l)))
+
+before-free : (p : ℕ) (l : List Part) (r : Placed) → List·Memᴰ r (placed p l) → r .place + length (r .bytes) + freeSize l ≤ p + length (joined l)
+unfolding placed freeSize joined
+before-free p [] r m = absurd (List·Memᴰ·not-nil m)
+before-free p (stretch s ∷ []) r m = absurd (List·Memᴰ·not-nil m)
+before-free p (taken t ∷ []) r m = ⊎-elim (λ e. rw e (omega (arith, length-append t []))) (λ n. absurd (List·Memᴰ·not-nil n)) (List·Memᴰ·cases-cons m)
+before-free p (stretch s ∷ q ∷ l) r m = omega (arith, before-free (p + length s) (q ∷ l) r m, length-append s (joined (q ∷ l)))
+before-free p (taken t ∷ q ∷ l) r m =
+    ⊎-elim
+    (λ e. rw e (omega (arith, free-le (q ∷ l), length-append t (joined (q ∷ l)))))
+    (λ n. omega (arith, before-free (p + length t) (q ∷ l) r n, length-append t (joined (q ∷ l))))
+    (List·Memᴰ·cases-cons m)
+
+-- a record of an area ends where the free space starts, or before
+pub ends-before-free : (size : Acceptor) → ((t : Bytes) → size t ≤ length t) → (area : Bytes) → areaHeaderSize ≤ length area
+    → (r : Placed) → List·Memᴰ r (areaRecords size area) → r .place + length (r .bytes) ≤ areaFree size area
+unfolding areaRecords areaFree areaParts
+ends-before-free size inside area h r m =
+    let l = parts size (drop areaHeaderSize area) 0 in
+    let j : length (joined l) ≡ length area - areaHeaderSize =
+    ap length (parts-joined size inside (drop areaHeaderSize area) 0 (omega arith)) ∙ length-drop areaHeaderSize area in
+    omega (arith, before-free areaHeaderSize l r m)
 
 pub total-append : (l m : List Stretch) → totalSize (l ++ m) ≡ totalSize l + totalSize m
 unfolding totalSize

@@ -27,8 +27,8 @@ nodup-snoc (y ∷ l) x n h = (
   nodup-snoc l x (n .1) (λ m. h (List·Memᴰ·tail m)),
 )
 
--- c says which record counts for an id; NONE is no block
-module _ {A : Type 0} (F : View A) (c : ℕ → Option A) (f : ℕ) (own-id : (i : ℕ) (r : A) → c i ≡ some r → F .id r ≡ i) (no-none : c NONE ≡ none) where
+-- c says which record counts for an id
+module _ {A : Type 0} (F : View A) (c : ℕ → Option A) (f : ℕ) where
   -- the last block of a chain, and the chain behind it
   record Step (k i : ℕ) (bs : List A) : Type 0 where
     last : A
@@ -63,21 +63,32 @@ module _ {A : Type 0} (F : View A) (c : ℕ → Option A) (f : ℕ) (own-id : (i
       go true q z = (eqb→eq i NONE (true→T q), cc)
       go false q z = let x : _≡_ {A = ℕ} 0 1 = cc in absurd (omega arith)
 
+  -- each block of a chain counts for some id
+  pub chain-counts : (k i : ℕ) (bs : List A) → chainBack F c f k i ≡ some bs → (r : A) → List·Memᴰ r bs → (j : ℕ) × (c j ≡ some r)
+  chain-counts zero i bs e r m = absurd (List·Memᴰ·not-nil (rw (chain-end i bs e .1) at m))
+  chain-counts (suc k) i bs e r m =
+      let s = chain-step k i bs e in
+      let n : List·Memᴰ r (s .before ++ (s .last ∷ [])) = rw (s .split) at m in
+      ⊎-elim (chain-counts k (F .previous (s .last)) (s .before) (s .goes-on) r)
+      (λ n. (i, s .counts ∙ ap some (sym (List·Memᴰ·eq-of-singleton n)))) (List·Memᴰ·append-cases (s .before) n)
+
+-- it counts for its own id, and NONE is no block
+module _ {A : Type 0} (F : View A) (c : ℕ → Option A) (f : ℕ) (own-id : (i : ℕ) (r : A) → c i ≡ some r → F .id r ≡ i) (no-none : c NONE ≡ none) where
   -- and one of some does not
   none-first : (k i : ℕ) (bs : List A) → i ≡ NONE → chainBack F c f (suc k) i ≡ some bs → ⊥
   none-first k i bs e q =
-      let s = chain-step k i bs q in
+      let s = chain-step F c f k i bs q in
       let z : none ≡ some (s .last) = sym no-none ∙ ap c (sym e) ∙ s .counts in
       let y : _≡_ {A = ℕ} 0 1 = cc in omega arith
 
   -- from one id back to NONE there is one number of blocks
   chain-exact : (k n i : ℕ) (bs cs : List A) → chainBack F c f k i ≡ some bs → chainBack F c f n i ≡ some cs → k ≡ n
   chain-exact zero zero i bs cs p q = refl
-  chain-exact zero (suc n) i bs cs p q = absurd (none-first n i cs (chain-end i bs p .0) q)
-  chain-exact (suc k) zero i bs cs p q = absurd (none-first k i bs (chain-end i cs q .0) p)
+  chain-exact zero (suc n) i bs cs p q = absurd (none-first n i cs (chain-end F c f i bs p .0) q)
+  chain-exact (suc k) zero i bs cs p q = absurd (none-first k i bs (chain-end F c f i cs q .0) p)
   chain-exact (suc k) (suc n) i bs cs p q =
-      let s = chain-step k i bs p in
-      let t = chain-step n i cs q in
+      let s = chain-step F c f k i bs p in
+      let t = chain-step F c f n i cs q in
       let z : s .last ≡ t .last = some-inj (sym (s .counts) ∙ t .counts) in
       ap suc (chain-exact k n (F .previous (s .last)) (s .before) (t .before) (s .goes-on) (rw z (t .goes-on)))
     where
@@ -95,9 +106,9 @@ module _ {A : Type 0} (F : View A) (c : ℕ → Option A) (f : ℕ) (own-id : (i
 
   -- each block of a chain is so
   chain-each : (k i : ℕ) (bs : List A) → chainBack F c f k i ≡ some bs → (r : A) → List·Memᴰ r bs → Within k r
-  chain-each zero i bs e r m = absurd (List·Memᴰ·not-nil (rw (chain-end i bs e .1) at m))
+  chain-each zero i bs e r m = absurd (List·Memᴰ·not-nil (rw (chain-end F c f i bs e .1) at m))
   chain-each (suc k) i bs e r m =
-      let s = chain-step k i bs e in
+      let s = chain-step F c f k i bs e in
       let n : List·Memᴰ r (s .before ++ (s .last ∷ [])) = rw (s .split) at m in
       ⊎-elim (λ n. on (chain-each k (F .previous (s .last)) (s .before) (s .goes-on) r n)) (λ n. here s (List·Memᴰ·eq-of-singleton n))
       (List·Memᴰ·append-cases (s .before) n)
@@ -112,7 +123,7 @@ module _ {A : Type 0} (F : View A) (c : ℕ → Option A) (f : ℕ) (own-id : (i
         from-it = w .from-it;
       }
 
-      here : (s : Step k i bs) → r ≡ s .last → Within (suc k) r
+      here : (s : Step F c f k i bs) → r ≡ s .last → Within (suc k) r
       here s q =
           let z : F .id r ≡ i = ap (F .id) q ∙ own-id i (s .last) (s .counts) in
           record {
@@ -126,14 +137,14 @@ module _ {A : Type 0} (F : View A) (c : ℕ → Option A) (f : ℕ) (own-id : (i
 
   -- so that none comes twice: it would have two numbers of blocks behind it
   chain-nodup : (k i : ℕ) (bs : List A) → chainBack F c f k i ≡ some bs → Nodup (map (F .id) bs)
-  chain-nodup zero i bs e = rw (chain-end i bs e .1) tt
+  chain-nodup zero i bs e = rw (chain-end F c f i bs e .1) tt
   chain-nodup (suc k) i bs e =
-      let s = chain-step k i bs e in
+      let s = chain-step F c f k i bs e in
       rw (s .split, map-append (F .id) (s .before) (s .last ∷ []))
       (nodup-snoc (map (F .id) (s .before)) (F .id (s .last))
       (chain-nodup k (F .previous (s .last)) (s .before) (s .goes-on)) (again s))
     where
-      again : (s : Step k i bs) → ¬ List·Memᴰ (F .id (s .last)) (map (F .id) (s .before))
+      again : (s : Step F c f k i bs) → ¬ List·Memᴰ (F .id (s .last)) (map (F .id) (s .before))
       again s m =
           let r = Memᴰ·of-map (F .id) (s .before) m in
           let w = chain-each k (F .previous (s .last)) (s .before) (s .goes-on) (r .0) (r .1) in

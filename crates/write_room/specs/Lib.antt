@@ -3,3 +3,4 @@ pub mod Spaces
 pub mod First
 pub mod Rows
 pub mod Plan
+pub mod Clear

@@ -61,6 +61,13 @@ EndsWithin m s = s .end ≤ m
 abbrev pub Within : ℕ → List Space → Type 0
 Within m = Each (EndsWithin m)
 
+-- none of the m bytes from p on is in the space
+abbrev pub ClearOf : ℕ → ℕ → Space → Type 0
+ClearOf p m s = (j : ℕ) → j < m → s .from ≤ p + j → p + j < s .end → ⊥
+
+pub clear-parts : (p m : ℕ) → OfParts (ClearOf p m)
+clear-parts p m s t h g c j l a b = c j l (omega arith) (omega arith)
+
 -- what holds of every space holds of where n bytes fit, and of the spaces left
 abbrev pub FitIn : (Space → Type 0) → ℕ → Fit → Type 0
 FitIn P n f = P (record { from = f .place; end = f .place + n }) × Each P (f .left)

@@ -17,7 +17,7 @@ use Rattle.volume.specs.Contents.{textOf}
 use Rattle.volume_laws.specs.Map.{textOf-map}
 use Rattle.volume_laws.specs.Tests.{or-is-false}
 use Rattle.calls.specs.Image.{put, part}
-use Rattle.calls.specs.Storing.{Space, storeAll}
+use Rattle.calls.specs.Storing.{storeAll}
 use Rattle.calls.specs.Rewrite.{lastSequence}
 use Rattle.calls.specs.Overwrite.{Change, holdsByte, changesFrom, changes, textAfter, newVersion}
 use Rattle.image_laws.specs.Apart.{Apart}
@@ -27,7 +27,7 @@ use Rattle.record_places.specs.Laws.{place-views, size-block}
 use Rattle.record_places.specs.Stays.{kind-stays, size-stays, bytes-stay}
 use Rattle.file_list.specs.Listing.{dataSize, Listed}
 use Rattle.file_blocks.specs.Walk.{data-long}
-use Rattle.write_room.specs.Spaces.{EndsWithin}
+use Rattle.write_room.specs.Spaces.{EndsWithin, ClearOf}
 use Rattle.write_room.specs.Plan.{EachAt, pairStores}
 use Rattle.write_versions.specs.Held.{held-meets, total, sizesHeld, Sizes, Position, position-begins, position-next, position-within}
 use Rattle.write_versions.specs.Greatest.{listed-size, listed-long, text-size, greatestFrom, greatest-step}
@@ -36,10 +36,6 @@ use Rattle.write_versions.specs.Version.{Versioned}
 -- the new versions of the blocks that hold a byte of the range, whose bytes are those of the text
 abbrev pub versionsOf : Bytes → List ℕ → ℕ → Bytes → List Bytes
 versionsOf image bs from text = map newVersion (changes (map (bytesAt image) bs) from text)
-
--- none of the m bytes from p on is in the space
-abbrev pub ClearOf : ℕ → ℕ → Space → Type 0
-ClearOf p m s = (j : ℕ) → j < m → s .from ≤ p + j → p + j < s .end → ⊥
 
 -- nothing at any place
 pairs-none : (qs : List ℕ) → pairStores qs [] ≡ []
