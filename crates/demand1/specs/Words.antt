@@ -156,7 +156,7 @@ pub record AcceptedCalls (image : Bytes) (ds : List Descriptor) : Type 0 where
   pub append : (base path text : Bytes) → appendOf image ds base path text ≡ 0
       → (f : ℕ) × (resolve image ds base path ≡ found f)
       × OnlyStored image (imageAppended image ds base path text) ds (newBlocks image ds f text)
-  -- T-05: "each block that holds a byte of the written range is rewritten", of the file f: the new versions, and no byte of the old ones
+  -- T-05: "each block that holds a byte of the written range is rewritten": the new versions, of blocks of the file f
   pub overwrite : (base path : Bytes) (offset : ℕ) (text : Bytes) → overwriteOf image ds base path offset text ≡ 0
       → (f : ℕ) × (resolve image ds base path ≡ found f)
       × OnlyStored image (imageOverwritten image ds base path offset text) ds (newVersions image ds f offset text)
