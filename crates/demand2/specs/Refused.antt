@@ -79,15 +79,15 @@ pub record RefusedCalls (image : Bytes) (ds : List Descriptor) : Type 0 where
       → (imageCreated image ds base path kind ≡ image)
       × (createOf image ds base path kind ≡ record { number = createOf image ds base path kind .number; id = 0 })
   pub append : (base path text : Bytes) → appendOf image ds base path text ≢ 0 → imageAppended image ds base path text ≡ image
-  pub overwrite : (base path : Bytes) (offset : ℕ) (text : Bytes) → overwriteOf image ds base path offset text ≢ 0
-      → imageOverwritten image ds base path offset text ≡ image
   pub unlink : (base path : Bytes) → unlinkOf image ds base path ≢ 0 → imageUnlinked image ds base path ≡ image
   pub rename : (base old new : Bytes) → renameOf image ds base old new ≢ 0 → imageRenamed image ds base old new ≡ image
+  pub overwrite : (base path : Bytes) (offset : ℕ) (text : Bytes) → overwriteOf image ds base path offset text ≢ 0
+      → imageOverwritten image ds base path offset text ≡ image
   pub collect : collectOf image ds ≢ 0 → imageCollected image ds ≡ image
 
 pub refused-calls : (image : Bytes) (ds : List Descriptor) → RefusedCalls image ds
 unfolding
-    imageFormatted reportOf mountedReport areaReportOf areaReport lookupOf openOf createOf imageCreated appendOf imageAppended overwriteOf imageOverwritten unlinkOf imageUnlinked renameOf imageRenamed collectOf imageCollected
+    imageFormatted reportOf mountedReport areaReportOf areaReport lookupOf openOf createOf imageCreated appendOf imageAppended unlinkOf imageUnlinked renameOf imageRenamed overwriteOf imageOverwritten collectOf imageCollected
 refused-calls image ds = record {
   format = λ h. rw (imageFormatted, eqb-differ (formatNumber image ds) 0 h);
   report = refused-report (eqb (mountNumber image ds) 0) (mountedReport image ds) (mountNumber image ds) refl;
@@ -101,8 +101,8 @@ refused-calls image ds = record {
         λ i. record { number = createOf image ds base path kind .number; id = e i },
   );
   append = λ base path text. refused-leaves image _ (appending image ds base path text);
-  overwrite = λ base path offset text. refused-leaves image _ (overwriting image ds base path offset text);
   unlink = λ base path. refused-leaves image _ (unlinking image ds base path);
   rename = λ base old new. refused-leaves image _ (renaming image ds base old new);
+  overwrite = λ base path offset text. refused-leaves image _ (overwriting image ds base path offset text);
   collect = refused-leaves image _ (collecting image ds);
 }
