@@ -4,7 +4,7 @@ use mathlib.Core.Path.{_≡_, refl, sym, ap, _∙_}
 use mathlib.Core.Logic.{_⊎_, inl, inr, _≢_, ⊎-elim}
 use mathlib.Core.Bool.{Bool, true, false, cond, not, _||_}
 use mathlib.Core.Option.{Option, none, some}
-use mathlib.Core.List.{List, [], _∷_, _++_, List·Memᴰ, List·Memᴰ·head, List·Memᴰ·tail, List·Memᴰ·cases-cons, List·Memᴰ·not-nil}
+use mathlib.Core.List.{List, [], _∷_, _++_, map, List·Memᴰ, List·Memᴰ·head, List·Memᴰ·tail, List·Memᴰ·cases-cons, List·Memᴰ·not-nil}
 use mathlib.Core.List.{List·Memᴰ·eq-of-singleton}
 use native.Mathlib.Omega.{arith}
 use lib.ListN.{length}
@@ -12,7 +12,7 @@ use lib.Dec.{T, eqb, ltb, leb}
 use borrow.Author.Tests.{eqb-true, eqb-false, ltb-true, ltb-false, leb-true, leb-false}
 use Rattle.format.specs.Bytes.{Bytes}
 use Rattle.format.specs.Ids.{NONE, rootId, isDirectoryId}
-use Rattle.format.specs.Record.{recordSize}
+use Rattle.format.specs.Record.{recordSize, recordSequence}
 use Rattle.format.specs.Reading.{areaClean}
 use Rattle.volume.specs.Lists.{bind}
 use Rattle.volume.specs.View.{byBytes}
@@ -34,10 +34,11 @@ use Rattle.calls.specs.Lookup.{resolve, lookupAnswer, lookupOf, fileOnly, openA
 use Rattle.calls.specs.Read.{refused, giveBlocks, giveFile, give, readGiven, readAnswer}
 use Rattle.calls.specs.Format.{formatNumber}
 use Rattle.calls.specs.Create.{isRoot, lastName, namesBefore, newInode, createIn, creating, createOf}
-use Rattle.calls.specs.Append.{mostAppended, newBlocks, isBroken, appendTo, appending, appendOf}
+use Rattle.calls.specs.Append.{mostAppended, newBlocks, isBroken, appendTo, attemptText, appending, appendOf}
 use Rattle.calls.specs.Rewrite.{lastSequence, sequenceOf, rewritten, rewritePlan, rewriteChecks, rewriteNumber}
 use Rattle.calls.specs.Unlink.{deletion, unlinkOne, unlinking, unlinkOf}
 use Rattle.calls.specs.Rename.{movesIntoItself, moveNumber, moving, renaming, renameOf}
+use Rattle.calls.specs.Overwrite.{changes, oldBlocks, overwritePlan, overwriteTo, overwriting, overwriteOf}
 use Rattle.calls.specs.Collect.{sourceOf, collectFrom, collectWith, collecting, collectOf}
 use Rattle.calls.specs.declared.Descriptor.{Descriptor}
 use Rattle.calls.specs.declared.AreaReport.{AreaReport}
@@ -47,11 +48,12 @@ use Rattle.collect_laws.specs.Source.{source-found, source-none, file-eligible}
 use Rattle.demand2.specs.Store.{freePlace}
 use Rattle.demand1.specs.Table.{Row, _given-when_, Answers, mountRows, walkRows, pathRows, LiveChild, NoRoom, NoRoomLeft}
 use Rattle.demand1.specs.Table.{BadPath, brokenRow, endRow, sourceRow, formatRows, areaReportRows, lookupRows, openRows, readRows, createRows, appendRows}
-use Rattle.demand1.specs.Table.{nameRows, rewriteRows, IntoItself, unlinkRows, renameRows}
+use Rattle.demand1.specs.Table.{textRows, newVersions, overwriteRows, nameRows, rewriteRows, IntoItself, unlinkRows, renameRows}
 use Rattle.demand1.specs.Table.{Exactly}
 use Rattle.demand1.specs.Stores.{fit-inside, space-of}
 use Rattle.demand1.specs.Paths.{named-names, path-means}
 use Rattle.demand1.specs.Walk.{child-means, child-listed, foundOr, walk-answers}
+use Rattle.demand1.specs.Touched.{whole-blocks, past-means, touched-means}
 use Rattle.demand1.specs.Mounting.{Means, ltb-means, leb-means, eqb-means, is-means, fails-means, or-means, step, done, list-means, mount-answers}
 
 -- ---- rows one after the other
@@ -432,18 +434,37 @@ module _ (image : Bytes) (ds : List Descriptor) where
         (step (ltb mostInodes (suc (length (inodeIds byBytes v)))) 5 _ _ _ (ltb-means mostInodes _) (λ e.
         step (noPlace (placeAll (spaces image (fileAreas image ds)) (b ∷ []))) 15 0 _ [] (rw q (room-means image ds b)) (λ e. done)))))
 
+    -- a text for the file to which the path leads; 8 is "bad path or name; over 8,192 bytes to append"
+    text-answers : (text : Bytes) (rest : List Row) (checks m : ℕ → ℕ)
+        → ((f : ℕ) → checks f ≡ cond (isDirectoryId f) 11 (cond (isBroken (fileBlocks byBytes v f)) 13 (m f)))
+        → ((f : ℕ) → lookupNames byBytes v names ≡ found f → isBroken (fileBlocks byBytes v f) ≡ false → Answers rest (m f))
+        → Answers (textRows image ds base path text rest) (numberOf (attemptText image ds base path text checks))
+    text-answers text rest checks m c h = rw (attempt-number (mountNumber image ds) (bad || ltb mostAppended (length text)) (lookupNames byBytes v names)
+        checks)
+        (path-answers image ds (bad || ltb mostAppended (length text)) _ names _ _
+        (or-means bad (ltb mostAppended (length text)) (path-means base path) (ltb-means mostAppended (length text))) (λ f q. rw (c f)
+        (step (isDirectoryId f) 11 _ _ _ (rw q (is-means (isDirectoryId f))) (λ e.
+        step (isBroken (fileBlocks byBytes v f)) 13 _ _ _ (rw q (broken-means (fileBlocks byBytes v f))) (λ e. h f q e)))))
+
     append-answers : (text : Bytes) → Answers (appendRows image ds base path text) (appendOf image ds base path text)
     unfolding appendOf appending appendTo firstRefusal
-    append-answers text = rw (attempt-number (mountNumber image ds) (bad || ltb mostAppended (length text)) (lookupNames byBytes v names)
-        (λ f. appendTo image ds f text))
-        (path-answers image ds (bad || ltb mostAppended (length text)) _ names _ _
-        (or-means bad (ltb mostAppended (length text)) (path-means base path) (ltb-means mostAppended (length text))) (λ f q.
+    append-answers text = text-answers text _ (λ f. appendTo image ds f text) _ (λ f. refl) (λ f q e.
         let ss = spaces image (fileAreas image ds) in
         let bs = newBlocks image ds f text in
-        step (isDirectoryId f) 11 _ _ _ (rw q (is-means (isDirectoryId f))) (λ e.
-        step (isBroken (fileBlocks byBytes v f)) 13 _ _ _ (rw q (broken-means (fileBlocks byBytes v f))) (λ e.
         step (ltb mostBlocks (length (blockIds byBytes v) + length (newBlocks image ds f text))) 5 _ _ _ (rw q (ltb-means mostBlocks _)) (λ e.
-        step (noPlace (placeAll ss bs)) 15 0 _ [] (rw q (place-means bs ss)) (λ e. done))))))
+        step (noPlace (placeAll ss bs)) 15 0 _ [] (rw q (place-means bs ss)) (λ e. done)))
+
+    overwrite-answers : (offset : ℕ) (text : Bytes) → Answers (overwriteRows image ds base path offset text) (overwriteOf image ds base path offset text)
+    unfolding overwriteOf overwriting overwriteTo overwritePlan firstRefusal
+    overwrite-answers offset text = text-answers text _ (λ f. overwriteTo image ds f offset text) _ (λ f. refl) (λ f q e.
+        let o = fileBlocks byBytes v f in
+        let w = whole-blocks o e in
+        let ss = spaces image (fileAreas image ds) in
+        let bs = newVersions image ds f offset text in
+        step (ltb (length (textOf byBytes (oldBlocks image ds f))) (offset + length text)) 14 _ _ _ (rw q (past-means o offset (length text) w)) (λ e.
+        step (isAmong lastSequence (map (λ c. recordSequence (c .block)) (changes (oldBlocks image ds f) offset text))) 16 _ _ _
+        (rw q (touched-means o offset text lastSequence w)) (λ e.
+        step (noPlace (placeAll ss bs)) 15 0 _ [] (rw q (place-means bs ss)) (λ e. done))))
 
     unlink-answers : Answers (unlinkRows image ds base path) (unlinkOf image ds base path)
     unfolding unlinkOf unlinking unlinkOne rewriteNumber rewritePlan deletion
@@ -480,6 +501,7 @@ module _ (image : Bytes) (ds : List Descriptor) where
     read = read-answers;
     create = create-answers;
     append = append-answers;
+    overwrite = overwrite-answers;
     unlink = unlink-answers;
     rename = rename-answers;
     collect = rw (unless-number (mountNumber image ds) (collectWith image (fileAreas image ds) (scratchAreas image ds)))

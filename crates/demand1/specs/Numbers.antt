@@ -12,10 +12,10 @@ use Rattle.calls.specs.Storing.{isAmong}
 use Rattle.calls.specs.declared.Descriptor.{Descriptor}
 use Rattle.calls_laws.specs.Unused.{among}
 use Rattle.demand1.specs.Table.{Row, Answers, formatRows, mountRows, areaReportRows, lookupRows, openRows, readRows, createRows, appendRows, unlinkRows}
-use Rattle.demand1.specs.Table.{renameRows, collectRows}
+use Rattle.demand1.specs.Table.{overwriteRows, renameRows, collectRows}
 use Rattle.demand1.specs.Table.{Exactly}
 use Rattle.demand1.specs.Words.{formatNumbers, reportNumbers, areaReportNumbers, pathNumbers, readNumbers, createNumbers, appendNumbers, unlinkNumbers}
-use Rattle.demand1.specs.Words.{renameNumbers, collectNumbers}
+use Rattle.demand1.specs.Words.{overwriteNumbers, renameNumbers, collectNumbers}
 use Rattle.demand1.specs.Words.{Numbers}
 
 -- 0, or the number of a row
@@ -47,6 +47,8 @@ numbers image ds x = record {
   read = λ id position room. answers-within (readRows image ds id position) readNumbers refl _ (x .read id position room);
   create = λ base path kind. answers-within (createRows image ds base path kind) createNumbers refl _ (x .create base path kind);
   append = λ base path text. answers-within (appendRows image ds base path text) appendNumbers refl _ (x .append base path text);
+  overwrite = λ base path offset text.
+      answers-within (overwriteRows image ds base path offset text) overwriteNumbers refl _ (x .overwrite base path offset text);
   unlink = λ base path. answers-within (unlinkRows image ds base path) unlinkNumbers refl _ (x .unlink base path);
   rename = λ base old new. answers-within (renameRows image ds base old new) renameNumbers refl _ (x .rename base old new);
   collect = answers-within (collectRows image ds) collectNumbers refl _ (x .collect);

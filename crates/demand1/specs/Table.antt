@@ -1,11 +1,11 @@
 -- The table of document 01, "Numbers of refusal, in order of check", in its words: for each call the rows that it asks, in order. Document 02
--- amends it: T-01 adds rename and the number 18.
+-- amends it: T-01 adds rename and the number 18, T-05 adds overwrite.
 use Prim.Native.Nat.{ℕ, suc, _+_, _≤_, _<_}
 use mathlib.Core.Path.{_≡_}
 use mathlib.Core.Logic.{_⊎_, _≢_}
 use mathlib.Core.Bool.{true, false}
 use mathlib.Core.Option.{none, some}
-use mathlib.Core.List.{List, [], _∷_, _++_, List·Memᴰ}
+use mathlib.Core.List.{List, [], _∷_, _++_, map, List·Memᴰ}
 use lib.ListN.{length}
 use Rattle.format.specs.Bytes.{Bytes}
 use Rattle.format.specs.Ids.{rootId, isDirectoryId}
@@ -26,6 +26,7 @@ use Rattle.calls.specs.Append.{mostAppended, newBlocks, appendOf}
 use Rattle.calls.specs.Rewrite.{lastSequence, sequenceOf, rewritten}
 use Rattle.calls.specs.Unlink.{deletion, unlinkOf}
 use Rattle.calls.specs.Rename.{renameOf}
+use Rattle.calls.specs.Overwrite.{changes, newVersion, oldBlocks, overwriteOf}
 use Rattle.calls.specs.Format.{formatNumber}
 use Rattle.calls.specs.Report.{reportOf}
 use Rattle.calls.specs.AreaReport.{areaReportOf}
@@ -230,16 +231,50 @@ createRows image ds base path kind =
     ∷ (15 given-when Leads o (λ d. NoRoom image ds (newInode v kind d (lastName ns))))
     ∷ []))
 
--- "over 8,192 bytes to append" is 8; "append of a directory" is 11; "all pieces or none"
+-- a text for what a path leads to: "over 8,192 bytes to append" is 8; "append of a directory" is 11; 13 is "append of a broken file"
+abbrev pub textRows : Bytes → List Descriptor → Bytes → Bytes → Bytes → List Row → List Row
+textRows image ds base path text rest =
+    let v = volume image ds in
+    let o = lookupNames byBytes v (pathNames base path) in
+    pathRows image ds (BadPath base path ⊎ (mostAppended < length text)) (pathNames base path)
+    ((11 given-when Leads o (λ f. isDirectoryId f ≡ true)) ∷ (13 given-when Leads o (λ f. fileBlocks byBytes v f ≡ none)) ∷ rest)
+
+-- 5 again "with the new records counted in", before 15; "all pieces or none"
 abbrev pub appendRows : Bytes → List Descriptor → Bytes → Bytes → Bytes → List Row
 appendRows image ds base path text =
     let v = volume image ds in
     let o = lookupNames byBytes v (pathNames base path) in
-    pathRows image ds (BadPath base path ⊎ (mostAppended < length text)) (pathNames base path)
-    ((11 given-when Leads o (λ f. isDirectoryId f ≡ true))
-    ∷ (13 given-when Leads o (λ f. fileBlocks byBytes v f ≡ none))
-    ∷ (5 given-when Leads o (λ f. mostBlocks < length (blockIds byBytes v) + length (newBlocks image ds f text)))
+    textRows image ds base path text
+    ((5 given-when Leads o (λ f. mostBlocks < length (blockIds byBytes v) + length (newBlocks image ds f text)))
     ∷ (15 given-when Leads o (λ f. NoRoomLeft (spaces image (fileAreas image ds)) (newBlocks image ds f text)))
+    ∷ [])
+
+-- T-05: b is one of a file's blocks bs "that holds a byte of the written range": n bytes are written at the offset
+pub record Touched (bs : List Bytes) (offset n : ℕ) (b : Bytes) : Type 0 where
+  pub before : List Bytes
+  pub behind : List Bytes
+  pub split : bs ≡ before ++ (b ∷ behind)
+  -- where the byte stands in the file
+  pub place : ℕ
+  pub written : (offset ≤ place) × (place < offset + n)
+  pub held : (length (textOf byBytes before) ≤ place) × (place < length (textOf byBytes before) + length (byBytes .text b))
+
+-- T-05: "each block that holds a byte of the written range is rewritten": those of the file f, one after the other
+abbrev pub newVersions : Bytes → List Descriptor → ℕ → ℕ → Bytes → List Bytes
+newVersions image ds f offset text = map newVersion (changes (oldBlocks image ds f) offset text)
+
+-- T-05, overwrite: it "is refused as append is, 13 too; an offset or an end past the size is 14; such a block at sequence ffffffff is 16"; "16 comes
+-- before 15"; "all or none". Its records have no new ids: 5 isn't asked again
+abbrev pub overwriteRows : Bytes → List Descriptor → Bytes → Bytes → ℕ → Bytes → List Row
+overwriteRows image ds base path offset text =
+    let v = volume image ds in
+    let o = lookupNames byBytes v (pathNames base path) in
+    textRows image ds base path text
+    ((14 given-when Leads o (λ f. (bs : List Bytes) × (fileBlocks byBytes v f ≡ some bs)
+    × ((length (textOf byBytes bs) < offset) ⊎ (length (textOf byBytes bs) < offset + length text))))
+    ∷ (16 given-when Leads o (λ f. (bs : List Bytes) × (fileBlocks byBytes v f ≡ some bs)
+    × ((b : Bytes) × Touched bs offset (length text) b × (recordSequence b ≡ lastSequence))))
+    ∷ (15 given-when Leads o (λ f. NoRoomLeft (spaces image (fileAreas image ds)) (newVersions image ds f offset text)))
     ∷ [])
 
 -- the inode to which a walk leads is rewritten: 16 where its "sequence is ffffffff", then 15; "16 comes before 15"
@@ -293,6 +328,8 @@ pub record Exactly (image : Bytes) (ds : List Descriptor) : Type 0 where
   pub read : (id position room : ℕ) → Answers (readRows image ds id position) (readAnswer (readGiven image ds id position room) .number)
   pub create : (base path : Bytes) (kind : ℕ) → Answers (createRows image ds base path kind) (createOf image ds base path kind .number)
   pub append : (base path text : Bytes) → Answers (appendRows image ds base path text) (appendOf image ds base path text)
+  pub overwrite : (base path : Bytes) (offset : ℕ) (text : Bytes)
+      → Answers (overwriteRows image ds base path offset text) (overwriteOf image ds base path offset text)
   pub unlink : (base path : Bytes) → Answers (unlinkRows image ds base path) (unlinkOf image ds base path)
   pub rename : (base old new : Bytes) → Answers (renameRows image ds base old new) (renameOf image ds base old new)
   pub collect : Answers (collectRows image ds) (collectOf image ds)

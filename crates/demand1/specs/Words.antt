@@ -29,6 +29,7 @@ use Rattle.calls.specs.Append.{newBlocks, appendOf, imageAppended}
 use Rattle.calls.specs.Rewrite.{rewritten}
 use Rattle.calls.specs.Unlink.{deletion, unlinkOf, imageUnlinked}
 use Rattle.calls.specs.Rename.{renameOf, imageRenamed}
+use Rattle.calls.specs.Overwrite.{overwriteOf, imageOverwritten}
 use Rattle.calls.specs.Collect.{sourceOf, collectOf, imageCollected}
 use Rattle.calls.specs.declared.Descriptor.{Descriptor}
 use Rattle.calls.specs.declared.Handle.{Handle}
@@ -36,7 +37,7 @@ use Rattle.calls_laws.specs.Checks.{InArea}
 use Rattle.demand2.specs.Store.{freePlace}
 use Rattle.demand2.specs.NewRecord.{WrittenOne}
 use Rattle.demand2.specs.Refused.{RefusedCalls}
-use Rattle.demand1.specs.Table.{Exactly}
+use Rattle.demand1.specs.Table.{newVersions, Exactly}
 
 -- ---- the numbers of each call; "0 is success"
 
@@ -69,6 +70,10 @@ createNumbers = pathNumbers ++ (12 ∷ 15 ∷ [])
 abbrev pub appendNumbers : List ℕ
 appendNumbers = pathNumbers ++ (13 ∷ 15 ∷ [])
 
+-- T-05: "refused as append is, 13 too; an offset or an end past the size is 14; such a block at sequence ffffffff is 16"
+abbrev pub overwriteNumbers : List ℕ
+overwriteNumbers = appendNumbers ++ (14 ∷ 16 ∷ [])
+
 -- "16: unlink: sequence is ffffffff"
 abbrev pub unlinkNumbers : List ℕ
 unlinkNumbers = pathNumbers ++ (15 ∷ 16 ∷ [])
@@ -91,6 +96,7 @@ pub record Numbers (image : Bytes) (ds : List Descriptor) : Type 0 where
   pub read : (id position room : ℕ) → List·Memᴰ (readAnswer (readGiven image ds id position room) .number) readNumbers
   pub create : (base path : Bytes) (kind : ℕ) → List·Memᴰ (createOf image ds base path kind .number) createNumbers
   pub append : (base path text : Bytes) → List·Memᴰ (appendOf image ds base path text) appendNumbers
+  pub overwrite : (base path : Bytes) (offset : ℕ) (text : Bytes) → List·Memᴰ (overwriteOf image ds base path offset text) overwriteNumbers
   pub unlink : (base path : Bytes) → List·Memᴰ (unlinkOf image ds base path) unlinkNumbers
   pub rename : (base old new : Bytes) → List·Memᴰ (renameOf image ds base old new) renameNumbers
   pub collect : List·Memᴰ (collectOf image ds) collectNumbers
@@ -150,6 +156,10 @@ pub record AcceptedCalls (image : Bytes) (ds : List Descriptor) : Type 0 where
   pub append : (base path text : Bytes) → appendOf image ds base path text ≡ 0
       → (f : ℕ) × (resolve image ds base path ≡ found f)
       × OnlyStored image (imageAppended image ds base path text) ds (newBlocks image ds f text)
+  -- T-05: "each block that holds a byte of the written range is rewritten": the new versions, of blocks of the file f
+  pub overwrite : (base path : Bytes) (offset : ℕ) (text : Bytes) → overwriteOf image ds base path offset text ≡ 0
+      → (f : ℕ) × (resolve image ds base path ≡ found f)
+      × OnlyStored image (imageOverwritten image ds base path offset text) ds (newVersions image ds f offset text)
   -- "a deletion record", of the inode i
   pub unlink : (base path : Bytes) → unlinkOf image ds base path ≡ 0
       → (i : ℕ) × (resolve image ds base path ≡ found i) × OnlyOne image (imageUnlinked image ds base path) ds (deletion (volume image ds) i)

@@ -8,6 +8,7 @@ use Rattle.format.specs.Reading.{ERASED}
 use Rattle.format.specs.Encoding.{inodeFront, sealed, inodeBytes, blockBytes, areaHeader}
 use Rattle.calls.specs.Create.{imageCreated}
 use Rattle.calls.specs.Rename.{imageRenamed}
+use Rattle.calls.specs.Overwrite.{imageOverwritten}
 use Rattle.calls.specs.declared.Descriptor.{Descriptor}
 
 -- an area with a collection count and an id: records one behind the other, and then free space
@@ -160,3 +161,41 @@ reused = imageCreated renamed two [] (slash a) 1
 -- an image with the record of that rename overwritten in one byte, its name
 abbrev pub hit : Bytes → Bytes
 hit image = set image 110 0
+
+-- ---- overwrites (T-05)
+
+-- the file a in three blocks, "abcd" in the first area and "efg" and "h" in the second; "h" is at the last sequence. The file b is broken: the one
+-- block of it names another that is not there
+unfoldable pub logged : Bytes
+logged =
+    holding 0 0 (rootRecord ++ (inodeBytes file 0 0 a ++ (inodeBytes other 0 0 b ++ blockBytes 0x80000000 0 file NONE (0x61 ∷ 0x62 ∷ 0x63 ∷ 0x64 ∷ []))))
+    ++ (holding 1 1 (blockBytes 0x80000001 7 file 0x80000000 (0x65 ∷ 0x66 ∷ 0x67 ∷ [])
+    ++ (blockBytes 0x80000002 0xffffffff file 0x80000001 (0x68 ∷ []) ++ blockBytes 0x80000003 0 other 0x80000004 (0x69 ∷ [])))
+    ++ holding 0 255 [])
+
+-- "xy" and "xyz"
+abbrev pub xy : Bytes
+xy = 0x78 ∷ 0x79 ∷ []
+
+abbrev pub xyz : Bytes
+xyz = 0x78 ∷ 0x79 ∷ 0x7a ∷ []
+
+-- inside the first block of a, from there into the second, and the whole second one
+unfoldable pub inside : Bytes
+inside = imageOverwritten logged three [] (slash a) 1 xy
+
+unfoldable pub across : Bytes
+across = imageOverwritten logged three [] (slash a) 2 xyz
+
+unfoldable pub wholeBlock : Bytes
+wholeBlock = imageOverwritten logged three [] (slash a) 4 xyz
+
+-- the file a with two blocks of one byte, and room for one more
+unfoldable pub twoBytes : Bytes
+twoBytes =
+    holding 0 0 (rootRecord ++ (inodeBytes file 0 0 a ++ (blockBytes 0x80000000 0 file NONE (0x6f ∷ []) ++ blockBytes 0x80000001 0 file 0x80000000 (0x6b ∷ []))))
+    ++ holding 0 255 []
+
+-- the file a with a block of 45 bytes, one more than the greatest block size, and no room for another
+unfoldable pub long : ℕ → Bytes
+long sequence = holding 0 0 (rootRecord ++ (inodeBytes file 0 0 a ++ blockBytes 0x80000000 sequence file NONE (replicate 45 0x6f)))
