@@ -1,2 +1,3 @@
 -- The blocks of a file in a list.
 pub mod Listing
+pub mod File
