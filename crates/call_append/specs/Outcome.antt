@@ -1,35 +1,35 @@
 -- The number of an append and the image after it. Document 01, "Create, append, unlink" and refusals 8 to 11, 13, 5 and 15.
 use Prim.Native.Nat.{ℕ, _+_, _≤_, _<_}
 use mathlib.Core.Path.{_≡_, refl, sym, ap, _∙_}
-use mathlib.Core.Bool.{Bool, true, false, cond, not, _||_}
+use mathlib.Core.Bool.{true, false, cond}
 use mathlib.Core.List.{List}
 use mathlib.Core.Option.{Option, none, some}
 use native.Mathlib.Omega.{arith}
 use lib.ListN.{length}
 use lib.Seq.{take-length}
 use lib.Dec.{ltb}
-use borrow.Author.Tests.{lt-ltb, le-ltb, eq-eqb}
+use borrow.Author.Tests.{lt-ltb, le-ltb}
 use Rattle.format.specs.Bytes.{Bytes}
 use Rattle.format.specs.Ids.{isDirectoryId}
 use Rattle.volume.specs.View.{byBytes}
 use Rattle.volume.specs.Counting.{blockIds}
 use Rattle.volume.specs.Contents.{lastBlock, fileBlocks}
-use Rattle.volume.specs.Path.{goodPath, pathNames}
-use Rattle.volume.specs.Tree.{Found, found, absent, lookupNames}
+use Rattle.volume.specs.Tree.{Found, found, absent}
 use Rattle.volume_laws.specs.Map.{overVolume, blockIds-map, lastBlock-map}
 use Rattle.record_places.specs.Place.{byPlace, bytesAt}
 use Rattle.record_places.specs.Laws.{place-views}
 use Rattle.table_rows.specs.Parts.{part-long}
 use Rattle.calls.specs.Areas.{fileAreas}
 use Rattle.calls.specs.Refusal.{firstRefusal}
-use Rattle.calls.specs.Mount.{mostBlocks, volume, mountNumber}
+use Rattle.calls.specs.Mount.{mostBlocks, volume}
 use Rattle.calls.specs.Storing.{Store, namedIds, spaces, placeAll, noPlace, storedOr}
 use Rattle.calls.specs.Lookup.{resolve}
-use Rattle.calls.specs.Attempt.{Attempt, goes, refuses, numberOf, leaves, unless, atFound, attemptAt}
+use Rattle.calls.specs.Attempt.{Attempt, goes, refuses, numberOf, leaves, unless, atFound}
 use Rattle.calls.specs.Append.{mostAppended, piecesOf, orNone, blockRecords, newBlocks, isBroken, appendTo, appending, appendImage, appendOf, imageAppended}
 use Rattle.calls.specs.declared.Descriptor.{Descriptor}
 use Rattle.area_pass.specs.Bridge.{placedVolume, volume-places}
 use Rattle.path_walk.specs.Resolved.{refusalOf}
+use Rattle.path_find.specs.Text.{text-long, text-at}
 use Rattle.write_sizes.specs.Cut.{pieces, shortest-described}
 use Rattle.write_pieces.specs.Plan.{records-count}
 use Rattle.mount_state.specs.State.{startsIn, spansIn, blockIdsIn, blockIdsAt, Safe, Holds}
@@ -150,27 +150,14 @@ module _ {image : Bytes} {ds : List Descriptor} {m : Mounted} {t : List ℕ} (h 
 
   -- too much
   pub append-long : mostAppended < length text → Done 8 image
-  unfolding appending attemptAt
-  append-long more = done (refuses 8) long (refl, refl)
-    where
-      or-true : (b : Bool) → (b || true) ≡ true
-      or-true true = refl
-      or-true false = refl
-
-      long : appending image ds base path text ≡ refuses 8
-      long = rw (eq-eqb (mountNumber image ds) 0 (h .number), lt-ltb mostAppended (length text) more, or-true (not (goodPath base path)))
+  unfolding appending
+  append-long more = done (refuses 8) (text-long h base path text (λ f. appendTo image ds f text) more) (refl, refl)
 
   -- o is what the path leads to
   module _ (short : length text ≤ mostAppended) (o : Found) (e : o ≡ resolve image ds base path) where
     appending-is : appending image ds base path text ≡ atFound (λ f. appendTo image ds f text) o
-    unfolding appending attemptAt resolve
-    appending-is = rw (e, eq-eqb (mountNumber image ds) 0 (h .number), le-ltb mostAppended (length text) short)
-        (ap (atFound (λ f. appendTo image ds f text)) (go (goodPath base path)))
-      where
-        go : (b : Bool) → cond (not b || false) (absent 8) (lookupNames byBytes (volume image ds) (pathNames base path))
-            ≡ cond b (lookupNames byBytes (volume image ds) (pathNames base path)) (absent 8)
-        go true = refl
-        go false = refl
+    unfolding appending
+    appending-is = text-at h base path text (λ f. appendTo image ds f text) short o e
 
     -- nothing; k is the number of refusal
     pub append-absent : (n : ℕ) → o ≡ absent n → (k : ℕ) → k ≡ refusalOf o → Done k image

@@ -94,6 +94,12 @@ pairs-needed [] (b ∷ bs) = refl
 pairs-needed (q ∷ qs) [] = refl
 pairs-needed (q ∷ qs) (b ∷ bs) = ap (λ (l : List Store). record { place = q; bytes = b } ∷ l) (pairs-needed qs bs)
 
+pub each-needed : (P : Space → Type 0) (ns qs : List ℕ) → EachAt P ns (take (length ns) qs) → EachAt P ns qs
+unfolding EachAt
+each-needed P [] qs h = tt
+each-needed P (n ∷ ns) [] h = tt
+each-needed P (n ∷ ns) (q ∷ qs) h = (h .0, each-needed P ns qs (h .1))
+
 -- blocks with so much data, placed, are these stores
 pub blocks-paired : (ss : List Space) (bs : List Bytes) (ns : List ℕ) → map length bs ≡ map (λ n. block .headerSize + n) ns
     → placeAll ss bs ≡ over (λ qs. pairStores qs bs) (placesFor ss ns)
@@ -120,6 +126,15 @@ blocks-paired ss (b ∷ bs) (n ∷ ns) e =
 abbrev pub plannedOf : Bool → List ℕ → Option (List ℕ)
 plannedOf true qs = some qs
 plannedOf false qs = none
+
+pub planned-some : (o : Option (List ℕ)) (r : Bool) (qs : List ℕ) → o ≡ plannedOf r qs → r ≡ true → o ≡ some qs
+planned-some o r qs e t = e ∙ ap (λ (b : Bool). plannedOf b qs) t
+
+pub planned-none : (o : Option (List ℕ)) (r : Bool) (qs : List ℕ) → o ≡ plannedOf r qs → r ≡ false → o ≡ none
+planned-none o r qs e t = e ∙ ap (λ (b : Bool). plannedOf b qs) t
+
+pub planned-inside : (m : ℕ) (ns : List ℕ) (r : Bool) (qs : List ℕ) → PlannedAt m ns (plannedOf r qs) → r ≡ true → Planned m ns qs
+planned-inside m ns r qs p t = subst (λ (b : Bool). PlannedAt m ns (plannedOf b qs)) t p
 
 -- ---- the loop that takes the places
 

@@ -2,5 +2,6 @@
 pub mod Held
 pub mod Greatest
 pub mod Plan
+pub mod Sizes
 pub mod Version
 pub mod Stores

@@ -11,7 +11,6 @@ use lib.Dec.{eqb}
 use borrow.Author.Tests.{eqb-false}
 use Rattle.format.specs.Bytes.{Bytes}
 use Rattle.format.specs.Record.{block, recordSequence}
-use Rattle.format_laws.specs.Encoding.{block-size}
 use Rattle.volume.specs.View.{byBytes}
 use Rattle.volume.specs.Contents.{textOf}
 use Rattle.volume_laws.specs.Map.{textOf-map}
@@ -31,11 +30,18 @@ use Rattle.write_room.specs.Spaces.{EndsWithin, ClearOf}
 use Rattle.write_room.specs.Plan.{EachAt, pairStores}
 use Rattle.write_versions.specs.Held.{held-meets, total, sizesHeld, Sizes, Position, position-begins, position-next, position-within}
 use Rattle.write_versions.specs.Greatest.{listed-size, listed-long, text-size, greatestFrom, greatest-step}
+use Rattle.write_versions.specs.Sizes.{version-size}
 use Rattle.write_versions.specs.Version.{Versioned}
 
 -- the new versions of the blocks that hold a byte of the range, whose bytes are those of the text
 abbrev pub versionsOf : Bytes → List ℕ → ℕ → Bytes → List Bytes
 versionsOf image bs from text = map newVersion (changes (map (bytesAt image) bs) from text)
+
+-- the bytes of the sizes are those of the text
+pub text-total : (x₀ : Bytes) (cs : List ℕ) → length (textOf (byPlace x₀) cs) ≡ total (map (dataSize x₀) cs)
+unfolding textOf total
+text-total x₀ [] = refl
+text-total x₀ (p ∷ cs) = length-append (byPlace x₀ .text p) (textOf (byPlace x₀) cs) ∙ ap (λ n. dataSize x₀ p + n) (text-total x₀ cs)
 
 -- nothing at any place
 pairs-none : (qs : List ℕ) → pairStores qs [] ≡ []
@@ -94,14 +100,8 @@ module _ {x₀ : Bytes} {bs ns qs : List ℕ} {from to : ℕ} {text : Bytes} (ok
   after-is : after ≡ put W from text
   after-is = ap (λ (w : Bytes). put w from text) (textOf-map (byPlace x₀) byBytes (bytesAt x₀) (place-views x₀) bs)
 
-  -- the bytes of the sizes are those of the text
-  text-total : (cs : List ℕ) → length (textOf (byPlace x₀) cs) ≡ total (map (dataSize x₀) cs)
-  unfolding textOf total
-  text-total [] = refl
-  text-total (p ∷ cs) = length-append (byPlace x₀ .text p) (textOf (byPlace x₀) cs) ∙ ap (λ n. dataSize x₀ p + n) (text-total cs)
-
   whole-long : length W ≡ total ns
-  whole-long = text-total bs ∙ ap total (sym (ok .listed .sizes))
+  whole-long = text-total x₀ bs ∙ ap total (sym (ok .listed .sizes))
 
   module _ {x : Bytes} {s k i : ℕ} (g : Storing x₀ bs ns qs from to text x s k i) where
     pub storing-ends : length bs ≤ i → Fresh x₀ bs ns qs from to → x ≡ storeAll x₀ (pairStores qs (versionsOf x₀ bs from text))
@@ -237,9 +237,8 @@ module _ {x₀ : Bytes} {bs ns qs : List ℕ} {from to : ℕ} {text : Bytes} (ok
             ap length after-is ∙ length-put W from text (omega (arith, ok .range, ok .within, whole-long)) ∙ whole-long
 
         version-long : length version ≡ block .headerSize + n
-        unfolding newVersion
         version-long =
-            block-size _ _ _ _ (part after s n)
+            version-size (record { block = bytesAt x₀ p; text = part after s n })
             ∙ ap (λ m. block .headerSize + m) (part-length after s n (omega (arith, after-long, position-within (g .position) in-sizes)))
 
         -- its data is its part of the whole

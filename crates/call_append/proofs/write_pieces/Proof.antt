@@ -1,6 +1,5 @@
 -- `call_append::write_pieces` meets its contract.
-use mathlib.Core.Path.{_≡_, ap, subst, _∙_}
-use mathlib.Core.Bool.{Bool}
+use mathlib.Core.Path.{_≡_, _∙_}
 use mathlib.Core.List.{List, map}
 use mathlib.Core.Option.{some}
 use borrow.Author.Needs.{needs}
@@ -11,7 +10,7 @@ use Rattle.calls.specs.declared.Descriptor.{Descriptor}
 use Rattle.mount_state.specs.State.{Holds}
 use Rattle.write_ids.specs.Window.{namedAt}
 use Rattle.write_sizes.specs.Cut.{pieces}
-use Rattle.write_room.specs.Plan.{placesFor, Planned, PlannedAt, plannedOf}
+use Rattle.write_room.specs.Plan.{placesFor, Planned, planned-some, planned-none, planned-inside}
 use Rattle.write_pieces.specs.Plan.{idsFor}
 use Rattle.call_append.specs.Written.{not-written, writing-ready, written}
 use Rattle.call_append.proofs.write_pieces.Statement.{statement}
@@ -31,14 +30,12 @@ placed t = t .before .before .before
 planned : (t : tie.Then1) → let p = placed t in let a = lent p .args in Planned (length (a .image .now)) (map length (pieces (a .chain .size) (a .text .now))) (p .plan-places .last .1 .1 .1 .1 .1 .0)
 planned t =
     let p = placed t in
-    let a = lent p .args in
-    subst (λ (b : Bool). PlannedAt (length (a .image .now)) (map length (pieces (a .chain .size) (a .text .now))) (plannedOf b (p .plan-places .last .1 .1 .1 .1 .1 .0))) (t .if1 .taken) (p .plan-places .ensures .1)
+    planned-inside (length (lent p .args .image .now)) _ (p .plan-places .result) _ (p .plan-places .ensures .1) (t .if1 .taken)
 
 places-told : (t : tie.Then1) → let p = placed t in let a = lent p .args in
     (ds : List Descriptor) → Holds (a .image .now) ds (a .m) (a .tables .now)
     → placesFor (spaces (a .image .now) (fileAreas (a .image .now) ds)) (map length (pieces (a .chain .size) (a .text .now))) ≡ some (p .plan-places .last .1 .1 .1 .1 .1 .0)
-places-told t ds h =
-    placed t .plan-places .ensures .0 ds h ∙ ap (λ (b : Bool). plannedOf b (placed t .plan-places .last .1 .1 .1 .1 .1 .0)) (t .if1 .taken)
+places-told t ds h = let p = placed t in planned-some _ (p .plan-places .result) _ (p .plan-places .ensures .0 ds h) (t .if1 .taken)
 
 ids-told : (i : tie.After-plan-ids) → let a = lent (placed (in-then i)) .args in
     i .plan-ids .last .1 .1 .0 ≡ idsFor (namedAt (a .image .now) (a .records .now)) (length (pieces (a .chain .size) (a .text .now)))
@@ -54,7 +51,7 @@ returns : tie.Need-returns
 returns c =
     let p = c .before .before .before in
     let a = lent p .args in
-    λ ds h. not-written (a .image .now) _ _ (a .chain) _ (rw (c .if1 .left) at (p .plan-places .ensures .0 ds h))
+    λ ds h. not-written (a .image .now) _ _ (a .chain) _ (planned-none _ (p .plan-places .result) _ (p .plan-places .ensures .0 ds h) (c .if1 .left))
 
 plan-ids-requires : tie.Need-plan-ids-requires
 plan-ids-requires c κs =

@@ -1,0 +1,3 @@
+-- What an overwrite writes, and what becomes of it.
+pub mod Written
+pub mod Outcome
