@@ -152,6 +152,18 @@ impl Engine for Wrapped {
         number
     }
 
+    fn overwrite(
+        &self,
+        i: &mut [u8],
+        areas: &[u32],
+        base: &[u8],
+        path: &[u8],
+        offset: u32,
+        data: &[u8],
+    ) -> u32 {
+        MODEL.overwrite(i, areas, base, path, offset, data)
+    }
+
     fn unlink(&self, image: &mut [u8], areas: &[u32], base: &[u8], path: &[u8]) -> u32 {
         MODEL.unlink(image, areas, base, path)
     }
