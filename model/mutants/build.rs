@@ -22,7 +22,7 @@ const FROM_LAYOUT: [&str; 10] = [
 ];
 
 /// Each module that has edits, and which are copied for them.
-const COPIED: [(&str, &[&str]); 10] = [
+const COPIED: [(&str, &[&str]); 11] = [
     ("layout", &FROM_LAYOUT),
     ("area", FROM_LAYOUT.split_at(1).1),
     ("mount", FROM_LAYOUT.split_at(2).1),
@@ -31,6 +31,7 @@ const COPIED: [(&str, &[&str]); 10] = [
     ("lookup", &["lookup", "file", "write", "overwrite", "rename"]),
     ("file", &["file", "write", "overwrite"]),
     ("write", &["write", "overwrite", "rename"]),
+    ("overwrite", &["overwrite"]),
     ("rename", &["rename"]),
     ("collect", &["collect"]),
 ];
