@@ -227,6 +227,8 @@ pub enum Made {
     /// Of several blocks.
     WholeFileOverwritten,
     ThreeBlocksOverwritten,
+    /// 100 and more.
+    HundredBlocksOverwritten,
     /// Two and more, the first and the last of the file not among them.
     MiddleBlocksOverwritten,
     OverwriteOf8192Bytes,
@@ -277,7 +279,7 @@ pub enum Made {
     OldBytesBack,
 }
 
-pub const ALL: [Made; 183] = [
+pub const ALL: [Made; 184] = [
     Made::WholeVolume,
     Made::ThousandsOfNamedIds,
     Made::TenDirectoriesDeep,
@@ -435,6 +437,7 @@ pub const ALL: [Made; 183] = [
     Made::OneBlockOverwritten,
     Made::WholeFileOverwritten,
     Made::ThreeBlocksOverwritten,
+    Made::HundredBlocksOverwritten,
     Made::MiddleBlocksOverwritten,
     Made::OverwriteOf8192Bytes,
     Made::OverwriteWithTheSame,

@@ -60,9 +60,10 @@ fn drawn(mut r: Random) -> Case {
     // Large images are few: each takes as long as many small ones.
     let flash = match r.below(400) {
         0..=137 => images::life(&mut r),
-        138..=289 => images::tree(&mut r),
-        290..=313 => overwrites::files(&mut r),
-        314..=318 => overwrites::long(&mut r),
+        138..=287 => images::tree(&mut r),
+        288..=310 => overwrites::files(&mut r),
+        311..=315 => overwrites::long(&mut r),
+        316..=318 => overwrites::many(&mut r),
         319..=336 => renames::tree(&mut r),
         337..=344 => blocks::edges(&mut r),
         345..=352 => blocks::earlier(&mut r),

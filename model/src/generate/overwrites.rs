@@ -14,6 +14,9 @@ use crate::layout::{is_directory, is_file, Block, Inode, FIRST_BLOCK, FIRST_FILE
 use crate::mount::{Fate, FileArea, FileSystem};
 use crate::write::APPEND;
 
+/// So many blocks of a file are many.
+const MANY: usize = 100;
+
 /// Sequences, the last one and the one before it among them.
 const LATE: [u32; 10] = [0, 0, 0, 0, 0, 1, 5, 0xffff_fffe, 0xffff_fffe, 0xffff_ffff];
 
@@ -125,6 +128,27 @@ pub fn long(r: &mut Random) -> Flash {
     flash
 }
 
+/// A file of a hundred blocks and more, and about as much room again.
+pub fn many(r: &mut Random) -> Flash {
+    let count = r.between(MANY, 3 * MANY);
+    let lengths = [count * (Block::HEADER + 3) + r.below(200); 3];
+    let mut flash = place(r, &lengths);
+    let scratch = write_headers(r, &mut flash);
+    let areas: Vec<usize> = (0..lengths.len()).filter(|area| *area != scratch).collect();
+    let mut records = vec![Inode::new(ROOT, 0, NONE, b"").bytes()];
+    records.push(Inode::new(FIRST_FILE, 0, ROOT, b"a").bytes());
+    let mut previous = NONE;
+    for (k, id) in (0..count).zip(FIRST_BLOCK..) {
+        let data = numbered(k, 1 + k % 3);
+        records.push(Block::new(id, 0, FIRST_FILE, previous, &data).bytes());
+        previous = id;
+    }
+    for record in records {
+        let _ = areas.iter().any(|area| flash.put(*area, &record));
+    }
+    flash
+}
+
 /// Whether there is something that other images seldom have to overwrite: a file of
 /// three blocks and more, or a block with the last sequence.
 pub fn is_worth_it(fs: &FileSystem) -> bool {
@@ -200,22 +224,38 @@ fn two(r: &mut Random, of: &[usize]) -> (usize, usize) {
     (a.min(b), a.max(b))
 }
 
-/// An offset and a length: within the file, along its blocks or across them, at its
-/// end, past it, or at the limits. Oftener where a block has the last sequence, or is
-/// a byte too long for the greatest room.
-fn range(r: &mut Random, blocks: &[Block], room: usize) -> (u32, usize) {
-    let edges = edges(blocks);
+/// An offset and a length for what few files have: more bytes than one overwrite takes,
+/// many blocks, one with the last sequence or one that is a byte too long for the
+/// greatest room.
+fn seldom(
+    r: &mut Random,
+    blocks: &[Block],
+    edges: &[usize],
+    room: usize,
+) -> Option<(usize, usize)> {
     let size = edges[blocks.len()];
     if size > APPEND && r.chance(60) {
         let length = r.pick(&[APPEND, APPEND, APPEND + 1, APPEND + 1, size]);
-        return (r.pick(&[0, size.saturating_sub(length)]) as u32, length);
+        return Some((r.pick(&[0, size.saturating_sub(length)]), length));
+    }
+    if blocks.len() >= MANY && r.chance(40) {
+        let (from, less) = (r.below(9), r.below(9));
+        return Some((from, size.saturating_sub(from + less)));
     }
     let worth_it = |block: &Block| block.sequence == u32::MAX || record(block) == room + 1;
-    if let Some(at) = blocks.iter().position(worth_it).filter(|_| r.chance(30)) {
-        let (start, end) = (edges[at], edges[at + 1]);
-        let length = r.pick(&[0, 1, end - start, size - start + 1, APPEND + 1]);
-        return (start as u32, length);
+    let at = blocks.iter().position(worth_it).filter(|_| r.chance(30))?;
+    let (start, end) = (edges[at], edges[at + 1]);
+    Some((start, r.pick(&[0, 1, end - start, size - start + 1, APPEND + 1])))
+}
+
+/// An offset and a length: within the file, along its blocks or across them, at its
+/// end, past it, or at the limits.
+fn range(r: &mut Random, blocks: &[Block], room: usize) -> (u32, usize) {
+    let edges = edges(blocks);
+    if let Some((offset, length)) = seldom(r, blocks, &edges, room) {
+        return (offset as u32, length);
     }
+    let size = edges[blocks.len()];
     let (place, other) = (r.below(size + 1), r.below(size + 1));
     let (from, to) = match r.below(24) {
         0 | 1 => return (nowhere(r, size), 0),
@@ -229,7 +269,7 @@ fn range(r: &mut Random, blocks: &[Block], room: usize) -> (u32, usize) {
             let length = r.pick(&[APPEND, APPEND + 1, APPEND + 2, 9000, 65_535, 65_536, 70_000]);
             return (place as u32, length);
         }
-        13.. if blocks.len() > 50 => (place, size.min(place + r.between(1, 4))),
+        13.. if blocks.len() >= MANY => (place, size.min(place + r.between(1, 4))),
         13..=16 if blocks.len() > 1 => {
             let edge = edges[r.between(1, blocks.len() - 1)];
             (edge.saturating_sub(r.between(1, 3)), (edge + r.between(1, 3)).min(size))

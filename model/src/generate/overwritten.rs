@@ -5,7 +5,7 @@
 use super::made::{holding, in_path, mounts, Made};
 use crate::compare::Side;
 use crate::file::{contents, size};
-use crate::layout::{is_directory, is_file, Block, Record};
+use crate::layout::{is_directory, is_file, Block, Record, ROOT};
 use crate::lookup::walk;
 use crate::mount::{Fate, FileArea, FileSystem, BLOCKS};
 use crate::path;
@@ -205,6 +205,7 @@ fn in_range(overwrite: &Overwrite) -> Vec<Made> {
         (Made::OneBlockOverwritten, several && held.len() == 1 && first && last),
         (Made::WholeFileOverwritten, several && length == size(&overwrite.blocks)),
         (Made::ThreeBlocksOverwritten, held.len() >= 3),
+        (Made::HundredBlocksOverwritten, held.len() >= 100),
         (Made::MiddleBlocksOverwritten, held.len() > 1 && middle),
         (Made::OverwriteOf8192Bytes, length == APPEND),
         (Made::OverwriteWithTheSame, within == overwrite.data),
@@ -264,7 +265,7 @@ fn in_refused(overwrite: &Overwrite, by: Rule) -> Vec<Made> {
     let longest = overwrite.rooms().into_iter().max().unwrap_or(0);
     let short = matches!(held[..], [block] if longest + 1 == record(block));
     let first = held.first().is_some_and(|block| block.sequence == u32::MAX);
-    let is_root = overwrite.found == Some(Ok(crate::layout::ROOT));
+    let is_root = overwrite.found == Some(Ok(ROOT));
     holding(&[
         (Made::RootOverwritten, by == Rule::Kind && is_root),
         (Made::NothingInABrokenFile, by == Rule::Broken && length == 0),
