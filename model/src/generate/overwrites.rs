@@ -4,7 +4,7 @@ use std::ops::Range;
 
 use super::blocks::numbered;
 use super::images::{place, write_headers};
-use super::overwritten::blocks_of;
+use super::overwritten::{blocks_of, record};
 use super::paths::{name, names_of};
 use super::places;
 use super::random::Random;
@@ -90,11 +90,6 @@ fn earlier(r: &mut Random, block: &Block) -> Option<Block> {
     let sequence = block.sequence.checked_sub(1).filter(|_| r.chance(60))?;
     let data = block.data.iter().map(|byte| byte ^ 0x80).collect();
     Some(Block { sequence, data, ..block.clone() })
-}
-
-/// The bytes of a block's record.
-fn record(block: &Block) -> usize {
-    Block::HEADER + block.data.len()
 }
 
 /// What some blocks in a row take, or a byte less.

@@ -121,17 +121,15 @@ impl Overwrite<'_> {
         (areas, rooms)
     }
 
-    /// The bytes of the file, up to where the range begins and within it.
-    fn old(&self) -> (usize, Vec<u8>) {
-        let bytes: Vec<u8> = self.blocks.iter().flat_map(|block| block.data.clone()).collect();
-        let before = self.offset.min(bytes.len());
-        let within = bytes.into_iter().skip(self.offset).take(self.data.len()).collect();
-        (before, within)
+    /// What the range has before.
+    fn old(&self) -> Vec<u8> {
+        let bytes = self.blocks.iter().flat_map(|block| block.data.iter().copied());
+        bytes.skip(self.offset).take(self.data.len()).collect()
     }
 }
 
 /// The bytes of a block's record.
-fn record(block: &Block) -> usize {
+pub fn record(block: &Block) -> usize {
     Block::HEADER + block.data.len()
 }
 
@@ -192,10 +190,9 @@ fn in_nothing(overwrite: &Overwrite) -> Vec<Made> {
 /// Where the range of an accepted overwrite begins and ends.
 fn in_range(overwrite: &Overwrite) -> Vec<Made> {
     let (length, held) = (overwrite.data.len(), overwrite.held());
-    let (before, within) = overwrite.old();
-    let edges: Vec<usize> = overwrite.blocks.iter().map(|block| block.data.len()).collect();
-    let edges: Vec<usize> = (0..=edges.len()).map(|k| edges[..k].iter().sum()).collect();
-    let (first, last) = (edges.contains(&before), edges.contains(&(before + length)));
+    let edges: Vec<usize> =
+        (0..=overwrite.blocks.len()).map(|k| size(&overwrite.blocks[..k])).collect();
+    let [first, last] = [0, length].map(|at| edges.contains(&(overwrite.offset + at)));
     let several = overwrite.blocks.len() > 1;
     let ends = [overwrite.blocks.first(), overwrite.blocks.last()];
     let middle = !held.iter().any(|block| ends.contains(&Some(*block)));
@@ -208,7 +205,7 @@ fn in_range(overwrite: &Overwrite) -> Vec<Made> {
         (Made::HundredBlocksOverwritten, held.len() >= 100),
         (Made::MiddleBlocksOverwritten, held.len() > 1 && middle),
         (Made::OverwriteOf8192Bytes, length == APPEND),
-        (Made::OverwriteWithTheSame, within == overwrite.data),
+        (Made::OverwriteWithTheSame, overwrite.old() == overwrite.data),
     ])
 }
 
