@@ -7,25 +7,38 @@ use std::fmt::Write;
 use std::path::Path;
 use std::{env, fs};
 
+/// The module of the layouts and those that use it, each behind those that it uses.
+const FROM_LAYOUT: [&str; 10] = [
+    "layout",
+    "area",
+    "mount",
+    "area_report",
+    "lookup",
+    "file",
+    "write",
+    "overwrite",
+    "rename",
+    "collect",
+];
+
 /// Each module that has edits, and which are copied for them.
-const COPIED: [(&str, &[&str]); 10] = [
-    (
-        "layout",
-        &["layout", "area", "mount", "area_report", "lookup", "file", "write", "rename", "collect"],
-    ),
-    ("area", &["area", "mount", "area_report", "lookup", "file", "write", "rename", "collect"]),
-    ("mount", &["mount", "area_report", "lookup", "file", "write", "rename", "collect"]),
+const COPIED: [(&str, &[&str]); 11] = [
+    ("layout", &FROM_LAYOUT),
+    ("area", FROM_LAYOUT.split_at(1).1),
+    ("mount", FROM_LAYOUT.split_at(2).1),
     ("area_report", &["area_report"]),
-    ("path", &["path", "lookup", "file", "write", "rename"]),
-    ("lookup", &["lookup", "file", "write", "rename"]),
-    ("file", &["file", "write"]),
-    ("write", &["write", "rename"]),
+    ("path", &["path", "lookup", "file", "write", "overwrite", "rename"]),
+    ("lookup", &["lookup", "file", "write", "overwrite", "rename"]),
+    ("file", &["file", "write", "overwrite"]),
+    ("write", &["write", "overwrite", "rename"]),
+    ("overwrite", &["overwrite"]),
     ("rename", &["rename"]),
     ("collect", &["collect"]),
 ];
 
 /// The modules whose functions an engine calls.
-const CALLED: [&str; 7] = ["mount", "area_report", "lookup", "file", "write", "rename", "collect"];
+const CALLED: [&str; 8] =
+    ["mount", "area_report", "lookup", "file", "write", "overwrite", "rename", "collect"];
 
 fn main() {
     println!("cargo::rerun-if-changed=edits");

@@ -35,6 +35,15 @@ pub trait Engine {
     ) -> Create;
     fn append(&self, image: &mut [u8], areas: &[u32], base: &[u8], path: &[u8], data: &[u8])
         -> u32;
+    fn overwrite(
+        &self,
+        image: &mut [u8],
+        areas: &[u32],
+        base: &[u8],
+        path: &[u8],
+        offset: u32,
+        data: &[u8],
+    ) -> u32;
     fn unlink(&self, image: &mut [u8], areas: &[u32], base: &[u8], path: &[u8]) -> u32;
     fn rename(&self, image: &mut [u8], areas: &[u32], base: &[u8], old: &[u8], new: &[u8]) -> u32;
     fn collect(&self, image: &mut [u8], areas: &[u32]) -> u32;
@@ -92,6 +101,17 @@ impl Engine for Model {
         data: &[u8],
     ) -> u32 {
         crate::append(image, areas, base, path, data)
+    }
+    fn overwrite(
+        &self,
+        image: &mut [u8],
+        areas: &[u32],
+        base: &[u8],
+        path: &[u8],
+        offset: u32,
+        data: &[u8],
+    ) -> u32 {
+        crate::overwrite(image, areas, base, path, offset, data)
     }
     fn unlink(&self, image: &mut [u8], areas: &[u32], base: &[u8], path: &[u8]) -> u32 {
         crate::unlink(image, areas, base, path)
@@ -155,6 +175,12 @@ pub enum Call {
         path: Vec<u8>,
         data: Vec<u8>,
     },
+    Overwrite {
+        base: Vec<u8>,
+        path: Vec<u8>,
+        offset: u32,
+        data: Vec<u8>,
+    },
     Unlink {
         base: Vec<u8>,
         path: Vec<u8>,
@@ -183,6 +209,7 @@ impl Call {
             Call::Read { .. } => "Read",
             Call::Create { .. } => "Create",
             Call::Append { .. } => "Append",
+            Call::Overwrite { .. } => "Overwrite",
             Call::Unlink { .. } => "Unlink",
             Call::Rename { .. } => "Rename",
             Call::Collect => "Collect",
@@ -266,6 +293,9 @@ impl Side {
                 return vec![created.number, created.id];
             }
             Call::Append { base, path, data } => engine.append(image, areas, base, path, data),
+            Call::Overwrite { base, path, offset, data } => {
+                engine.overwrite(image, areas, base, path, *offset, data)
+            }
             Call::Unlink { base, path } => engine.unlink(image, areas, base, path),
             Call::Rename { base, old, new } => engine.rename(image, areas, base, old, new),
             Call::Collect => engine.collect(image, areas),
@@ -438,6 +468,10 @@ fn show_call(call: &Call) -> String {
         }
         Call::Append { base, path, data } => {
             format!("Call::Append {{ {}, data: {} }}", two(base, path), text(data))
+        }
+        Call::Overwrite { base, path, offset, data } => {
+            let at = format!("{}, offset: {offset}", two(base, path));
+            format!("Call::Overwrite {{ {at}, data: {} }}", text(data))
         }
         plain => format!("Call::{plain:?}"),
     }

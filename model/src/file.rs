@@ -59,7 +59,7 @@ fn readable(fs: &FileSystem, id: u32, position: u32) -> Result<Vec<Block>, Refus
     Ok(blocks)
 }
 
-fn size(blocks: &[Block]) -> usize {
+pub fn size(blocks: &[Block]) -> usize {
     blocks.iter().map(|block| block.data.len()).sum()
 }
 

@@ -1,6 +1,6 @@
 //! An ordinary Rust model of document 01 (NFFS version 0 over a lent image) as
-//! T-01, T-03, T-06, T-08 and T-14 of document 02 amend it, written from the
-//! documents alone, to be compared with the implementation.
+//! T-01, T-03, T-05, T-06, T-08 and T-14 of document 02 amend it, written from
+//! the documents alone, to be compared with the implementation.
 //!
 //! Every call answers from the bytes alone, as if the image were mounted anew.
 //! `areas` holds offset and length in turn. `number` is 0 or a refusal; a
@@ -21,6 +21,7 @@ pub mod generate;
 pub mod layout;
 pub mod lookup;
 pub mod mount;
+pub mod overwrite;
 pub mod path;
 pub mod refusal;
 pub mod rename;
@@ -128,6 +129,19 @@ pub fn create(image: &mut [u8], areas: &[u32], base: &[u8], path: &[u8], kind: u
 
 pub fn append(image: &mut [u8], areas: &[u32], base: &[u8], path: &[u8], data: &[u8]) -> u32 {
     write::append(image, areas, base, path, data)
+}
+
+/// From byte `offset` of the file on; what it has already is rewritten, it doesn't
+/// grow.
+pub fn overwrite(
+    image: &mut [u8],
+    areas: &[u32],
+    base: &[u8],
+    path: &[u8],
+    offset: u32,
+    data: &[u8],
+) -> u32 {
+    overwrite::overwrite(image, areas, base, path, offset, data)
 }
 
 pub fn unlink(image: &mut [u8], areas: &[u32], base: &[u8], path: &[u8]) -> u32 {

@@ -19,8 +19,8 @@ pub enum Refusal {
     Clash = 6,
     /// no record of id 0
     NoRoot = 7,
-    /// bad path or name; over 8,192 bytes to append; creating or unlinking the
-    /// root; rename: "A new path "/" is 8" (document 02, T-01)
+    /// bad path or name; over 8,192 bytes to append or to overwrite (document 02,
+    /// T-05); creating or unlinking the root; rename: "A new path "/" is 8" (T-01)
     BadRequest = 8,
     /// no such child, or a handle's id isn't live
     Absent = 9,
@@ -31,13 +31,15 @@ pub enum Refusal {
     /// create: the name is there (once or oftener); rename: "the new name being
     /// there is 12" (T-01)
     NameTaken = 12,
-    /// read or append of a broken file
+    /// read, append or overwrite (T-05) of a broken file
     Broken = 13,
-    /// read begins after the end
+    /// read begins after the end; overwrite: "an offset or an end past the size is
+    /// 14" (T-05)
     AfterEnd = 14,
     /// a record fits in no clean file area
     NoRoom = 15,
-    /// unlink, rename (T-01): sequence is ffffffff
+    /// unlink, rename (T-01): sequence is ffffffff; overwrite (T-05): that of a
+    /// block that holds a byte of the range
     LastSequence = 16,
     /// collect: no file area is as long as the scratch area
     NoSource = 17,

@@ -119,15 +119,23 @@ fn renumbered(calls: &[Call], dropped: usize) -> Vec<Call> {
 type Less = fn(usize) -> usize;
 /// Makes a part of a call less, if it has it.
 type Part = fn(&mut Call, Less);
-const PARTS: [Part; 3] = [length, index, stretch];
+const PARTS: [Part; 4] = [length, offset, index, stretch];
 
 fn length(call: &mut Call, less: Less) {
     match call {
-        Call::Append { data: bytes, .. } | Call::Damage { bytes, .. } => {
+        Call::Append { data: bytes, .. }
+        | Call::Overwrite { data: bytes, .. }
+        | Call::Damage { bytes, .. } => {
             bytes.truncate(less(bytes.len()));
         }
         Call::Read { length } | Call::ReadAt { length, .. } => *length = less(*length),
         _ => {}
+    }
+}
+
+fn offset(call: &mut Call, less: Less) {
+    if let Call::Overwrite { offset, .. } = call {
+        *offset = less(*offset as usize) as u32;
     }
 }
 

@@ -12,7 +12,7 @@ use crate::path;
 use crate::refusal::{number, Refusal};
 use crate::Create;
 
-/// "over 8,192 bytes to append".
+/// "over 8,192 bytes to append", or to overwrite (T-05).
 pub const APPEND: usize = 8192;
 
 /// "Format (checks 1, then 3 if fewer than two entries)".
@@ -170,15 +170,8 @@ fn try_append(
     data: &[u8],
 ) -> Result<(), Refusal> {
     let fs = mount(image, areas)?;
-    let names = path::names(base, path)?;
-    if data.len() > APPEND {
-        return Err(Refusal::BadRequest);
-    }
-    let owner = walk(&fs, &names)?;
-    if is_directory(owner) {
-        return Err(Refusal::WrongKind);
-    }
-    let last = contents(&fs, owner)?.last().map_or(NONE, |block| block.id);
+    let (owner, blocks) = file_to_write(&fs, base, path, data)?;
+    let last = blocks.last().map_or(NONE, |block| block.id);
     let pieces: Vec<&[u8]> = data.chunks(fs.greatest_block()).collect();
     fs.tables_hold(0, pieces.len())?;
     let (mut named, mut plan) = (Named::of(&fs), Plan::new(&fs));
@@ -191,6 +184,25 @@ fn try_append(
     }
     plan.write(image);
     Ok(())
+}
+
+/// The file that data is to be written to, and its blocks, after 8 to 11 and 13:
+/// "open and append of a directory are 11".
+pub fn file_to_write(
+    fs: &FileSystem,
+    base: &[u8],
+    path: &[u8],
+    data: &[u8],
+) -> Result<(u32, Vec<Block>), Refusal> {
+    let names = path::names(base, path)?;
+    if data.len() > APPEND {
+        return Err(Refusal::BadRequest);
+    }
+    let file = walk(fs, &names)?;
+    if is_directory(file) {
+        return Err(Refusal::WrongKind);
+    }
+    Ok((file, contents(fs, file)?))
 }
 
 /// "Unlink writes a deletion record, sequence plus one, no name".

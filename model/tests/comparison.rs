@@ -18,7 +18,7 @@ fn tally(seeds: std::ops::Range<u64>) -> Tally {
 }
 
 /// The numbers that the documents allow each call.
-const ANSWERS: [(&str, &[u32]); 12] = [
+const ANSWERS: [(&str, &[u32]); 13] = [
     ("Format", &[0, 1, 3]),
     ("Report", &[0, 1, 2, 3, 4, 5, 6, 7]),
     ("AreaReport", &[0, 1]),
@@ -28,6 +28,7 @@ const ANSWERS: [(&str, &[u32]); 12] = [
     ("Read", &[0, 1, 2, 3, 4, 5, 6, 7, 9, 11, 13, 14]),
     ("Create", &[0, 1, 2, 3, 4, 5, 6, 7, 8, 9, 10, 11, 12, 15]),
     ("Append", &[0, 1, 2, 3, 4, 5, 6, 7, 8, 9, 10, 11, 13, 15]),
+    ("Overwrite", &[0, 1, 2, 3, 4, 5, 6, 7, 8, 9, 10, 11, 13, 14, 15, 16]),
     ("Unlink", &[0, 1, 2, 3, 4, 5, 6, 7, 8, 9, 10, 11, 15, 16]),
     ("Rename", &[0, 1, 2, 3, 4, 5, 6, 7, 8, 9, 10, 11, 12, 15, 16, 18]),
     ("Collect", &[0, 1, 2, 3, 4, 5, 6, 7, 17]),
@@ -73,9 +74,8 @@ fn hex_and_back() {
 }
 
 /// The form in which a difference is pasted: the bench's damaged area.
-#[test]
-fn a_pasted_case() {
-    let case = Case {
+fn pasted() -> Case {
+    Case {
         image: bytes(
             "e2318ab98c42b07f5382e0ac8efc85b100100000000000ff ff*4072
              e2318ab98c42b07f5382e0ac8efc85b10010000000000000
@@ -96,15 +96,33 @@ fn a_pasted_case() {
             Call::Damage { offset: 4096 + 70, bytes: bytes("01") },
             Call::Read { length: 20 },
             Call::Rename { base: bytes("2f"), old: bytes("61"), new: bytes("62") },
+            Call::Damage { offset: 4096 + 70, bytes: bytes("00") },
+            Call::Overwrite {
+                base: bytes("2f"),
+                path: bytes("61"),
+                offset: 9,
+                data: bytes("4242"),
+            },
         ],
-    };
-    let mut tally = Tally::default();
+    }
+}
+
+#[test]
+fn a_pasted_case() {
+    let (case, mut tally) = (pasted(), Tally::default());
     assert!(run(&case, &Model, &Model, &mut tally).is_none());
-    assert_eq!(tally.calls, 7);
+    assert_eq!(tally.calls, 8);
     assert_eq!(tally.answers.get(&("Read", 13)), Some(&1));
     assert_eq!(tally.answers.get(&("AreaReport", 1)), Some(&1));
     // The one file area has damage.
     assert_eq!(tally.answers.get(&("Rename", 15)), Some(&1));
-    let text = "Call::Rename { base: bytes(\"2f\"), old: bytes(\"61\"), new: bytes(\"62\") },";
-    assert!(show(&case, &Model, &Model).contains(text));
+    assert_eq!(tally.answers.get(&("Overwrite", 0)), Some(&1));
+    let shown = show(&case, &Model, &Model);
+    let base = "base: bytes(\"2f\")";
+    assert!(shown
+        .contains(&format!("Call::Rename {{ {base}, old: bytes(\"61\"), new: bytes(\"62\") }},")));
+    let path = "path: bytes(\"61\")";
+    assert!(shown.contains(&format!(
+        "Call::Overwrite {{ {base}, {path}, offset: 9, data: bytes(\"4242\") }},"
+    )));
 }

@@ -41,6 +41,11 @@ enum Impostor {
     RenameByCreateAndUnlink,
     RefusedRenameWrites,
     NoNumber18,
+    OverwriteStoresNothing,
+    OverwriteByAppend,
+    OverwriteByANewFile,
+    OverwriteOfTheFrontAtLeast,
+    RefusedOverwriteWrites,
 }
 
 struct Wrapped(Impostor);
@@ -152,6 +157,42 @@ impl Engine for Wrapped {
         number
     }
 
+    fn overwrite(
+        &self,
+        i: &mut [u8],
+        areas: &[u32],
+        base: &[u8],
+        path: &[u8],
+        offset: u32,
+        data: &[u8],
+    ) -> u32 {
+        let before = i.to_vec();
+        let number = MODEL.overwrite(i, areas, base, path, offset, data);
+        match self.0 {
+            Impostor::OverwriteStoresNothing => i.copy_from_slice(&before),
+            Impostor::OverwriteByAppend if number == 0 => {
+                i.copy_from_slice(&before);
+                return MODEL.append(i, areas, base, path, data);
+            }
+            Impostor::OverwriteByANewFile if number == 0 => {
+                let id = MODEL.lookup(i, areas, base, path).id;
+                let mut bytes = vec![0; 8192];
+                let given = MODEL.read_at(i, areas, id, 0, &mut bytes).given as usize;
+                i.copy_from_slice(&before);
+                MODEL.unlink(i, areas, base, path);
+                MODEL.create(i, areas, base, path, 1);
+                return MODEL.append(i, areas, base, path, &bytes[..given]);
+            }
+            Impostor::OverwriteOfTheFrontAtLeast if number == 15 => {
+                let front = &data[..data.len() / 2];
+                return MODEL.overwrite(i, areas, base, path, offset, front);
+            }
+            Impostor::RefusedOverwriteWrites if number > 7 => i[0] ^= 1,
+            _ => {}
+        }
+        number
+    }
+
     fn unlink(&self, image: &mut [u8], areas: &[u32], base: &[u8], path: &[u8]) -> u32 {
         MODEL.unlink(image, areas, base, path)
     }
@@ -220,6 +261,11 @@ fn impostors_at_the_call() {
         Impostor::RenameByCreateAndUnlink,
         Impostor::RefusedRenameWrites,
         Impostor::NoNumber18,
+        Impostor::OverwriteStoresNothing,
+        Impostor::OverwriteByAppend,
+        Impostor::OverwriteByANewFile,
+        Impostor::OverwriteOfTheFrontAtLeast,
+        Impostor::RefusedOverwriteWrites,
     ] {
         found(&format!("{impostor:?}"), &Wrapped(impostor));
     }

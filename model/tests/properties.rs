@@ -9,12 +9,12 @@ use nffs_model::damage::{
     Touched,
 };
 use nffs_model::file::contents;
-use nffs_model::generate::moved::broken_rules;
-use nffs_model::generate::{self, names_of, Random};
-use nffs_model::layout::{is_file, Inode};
+use nffs_model::generate::{self, moved, names_of, overwritten, Random};
+use nffs_model::layout::{is_file, Block, Inode, Record, FIRST_BLOCK, FIRST_FILE, NONE};
 use nffs_model::lookup::walk;
 use nffs_model::mount::{mount, Fate, FileSystem};
 use nffs_model::refusal::Refusal;
+use nffs_model::Lookup;
 
 const CASES: u64 = if cfg!(debug_assertions) { 500 } else { 3000 };
 
@@ -81,6 +81,7 @@ fn records_are_written_over_ff() {
                 call,
                 Call::Create { .. }
                     | Call::Append { .. }
+                    | Call::Overwrite { .. }
                     | Call::Unlink { .. }
                     | Call::Rename { .. }
             );
@@ -104,12 +105,13 @@ fn writes_do_what_is_written() {
     }
 }
 
+fn find(side: &Side, base: &[u8], path: &[u8]) -> Lookup {
+    nffs_model::lookup(&side.image, &side.areas, base, path)
+}
+
 fn written(before: &Side, call: &Call, answer: &Answer, after: &Side) {
     let Some(old) = view(before) else { return };
     let new = view(after).expect("it mounts after a write");
-    let find = |side: &Side, base: &[u8], path: &[u8]| {
-        nffs_model::lookup(&side.image, &side.areas, base, path)
-    };
     match call {
         Call::Create { base, path, kind } => {
             let found = find(after, base, path);
@@ -121,29 +123,44 @@ fn written(before: &Side, call: &Call, answer: &Answer, after: &Side) {
             assert_eq!(rest, old);
         }
         Call::Append { base, path, data } => {
-            let id = find(before, base, path).id;
-            let mut expected = old.clone();
-            let file = expected.get_mut(&id).expect("it is live");
-            file.1.as_mut().expect("it isn't broken").extend(data);
-            assert_eq!(new, expected);
+            let append = |bytes: &mut Vec<u8>| bytes.extend(data);
+            assert_eq!(new, with_bytes(&old, find(before, base, path).id, &append));
+        }
+        Call::Overwrite { base, path, offset, data } => {
+            let at = *offset as usize;
+            let splice = |bytes: &mut Vec<u8>| bytes[at..at + data.len()].copy_from_slice(data);
+            assert_eq!(new, with_bytes(&old, find(before, base, path).id, &splice));
         }
         Call::Unlink { base, path } => {
             let id = find(before, base, path).id;
             assert_eq!(new, without(&old, id));
         }
         Call::Rename { base, old: from, new: to } => {
-            let (id, names) = (find(before, base, from).id, names(base, to));
-            let mut expected = old.clone();
-            let inode = &mut expected.get_mut(&id).expect("it is live").0;
-            inode.sequence += 1;
-            inode.name.clone_from(names.last().expect("a name"));
-            let fs = mount(&before.image, &before.areas).expect("it mounts");
-            inode.parent = walk(&fs, &names[..names.len() - 1]).expect("a directory");
-            assert_eq!(new, expected);
+            let moved = find(before, base, from).id;
+            assert_eq!(new, with_names(&old, before, moved, &names(base, to)));
         }
         Call::Collect => assert_eq!(new, old),
         _ => {}
     }
+}
+
+/// The view with other bytes of a file, and nothing else changed.
+fn with_bytes(view: &View, file: u32, change: &dyn Fn(&mut Vec<u8>)) -> View {
+    let mut expected = view.clone();
+    let file = expected.get_mut(&file).expect("it is live");
+    change(file.1.as_mut().expect("it isn't broken"));
+    expected
+}
+
+/// The view with other names of an inode.
+fn with_names(view: &View, before: &Side, moved: u32, names: &[Vec<u8>]) -> View {
+    let mut expected = view.clone();
+    let inode = &mut expected.get_mut(&moved).expect("it is live").0;
+    inode.sequence += 1;
+    inode.name.clone_from(names.last().expect("a name"));
+    let fs = mount(&before.image, &before.areas).expect("it mounts");
+    inode.parent = walk(&fs, &names[..names.len() - 1]).expect("a directory");
+    expected
 }
 
 /// The view without an inode and all that lies below it.
@@ -239,8 +256,135 @@ fn ids_stay(before: &FileSystem, after: &FileSystem) {
 fn first_rule_answers(before: &Side, call: &Call, answer: &Answer) {
     let Call::Rename { base, old, new } = call else { return };
     let Ok(fs) = mount(&before.image, &before.areas) else { return };
-    let rules = broken_rules(&fs, base, old, new);
+    let rules = moved::broken_rules(&fs, base, old, new);
     assert_eq!(answer[0], rules.first().map_or(0, |(_, number)| *number), "{rules:?}");
+}
+
+/// T-05: the order of its rules; which records an overwrite writes, and that all others
+/// are as before; that it is as if each block were overwritten by itself, in file order.
+#[test]
+fn an_overwrite_rewrites_blocks() {
+    let (mut done, mut blocks) = (0, 0);
+    for seed in 0..CASES {
+        each_call(seed, &mut |before, call, answer, after| {
+            let Call::Overwrite { base, path, offset, data } = call else { return };
+            let Ok(old) = mount(&before.image, &before.areas) else { return };
+            let rules = overwritten::broken_rules(&old, base, path, *offset, data);
+            assert_eq!(answer[0], rules.first().map_or(0, |(_, number)| *number), "{rules:?}");
+            if let 0 | 15 = answer[0] {
+                block_by_block(before, call, answer[0], after);
+            }
+            if answer[0] == 0 {
+                let new = mount(&after.image, &after.areas).expect("it mounts");
+                blocks += only_rewritten(&old, &new, find(before, base, path).id, *offset, data);
+                done += 1;
+            }
+        });
+    }
+    println!("{done} overwrites of {blocks} blocks");
+    assert!(done > CASES / 5 && blocks > CASES / 5);
+}
+
+/// Each record of the image is there as before, behind them are those of the blocks that
+/// hold a byte of the range, with their ids, owners, previous blocks and lengths and a
+/// sequence of one more. How many blocks these are.
+fn only_rewritten(old: &FileSystem, new: &FileSystem, file: u32, offset: u32, data: &[u8]) -> u64 {
+    let (mut held, mut written) = (holders(old, file, offset, data), Vec::new());
+    for (a, b) in old.file_areas.iter().zip(&new.file_areas) {
+        let (before, behind) = b.reading.records.split_at(a.reading.records.len());
+        assert!(before == a.reading.records && a.reading.damage == b.reading.damage);
+        for taken in behind {
+            let record = taken.record.block().expect("a block");
+            let before = old.counting(record.id).and_then(Record::block).expect("it was there");
+            let fields = |b: &Block| (b.owner, b.previous, b.data.len());
+            assert_eq!((fields(record), record.sequence), (fields(before), before.sequence + 1));
+            written.push(record.id);
+        }
+    }
+    held.sort_unstable();
+    written.sort_unstable();
+    assert_eq!(held, written);
+    // By these a read counts headers.
+    let lengths = |fs: &FileSystem| {
+        let blocks = contents(fs, file).expect("it isn't broken");
+        blocks.iter().map(|block| block.data.len()).collect::<Vec<_>>()
+    };
+    assert_eq!(lengths(old), lengths(new));
+    held.len() as u64
+}
+
+/// The ids of the blocks that hold a byte of the range.
+fn holders(fs: &FileSystem, file: u32, offset: u32, data: &[u8]) -> Vec<u32> {
+    let range = offset as usize..offset as usize + data.len();
+    let mut end = 0;
+    let mut blocks = contents(fs, file).expect("it isn't broken");
+    blocks.retain(|block| {
+        let start = end;
+        end += block.data.len();
+        (start..end).any(|at| range.contains(&at))
+    });
+    blocks.iter().map(|block| block.id).collect()
+}
+
+/// The parts of the range in each block written one after the other leave the same
+/// image; where the whole is 15, so is one of the parts.
+fn block_by_block(before: &Side, call: &Call, number: u32, after: &Side) {
+    let Call::Overwrite { base, path, offset, data } = call else { return };
+    let fs = mount(&before.image, &before.areas).expect("it mounts");
+    let (mut image, mut end, mut numbers) = (before.image.clone(), 0, Vec::new());
+    for block in contents(&fs, find(before, base, path).id).expect("it isn't broken") {
+        let start = end;
+        end += block.data.len();
+        let from = start.max(*offset as usize);
+        let to = end.min(*offset as usize + data.len());
+        if from < to {
+            let part = &data[from - *offset as usize..to - *offset as usize];
+            let at = from as u32;
+            let areas = &before.areas;
+            numbers.push(nffs_model::overwrite(&mut image, areas, base, path, at, part));
+        }
+    }
+    if number == 0 {
+        assert!(numbers.iter().all(|number| *number == 0) && image == after.image);
+    } else {
+        assert!(numbers.contains(&number));
+    }
+}
+
+/// Which blocks `overwrite::rewritten` gives, and with which bytes, asked byte by byte;
+/// blocks without data, which no image has, hold no byte of any range.
+#[test]
+fn blocks_that_hold_a_byte() {
+    for lengths in [&[3, 0, 2, 1][..], &[0, 4], &[4, 0], &[0, 0], &[1, 1, 1], &[5], &[]] {
+        let size: usize = lengths.iter().sum();
+        for (from, to) in (0..=size).flat_map(|from| (from..=size).map(move |to| (from, to))) {
+            let blocks = blocks_of_lengths(lengths);
+            let data: Vec<u8> = (from..to).map(|at| 100 + at as u8).collect();
+            let (mut at, mut expected) = (0, Vec::new());
+            for mut block in blocks.clone() {
+                let mut held = false;
+                for byte in &mut block.data {
+                    if from <= at && at < to {
+                        (*byte, held) = (100 + at as u8, true);
+                    }
+                    at += 1;
+                }
+                block.sequence += 1;
+                expected.extend(held.then_some(block));
+            }
+            let rewritten = nffs_model::overwrite::rewritten(&blocks, from, &data);
+            assert_eq!(rewritten, Ok(expected), "{lengths:?}, {from} to {to}");
+        }
+    }
+}
+
+/// A file's blocks of these lengths.
+fn blocks_of_lengths(lengths: &[usize]) -> Vec<Block> {
+    let block = |(length, k): (&usize, u32)| {
+        let previous = if k == 0 { NONE } else { FIRST_BLOCK + k - 1 };
+        Block::new(FIRST_BLOCK + k, 7 * k, FIRST_FILE, previous, &vec![k as u8; *length])
+    };
+    lengths.iter().zip(0..).map(block).collect()
 }
 
 /// Demand 3: damage inside records of a mounted image with clean file areas.

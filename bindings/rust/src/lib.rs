@@ -467,6 +467,40 @@ pub fn append(
     Refusal::check(raw::append(image, areas, base, path, data))
 }
 
+/// Writes data over what a file has from an offset on, all of it or nothing; at most
+/// [`APPEND_MOST`] bytes. The file does not grow: an offset or an end past its size is 14, of no
+/// bytes too. Each block that holds a byte of the range is written anew, whole.
+///
+/// Checks in order: 1 to 7, 8, then 9, 10 or 11 at the first step of the path that fails, 11 for a
+/// directory, 13, 14, 16 of the blocks that are written anew, 15.
+///
+/// ```
+/// # use nffs::{Area, Kind, Refusal};
+/// # let mut flash = [0; 2 * 4096];
+/// # let areas = Area::row::<2>(4096);
+/// # nffs::format(&mut flash, &areas)?;
+/// let id = nffs::create(&mut flash, &areas, b"", b"/log", Kind::File)?;
+/// nffs::append(&mut flash, &areas, b"", b"/log", b"lines 00: start")?;
+/// nffs::overwrite(&mut flash, &areas, b"", b"/log", 6, b"01")?;
+/// let mut log = [0; 15];
+/// nffs::read_at(&flash, &areas, id, 0, &mut log)?;
+/// assert_eq!(&log, b"lines 01: start");
+///
+/// let past = nffs::overwrite(&mut flash, &areas, b"", b"/log", 14, b"02");
+/// assert_eq!(past, Err(Refusal::PAST_END));
+/// # Ok::<(), Refusal>(())
+/// ```
+pub fn overwrite(
+    image: &mut [u8],
+    areas: &[Area],
+    base: &[u8],
+    path: &[u8],
+    offset: u32,
+    data: &[u8],
+) -> Result<(), Refusal> {
+    Refusal::check(raw::overwrite(image, areas, base, path, offset, data))
+}
+
 /// Deletes a file, or a directory with what lies below it.
 ///
 /// Checks in order: 1 to 7, 8, then 9, 10 or 11 at the first step of the path that fails, 16, 15.

@@ -38,6 +38,17 @@ macro_rules! engine {
             fn append(&self, i: &mut [u8], a: &[u32], base: &[u8], path: &[u8], d: &[u8]) -> u32 {
                 write::append(i, a, base, path, d)
             }
+            fn overwrite(
+                &self,
+                i: &mut [u8],
+                a: &[u32],
+                base: &[u8],
+                path: &[u8],
+                offset: u32,
+                d: &[u8],
+            ) -> u32 {
+                overwrite::overwrite(i, a, base, path, offset, d)
+            }
             fn unlink(&self, i: &mut [u8], a: &[u32], base: &[u8], path: &[u8]) -> u32 {
                 write::unlink(i, a, base, path)
             }

@@ -70,6 +70,6 @@ pub fn earlier(r: &mut Random) -> Flash {
 }
 
 /// So many bytes, told apart by a number; drawing each would use up a script.
-fn numbered(number: usize, length: usize) -> Vec<u8> {
+pub fn numbered(number: usize, length: usize) -> Vec<u8> {
     (0..length).map(|i| (i % 251 + number) as u8).collect()
 }

@@ -3,6 +3,7 @@
 
 use super::images::reserved;
 use super::lists;
+use super::overwrites;
 use super::paths::{name, names_of, spell, spell_two};
 use super::random::Random;
 use super::renames;
@@ -19,13 +20,16 @@ use crate::mount::{
 
 /// A table with so few places left is about full.
 const ABOUT_FULL: usize = 3;
+/// So many records may name as many ids.
+const MANY_RECORDS: usize = 1000;
 
 /// The first of the numbers by which these calls are drawn.
 const CREATE: usize = 44;
 const APPEND: usize = 61;
 const RENAME: usize = 100;
+const OVERWRITE: usize = 112;
 /// How many of these numbers there are.
-const KINDS: usize = 112;
+const KINDS: usize = 124;
 
 /// Makes the calls of a case, running the model along.
 pub struct Maker {
@@ -140,24 +144,34 @@ impl Maker {
             APPEND..=77 => self.append(),
             78..=88 => self.unlink(),
             89..=98 => Call::Collect,
-            RENAME.. => self.rename(),
+            RENAME..=111 => self.rename(),
+            OVERWRITE.. => self.overwrite(),
             _ => Call::Format,
         };
         self.push(call);
     }
 
     /// Where a table is about full, oftener a call that needs a place in it; where
-    /// directories lie deep or a sequence is the last one, oftener a rename.
+    /// there are many records, oftener one that needs an id; where directories lie
+    /// deep or a sequence is the last one, oftener a rename; where a file has several
+    /// blocks or one of the last sequence, oftener an overwrite.
     fn kind_of_call(&mut self) -> usize {
         let (inodes, blocks) = self.places_left();
         if inodes <= ABOUT_FULL && self.r.chance(40) {
             return CREATE;
         }
-        if blocks <= ABOUT_FULL && self.r.chance(50) {
-            return APPEND;
+        if blocks <= ABOUT_FULL && self.r.chance(70) {
+            return if self.r.chance(70) { APPEND } else { OVERWRITE };
+        }
+        let many = |fs: &FileSystem| fs.accepted().count() > MANY_RECORDS;
+        if self.mounted.as_ref().is_some_and(many) && self.r.chance(20) {
+            return CREATE;
         }
         if self.mounted.as_ref().is_some_and(renames::is_worth_it) && self.r.chance(30) {
             return RENAME;
+        }
+        if self.mounted.as_ref().is_some_and(overwrites::is_worth_it) && self.r.chance(25) {
+            return OVERWRITE;
         }
         self.r.below(KINDS)
     }
@@ -241,6 +255,16 @@ impl Maker {
         let (base, path) = self.some_path(90);
         let data = self.data();
         Call::Append { base, path, data }
+    }
+
+    fn overwrite(&mut self) -> Call {
+        let r = &mut self.r;
+        let (names, offset, data) = match &self.mounted {
+            Some(fs) => overwrites::aim(r, fs),
+            None => (vec![name(r)], r.below(9) as u32, r.bytes(3)),
+        };
+        let (base, path) = spell(r, &names);
+        Call::Overwrite { base, path, offset, data }
     }
 
     fn unlink(&mut self) -> Call {
@@ -397,9 +421,9 @@ impl Maker {
         spell(&mut self.r, &names)
     }
 
-    /// Bytes overwritten: inside a record, oftener of a rename where there is one,
-    /// a header, free space, the scratch area or anywhere; or an earlier page
-    /// comes back.
+    /// Bytes overwritten: inside a record, oftener of a rename or of an overwrite
+    /// where there is one, a header, free space, the scratch area or anywhere; or an
+    /// earlier page comes back.
     fn damage(&mut self) {
         let length = self.side.image.len();
         if length == 0 {
@@ -417,7 +441,7 @@ impl Maker {
             }
         }
         if self.r.chance(35) {
-            if let Some((offset, bytes)) = self.torn_rename() {
+            if let Some((offset, bytes)) = self.torn_record() {
                 return self.push(Call::Damage { offset, bytes });
             }
         }
@@ -435,9 +459,11 @@ impl Maker {
         self.push(Call::Damage { offset, bytes });
     }
 
-    /// A bit of the record of a rename.
-    fn torn_rename(&mut self) -> Option<(usize, Vec<u8>)> {
-        let record = renames::renamed(&mut self.r, self.mounted.as_ref()?)?;
+    /// A bit of the record of a rename or of an overwrite.
+    fn torn_record(&mut self) -> Option<(usize, Vec<u8>)> {
+        let (r, fs) = (&mut self.r, self.mounted.as_ref()?);
+        let overwritten = if r.chance(40) { overwrites::rewritten(r, fs) } else { None };
+        let record = overwritten.or_else(|| renames::renamed(r, fs))?;
         let offset = record.start + self.r.below(record.len());
         Some((offset, vec![self.side.image[offset] ^ 1 << self.r.below(8)]))
     }

@@ -4,6 +4,7 @@
 use std::collections::BTreeSet;
 
 use super::moved::{self, in_rename, Rule};
+use super::overwritten::{self, in_overwrite};
 use super::stretches::{in_area_report, in_report};
 use crate::area::{self, Reading};
 use crate::collect::{count_precedes, is_eligible, source};
@@ -199,9 +200,86 @@ pub enum Made {
     OldNameBack,
     /// And another live child has that name: 10.
     OldNameBackBesideAnother,
+    /// An overwrite that this rule alone refuses.
+    OverwriteBreaks(overwritten::Rule),
+    /// An overwrite that the first rule refuses, and the second would by another
+    /// number.
+    OverwriteBreaksBoth(overwritten::Rule, overwritten::Rule),
+    OverwriteOver8193,
+    /// An overwrite that is accepted, here and in those that follow.
+    OverwriteBelowABase,
+    /// Of 0 bytes, here and in the next five.
+    NothingInAnEmptyFile,
+    /// Of a file that has bytes, as those that follow.
+    NothingAtTheStart,
+    NothingInTheMiddle,
+    NothingAtTheEnd,
+    /// The block at the offset has it.
+    NothingAtTheLastSequence,
+    /// For the block at the offset.
+    NothingWithoutRoom,
+    /// Neither the first byte of the block nor its last is in the range.
+    OverwriteInsideABlock,
+    /// From behind the first byte of a block to before the last of another.
+    OverwriteFromBlockToBlock,
+    /// The whole of it, one of several.
+    OneBlockOverwritten,
+    /// Of several blocks.
+    WholeFileOverwritten,
+    ThreeBlocksOverwritten,
+    /// 100 and more.
+    HundredBlocksOverwritten,
+    /// Two and more, the first and the last of the file not among them.
+    MiddleBlocksOverwritten,
+    OverwriteOf8192Bytes,
+    /// The bytes that are there already.
+    OverwriteWithTheSame,
+    /// Another block of the file has it.
+    LastSequenceBesideTheRange,
+    /// From the one before it.
+    LastSequenceOfABlockReached,
+    /// Longer than appends make them there.
+    LongerBlockOverwritten,
+    /// A block of which there is an older record.
+    OverwrittenAgain,
+    /// Two blocks and more; the ids of the file's aren't in its order.
+    IdsNotInFileOrder,
+    OverwriteInAFullTable,
+    /// The old records of the blocks don't lie in the order of the file.
+    RecordsNotInFileOrder,
+    /// The new records go to different areas.
+    OverwriteOverAreas,
+    /// Than the record of the block before it.
+    LaterBlockInAnEarlierArea,
+    /// It has room for the first record.
+    DamagedAreaPassedOver,
+    /// To the last byte.
+    OverwriteFillsAnArea,
+    /// 11.
+    RootOverwritten,
+    /// 13, for 0 bytes.
+    NothingInABrokenFile,
+    /// 14, here and in those that follow; the offset is within the file.
+    EndOneBytePast,
+    /// And not one byte fits.
+    DataAtTheEnd,
+    OffsetOneBytePast,
+    NothingPastTheEnd,
+    /// In 32 bits, to an end that is within the file.
+    SumWraps,
+    /// The last 16 bits of the offset and the end from there are within the file.
+    OffsetOver16Bits,
+    /// 16; the first block of the range has another.
+    LastSequenceOfALaterBlock,
+    /// 15, of two records and more.
+    RoomForAllButTheLast,
+    /// 15 by one byte.
+    BlockOneByteTooLong,
+    /// Damage to the counting record of a block, in whose place an older one is read.
+    OldBytesBack,
 }
 
-pub const ALL: [Made; 124] = [
+pub const ALL: [Made; 184] = [
     Made::WholeVolume,
     Made::ThousandsOfNamedIds,
     Made::TenDirectoriesDeep,
@@ -326,6 +404,66 @@ pub const ALL: [Made; 124] = [
     Made::OneByteTooLong,
     Made::OldNameBack,
     Made::OldNameBackBesideAnother,
+    Made::OverwriteBreaks(overwritten::Rule::Path),
+    Made::OverwriteBreaks(overwritten::Rule::Length),
+    Made::OverwriteBreaks(overwritten::Rule::Walk),
+    Made::OverwriteBreaks(overwritten::Rule::Kind),
+    Made::OverwriteBreaks(overwritten::Rule::Broken),
+    Made::OverwriteBreaks(overwritten::Rule::Range),
+    Made::OverwriteBreaks(overwritten::Rule::Sequence),
+    Made::OverwriteBreaks(overwritten::Rule::Room),
+    Made::OverwriteBreaksBoth(overwritten::Rule::Length, overwritten::Rule::Walk),
+    Made::OverwriteBreaksBoth(overwritten::Rule::Length, overwritten::Rule::Kind),
+    Made::OverwriteBreaksBoth(overwritten::Rule::Length, overwritten::Rule::Broken),
+    Made::OverwriteBreaksBoth(overwritten::Rule::Length, overwritten::Rule::Range),
+    Made::OverwriteBreaksBoth(overwritten::Rule::Length, overwritten::Rule::Sequence),
+    Made::OverwriteBreaksBoth(overwritten::Rule::Length, overwritten::Rule::Room),
+    Made::OverwriteBreaksBoth(overwritten::Rule::Broken, overwritten::Rule::Range),
+    Made::OverwriteBreaksBoth(overwritten::Rule::Broken, overwritten::Rule::Sequence),
+    Made::OverwriteBreaksBoth(overwritten::Rule::Broken, overwritten::Rule::Room),
+    Made::OverwriteBreaksBoth(overwritten::Rule::Range, overwritten::Rule::Sequence),
+    Made::OverwriteBreaksBoth(overwritten::Rule::Range, overwritten::Rule::Room),
+    Made::OverwriteBreaksBoth(overwritten::Rule::Sequence, overwritten::Rule::Room),
+    Made::OverwriteOver8193,
+    Made::OverwriteBelowABase,
+    Made::NothingInAnEmptyFile,
+    Made::NothingAtTheStart,
+    Made::NothingInTheMiddle,
+    Made::NothingAtTheEnd,
+    Made::NothingAtTheLastSequence,
+    Made::NothingWithoutRoom,
+    Made::OverwriteInsideABlock,
+    Made::OverwriteFromBlockToBlock,
+    Made::OneBlockOverwritten,
+    Made::WholeFileOverwritten,
+    Made::ThreeBlocksOverwritten,
+    Made::HundredBlocksOverwritten,
+    Made::MiddleBlocksOverwritten,
+    Made::OverwriteOf8192Bytes,
+    Made::OverwriteWithTheSame,
+    Made::LastSequenceBesideTheRange,
+    Made::LastSequenceOfABlockReached,
+    Made::LongerBlockOverwritten,
+    Made::OverwrittenAgain,
+    Made::IdsNotInFileOrder,
+    Made::OverwriteInAFullTable,
+    Made::RecordsNotInFileOrder,
+    Made::OverwriteOverAreas,
+    Made::LaterBlockInAnEarlierArea,
+    Made::DamagedAreaPassedOver,
+    Made::OverwriteFillsAnArea,
+    Made::RootOverwritten,
+    Made::NothingInABrokenFile,
+    Made::EndOneBytePast,
+    Made::DataAtTheEnd,
+    Made::OffsetOneBytePast,
+    Made::NothingPastTheEnd,
+    Made::SumWraps,
+    Made::OffsetOver16Bits,
+    Made::LastSequenceOfALaterBlock,
+    Made::RoomForAllButTheLast,
+    Made::BlockOneByteTooLong,
+    Made::OldBytesBack,
 ];
 
 /// Those that hold, of things with whether they do.
@@ -486,16 +624,27 @@ fn has_block(image: &[u8], length: usize) -> bool {
 }
 
 /// What a call has by what it is given: a collection, by the counts; reports, by
-/// the damage; a rename, by the rules that it breaks.
+/// the damage; a rename and an overwrite, by the rules that they break.
 pub fn before_call(call: &Call, side: &Side) -> Vec<Made> {
     match call {
         Call::Collect => mounts(side).map_or_else(Vec::new, |fs| in_collection(&fs)),
         Call::Report => mounts(side).map_or_else(Vec::new, |fs| in_report(&fs, side)),
         Call::AreaReport { index, stretch } => in_area_report(*index, *stretch, side),
         Call::Rename { base, old, new } => in_rename(base, old, new, side),
-        Call::Damage { offset, bytes } => moved::in_damage(*offset, bytes, side),
+        Call::Overwrite { base, path, offset, data } => {
+            in_overwrite((base, path), *offset, data, side)
+        }
+        Call::Damage { offset, bytes } => of_damage(*offset, bytes, side),
         _ => Vec::new(),
     }
+}
+
+/// What damage to an image brings back.
+fn of_damage(offset: usize, bytes: &[u8], side: &Side) -> Vec<Made> {
+    let mut after = side.clone();
+    after.image.iter_mut().skip(offset).zip(bytes).for_each(|(old, new)| *old = *new);
+    let (Some(before), Some(now)) = (mounts(side), mounts(&after)) else { return Vec::new() };
+    [moved::in_damage(&before, &now), overwritten::in_damage(&before, &now)].concat()
 }
 
 fn in_collection(fs: &FileSystem) -> Vec<Made> {

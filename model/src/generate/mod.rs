@@ -7,6 +7,8 @@ mod large;
 mod lists;
 pub mod made;
 pub mod moved;
+mod overwrites;
+pub mod overwritten;
 mod paths;
 mod random;
 mod renames;
@@ -16,8 +18,12 @@ mod tables;
 pub use paths::names_of;
 pub use random::Random;
 
+use std::ops::Range;
+
+use crate::area::Taken;
 use crate::compare::Case;
-use crate::mount::IMAGE;
+use crate::layout::Record;
+use crate::mount::{FileSystem, IMAGE};
 use calls::Maker;
 
 const SEQUENCES: [u32; 8] = [0, 0, 1, 2, 5, 7, 0xffff_fffe, 0xffff_ffff];
@@ -25,6 +31,20 @@ const DIRECTORIES: [u32; 6] = [1, 2, 3, 4, 9, 0x0fff_ffff];
 const FILES: [u32; 6] =
     [0x1000_0000, 0x1000_0001, 0x1000_0002, 0x1000_0003, 0x1000_0009, 0x7fff_ffff];
 const NAMES: [&[u8]; 8] = [b"a", b"b", b"c", b"ab", b".", b"..", b"\xff", b"dose table"];
+
+/// Where the counting records lie of which this holds.
+fn places(fs: &FileSystem, holds: &dyn Fn(&Record) -> bool) -> Vec<Range<usize>> {
+    let mut places = Vec::new();
+    for area in &fs.file_areas {
+        for Taken { offset, record } in &area.reading.records {
+            if fs.counting(record.id()) == Some(record) && holds(record) {
+                let start = area.at.start + offset;
+                places.push(start..start + record.size());
+            }
+        }
+    }
+    places
+}
 
 /// The case of a seed.
 pub fn case(seed: u64) -> Case {
@@ -39,8 +59,11 @@ pub fn scripted(script: &[u8]) -> Case {
 fn drawn(mut r: Random) -> Case {
     // Large images are few: each takes as long as many small ones.
     let flash = match r.below(400) {
-        0..=148 => images::life(&mut r),
-        149..=318 => images::tree(&mut r),
+        0..=137 => images::life(&mut r),
+        138..=287 => images::tree(&mut r),
+        288..=310 => overwrites::files(&mut r),
+        311..=315 => overwrites::long(&mut r),
+        316..=318 => overwrites::many(&mut r),
         319..=336 => renames::tree(&mut r),
         337..=344 => blocks::edges(&mut r),
         345..=352 => blocks::earlier(&mut r),

@@ -182,19 +182,16 @@ fn in_refused(rename: &Rename, by: Rule) -> Vec<Made> {
 }
 
 /// "A damaged rename record may bring the old name back, or the answer 10."
-pub fn in_damage(offset: usize, bytes: &[u8], side: &Side) -> Vec<Made> {
-    let mut after = side.clone();
-    after.image.iter_mut().skip(offset).zip(bytes).for_each(|(old, new)| *old = *new);
-    let (Some(before), Some(now)) = (mounts(side), mounts(&after)) else { return Vec::new() };
+pub fn in_damage(before: &FileSystem, now: &FileSystem) -> Vec<Made> {
     let lives = |fs: &FileSystem, id: u32| fs.fate(id) == Fate::Live;
     let is_back = |inode: &&Inode| {
         let newer = before.inode(inode.id).filter(|newer| newer.sequence > inode.sequence);
         let moved =
             newer.is_some_and(|other| (other.parent, &other.name) != (inode.parent, &inode.name));
-        moved && lives(&before, inode.id) && lives(&now, inode.id)
+        moved && lives(before, inode.id) && lives(now, inode.id)
     };
     let back: Vec<&Inode> = now.inodes().filter(is_back).collect();
-    let twice = |inode: &&Inode| children(&now, inode.parent, &inode.name).len() > 1;
+    let twice = |inode: &&Inode| children(now, inode.parent, &inode.name).len() > 1;
     holding(&[
         (Made::OldNameBack, !back.is_empty()),
         (Made::OldNameBackBesideAnother, back.iter().any(twice)),

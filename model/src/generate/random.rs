@@ -14,7 +14,7 @@ impl Random {
 
     /// Numbers that a fuzzer chooses.
     pub fn scripted(script: &[u8]) -> Random {
-        Random { script: script.to_vec().into_iter(), state: 0 }
+        Random { script: Vec::from(script).into_iter(), state: 0 }
     }
 
     pub fn draw(&mut self) -> u64 {

@@ -4,18 +4,16 @@ use std::ops::Range;
 
 use super::images::{fill_up, place, write_headers};
 use super::paths::{name, names_of};
+use super::places;
 use super::random::Random;
-use crate::area::Taken;
 use crate::forge::Flash;
-use crate::layout::{
-    is_directory, is_file, Block, Inode, Record, FIRST_BLOCK, FIRST_FILE, NONE, ROOT,
-};
+use crate::layout::{is_directory, is_file, Block, Inode, FIRST_BLOCK, FIRST_FILE, NONE, ROOT};
 use crate::lookup::walk;
 use crate::mount::{Fate, FileArea, FileSystem};
 use crate::path::NAME;
 use crate::rename::is_within;
 
-type Names = Vec<Vec<u8>>;
+pub type Names = Vec<Vec<u8>>;
 
 /// Sequences, the last one and the one before it among them.
 const LATE: [u32; 6] = [0, 0, 1, 5, 0xffff_fffe, 0xffff_ffff];
@@ -96,16 +94,7 @@ pub fn renamed(r: &mut Random, fs: &FileSystem) -> Option<Range<usize>> {
         let mut others = versions.filter(|other| other.id == inode.id && !other.is_deletion());
         others.any(|other| (other.parent, &other.name) != (inode.parent, &inode.name))
     };
-    let counts = |record: &Record| fs.counting(record.id()) == Some(record);
-    let mut places = Vec::new();
-    for area in &fs.file_areas {
-        for Taken { offset, record } in &area.reading.records {
-            if counts(record) && record.inode().is_some_and(moved) {
-                let start = area.at.start + offset;
-                places.push(start..start + record.size());
-            }
-        }
-    }
+    let places = places(fs, &|record| record.inode().is_some_and(moved));
     (!places.is_empty()).then(|| r.pick(&places))
 }
 
@@ -119,9 +108,21 @@ pub fn two_names(r: &mut Random, fs: &FileSystem) -> (Names, Names) {
         let new = [&names_of(fs, child)[..], &[new_name(r, fs)]].concat();
         return (names_of(fs, parent), new);
     }
+    let deepest = if r.chance(15) { last_directory(fs, &live) } else { Names::new() };
+    if deepest.len() >= 63 {
+        let old = deepest[..r.between(1, 2)].to_vec();
+        return (old, [&deepest[..], &[new_name(r, fs)]].concat());
+    }
     let old = old_names(r, fs, &live);
     let new = new_names(r, fs, &live, &old);
     (old, new)
+}
+
+/// The names of the live directory of the greatest id: where directories lie deep,
+/// mostly the deepest.
+fn last_directory(fs: &FileSystem, live: &[u32]) -> Names {
+    let directories = live.iter().filter(|id| is_directory(**id));
+    names_of(fs, directories.max().copied().unwrap_or(ROOT))
 }
 
 /// Live directories with others that were their children by an older record and
@@ -163,7 +164,7 @@ fn old_names(r: &mut Random, fs: &FileSystem, live: &[u32]) -> Names {
 }
 
 /// Names of nothing, mostly.
-fn strange_names(r: &mut Random) -> Names {
+pub fn strange_names(r: &mut Random) -> Names {
     (0..r.between(1, 3)).map(|_| name(r)).collect()
 }
 
@@ -176,7 +177,7 @@ fn new_names(r: &mut Random, fs: &FileSystem, live: &[u32], old: &[Vec<u8>]) -> 
         4..=9 => names_of(fs, r.pick(&directories)),
         10 | 11 => old[..r.below(old.len().max(1))].to_vec(),
         12..=15 => below(r, fs, &directories, old),
-        16 => return within(r, fs, live, old),
+        16 => return names_of(fs, r.pick(&within(fs, live, old))),
         17 => return names_of(fs, taken(r, fs, live)),
         18 => return old.to_vec(),
         19 => names_of(fs, if files.is_empty() { ROOT } else { r.pick(&files) }),
@@ -201,25 +202,21 @@ fn taken(r: &mut Random, fs: &FileSystem, live: &[u32]) -> u32 {
 }
 
 /// What is to be moved or lies below it, of these ids; the root if there is none.
-fn within(r: &mut Random, fs: &FileSystem, of: &[u32], old: &[Vec<u8>]) -> Names {
+fn within(fs: &FileSystem, of: &[u32], old: &[Vec<u8>]) -> Vec<u32> {
     let moved = walk(fs, old).unwrap_or(ROOT);
     let within: Vec<u32> =
         of.iter().copied().filter(|id| moved == ROOT || is_within(fs, *id, moved)).collect();
-    names_of(fs, if within.is_empty() { ROOT } else { r.pick(&within) })
+    if within.is_empty() {
+        return vec![ROOT];
+    }
+    within
 }
 
 /// A directory below what is to be moved: any, or a deep one.
 fn below(r: &mut Random, fs: &FileSystem, directories: &[u32], old: &[Vec<u8>]) -> Names {
-    let one = within(r, fs, directories, old);
-    if r.chance(50) {
-        return one;
-    }
-    let other = within(r, fs, directories, old);
-    if other.len() > one.len() {
-        other
-    } else {
-        one
-    }
+    let within = within(fs, directories, old);
+    let some: Vec<u32> = (0..r.pick(&[1, 2])).map(|_| r.pick(&within)).collect();
+    some.into_iter().map(|id| names_of(fs, id)).max_by_key(Vec::len).unwrap_or_default()
 }
 
 /// A name; where there is little room, oftener one whose record just fits or is

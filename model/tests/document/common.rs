@@ -159,6 +159,17 @@ pub fn append(flash: &mut Flash, path: &str, data: &[u8]) -> u32 {
     unchanged_if_refused(number, &before, &flash.image)
 }
 
+pub fn overwrite(flash: &mut Flash, path: &str, offset: u32, data: &[u8]) -> u32 {
+    overwrite_below(flash, "", path, offset, data)
+}
+
+pub fn overwrite_below(flash: &mut Flash, base: &str, path: &str, offset: u32, data: &[u8]) -> u32 {
+    let (base, path) = (base.as_bytes(), path.as_bytes());
+    let before = flash.image.clone();
+    let number = calls::overwrite(&mut flash.image, &flash.areas, base, path, offset, data);
+    unchanged_if_refused(number, &before, &flash.image)
+}
+
 pub fn unlink(flash: &mut Flash, path: &str) -> u32 {
     let before = flash.image.clone();
     let number = calls::unlink(&mut flash.image, &flash.areas, b"", path.as_bytes());

@@ -11,6 +11,7 @@ mod common;
 mod first_damage;
 mod ids;
 mod mounting;
+mod overwriting;
 mod paths;
 mod program;
 mod reading;

@@ -48,10 +48,13 @@ impl Engine for Baseline {
     fn append(&self, image: &mut [u8], areas: &[u32], base: &[u8], path: &[u8], data: &[u8]) -> u32 {
         baseline::append(image, areas, base, path, data, &mut self.0.borrow_mut())
     }
+    /// The baseline has no such call, nor a rename; the model's keep its image in step.
+    fn overwrite(&self, image: &mut [u8], areas: &[u32], base: &[u8], path: &[u8], offset: u32, data: &[u8]) -> u32 {
+        Model.overwrite(image, areas, base, path, offset, data)
+    }
     fn unlink(&self, image: &mut [u8], areas: &[u32], base: &[u8], path: &[u8]) -> u32 {
         baseline::unlink(image, areas, base, path, &mut self.0.borrow_mut())
     }
-    /// The baseline has no such call; the model's keeps its image in step.
     fn rename(&self, image: &mut [u8], areas: &[u32], base: &[u8], old: &[u8], new: &[u8]) -> u32 {
         Model.rename(image, areas, base, old, new)
     }

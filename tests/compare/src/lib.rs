@@ -2,6 +2,7 @@
 
 pub mod baseline;
 pub mod mounted;
+pub mod two;
 pub mod volumes;
 
 use nffs::{raw, Area, Kind, Refusal};
@@ -64,6 +65,10 @@ pub fn append(image: &mut [u8], areas: &[u32], base: &[u8], path: &[u8], data: &
     raw::append(image, &listed(areas), base, path, data)
 }
 
+pub fn overwrite(image: &mut [u8], areas: &[u32], base: &[u8], path: &[u8], offset: u32, data: &[u8]) -> u32 {
+    raw::overwrite(image, &listed(areas), base, path, offset, data)
+}
+
 pub fn unlink(image: &mut [u8], areas: &[u32], base: &[u8], path: &[u8]) -> u32 {
     raw::unlink(image, &listed(areas), base, path)
 }
@@ -106,6 +111,9 @@ impl Engine for Proved {
     }
     fn append(&self, image: &mut [u8], areas: &[u32], base: &[u8], path: &[u8], data: &[u8]) -> u32 {
         append(image, areas, base, path, data)
+    }
+    fn overwrite(&self, image: &mut [u8], areas: &[u32], base: &[u8], path: &[u8], offset: u32, data: &[u8]) -> u32 {
+        overwrite(image, areas, base, path, offset, data)
     }
     fn unlink(&self, image: &mut [u8], areas: &[u32], base: &[u8], path: &[u8]) -> u32 {
         unlink(image, areas, base, path)
@@ -198,6 +206,9 @@ impl Engine for Safe {
     }
     fn append(&self, image: &mut [u8], areas: &[u32], base: &[u8], path: &[u8], data: &[u8]) -> u32 {
         done(nffs::append(image, &listed(areas), base, path, data))
+    }
+    fn overwrite(&self, image: &mut [u8], areas: &[u32], base: &[u8], path: &[u8], offset: u32, data: &[u8]) -> u32 {
+        done(nffs::overwrite(image, &listed(areas), base, path, offset, data))
     }
     fn unlink(&self, image: &mut [u8], areas: &[u32], base: &[u8], path: &[u8]) -> u32 {
         done(nffs::unlink(image, &listed(areas), base, path))

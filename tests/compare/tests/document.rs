@@ -20,6 +20,8 @@ mod first_damage;
 mod ids;
 #[path = "../../../model/tests/document/mounting.rs"]
 mod mounting;
+#[path = "../../../model/tests/document/overwriting.rs"]
+mod overwriting;
 #[path = "../../../model/tests/document/paths.rs"]
 mod paths;
 #[path = "../../../model/tests/document/reading.rs"]

@@ -86,6 +86,10 @@ impl Pair {
         self.both(|e, image, areas| e.append(image, areas, b"", path, data))
     }
 
+    fn overwrite(&mut self, path: &[u8], offset: u32, data: &[u8]) -> u32 {
+        self.both(|e, image, areas| e.overwrite(image, areas, b"", path, offset, data))
+    }
+
     fn unlink(&mut self, path: &[u8]) -> u32 {
         self.both(|e, image, areas| e.unlink(image, areas, b"", path))
     }
@@ -291,6 +295,57 @@ fn appends_of_0_1_8192_and_8193_bytes() {
     assert_eq!(pair.blocks(FILE), 5);
 }
 
+/// The same over what is there, at its start, at its end and between; sums of offset and length do not wrap (T-05).
+#[test]
+fn overwrites_of_0_1_8192_and_8193_bytes() {
+    let mut pair = Pair::formatted(&[16384; 4]);
+    assert_eq!(pair.create(b"/f").number, 0);
+    let mut text = block(1, 8192 + 1000);
+    assert_eq!((pair.append(b"/f", &text[..8192]), pair.append(b"/f", &text[8192..])), (0, 0));
+    let (data, size, blocks) = (block(2, 70_000), text.len(), pair.blocks(FILE));
+    let before = pair.ours.clone();
+    for offset in [0, 1, size - 1, size] {
+        assert_eq!(pair.overwrite(b"/f", offset as u32, b""), 0);
+    }
+    assert!(pair.ours == before);
+    for offset in [size + 1, 65_535, 65_536, 1 << 31, u32::MAX as usize - size, u32::MAX as usize] {
+        for length in [0, 1, size.min(8192), 8192] {
+            pair.refuses(14, |pair| pair.overwrite(b"/f", offset as u32, &data[..length]));
+        }
+    }
+    for (offset, length) in [(0, 8193), (999, 8193), (size, 8193), (0, size), (0, 65_536), (u32::MAX as usize, 70_000)] {
+        pair.refuses(8, |pair| pair.overwrite(b"/f", offset as u32, &data[..length]));
+    }
+    pair.refuses(14, |pair| pair.overwrite(b"/f", 1001, &data[..8192]));
+    for (offset, length) in [(0, 1), (size - 1, 1), (2047, 2), (0, 8192), (1000, 8192), (1, 8192)] {
+        assert_eq!(pair.overwrite(b"/f", offset as u32, &data[..length]), 0);
+        text[offset..offset + length].copy_from_slice(&data[..length]);
+        assert_eq!(pair.whole(FILE, size), (text.clone(), blocks));
+    }
+    assert_eq!(pair.contents(b"/f"), text);
+}
+
+/// All 1,024 blocks rewritten by one call, 2,048 bytes; as many again have no room, and all but the last few neither. Collected, they have.
+#[test]
+fn every_block_overwritten_at_once() {
+    let mut pair = Pair::filled(&[4096; 16], 1, 1024);
+    let (first, second) = (block(3, 2048), block(4, 2048));
+    assert_eq!(pair.overwrite(&path(0), 0, &first), 0);
+    assert_eq!(pair.whole(FILE, 2048), (first.clone(), 1024));
+    pair.refuses(15, |pair| pair.overwrite(&path(0), 0, &second));
+    pair.refuses(15, |pair| pair.overwrite(&path(0), 0, &second[..1000]));
+    pair.refuses(5, |pair| pair.append(&path(0), b"x"));
+    assert_eq!(pair.overwrite(&path(0), 1999, &second[..49]), 0);
+    let text = [&first[..1999], &second[..49]].concat();
+    assert_eq!(pair.contents(&path(0)), text);
+    for _ in 0..16 {
+        assert_eq!(pair.collect(), 0);
+        assert_eq!(pair.whole(FILE, 2048), (text.clone(), 1024));
+    }
+    assert_eq!(pair.overwrite(&path(0), 0, &second), 0);
+    assert_eq!(pair.whole(FILE, 2048), (second, 1024));
+}
+
 /// Pieces of 28 bytes, for the shortest file area has 128: two fill an area, and they go on in the next, all or none.
 #[test]
 fn an_area_filled_to_its_last_byte_and_pieces_over_areas() {
@@ -315,6 +370,8 @@ fn an_area_filled_to_its_last_byte_and_pieces_over_areas() {
     pair.refuses(15, |pair| pair.unlink(&path));
     pair.refuses(15, |pair| pair.rename(&path, b"/x"));
     pair.refuses(12, |pair| pair.rename(&path, &path));
+    pair.refuses(15, |pair| pair.overwrite(&path, 87, b"x"));
+    pair.refuses(14, |pair| pair.overwrite(&path, 88, b"x"));
     assert_eq!(pair.contents(&path), [&[1; 84][..], &[4; 2], &[5; 2]].concat());
     assert_eq!(pair.report(), Report { number: 0, inodes: 2, live: 2, ..Report::default() });
 }
@@ -350,6 +407,33 @@ fn renames_up_to_the_last_sequence() {
         }
         let file = Lookup { number: 0, id: FILE, kind: 1 };
         assert_eq!(pair.lookup(if full { b"/a" } else { b"/c" }), file);
+    }
+}
+
+/// An overwrite of each of three blocks, one of them at the sequence before the last one and one at the last: 16 for what has a byte of that block, 14
+/// before it and 15 behind it (T-05).
+#[test]
+fn overwrites_up_to_the_last_sequence() {
+    const LAST: u32 = 0xffff_ffff;
+    for room in [100, 78, 77, 52, 51, 26, 25, 0] {
+        let mut flash = Flash::of(&[512; 2]);
+        assert!(flash.root(1) && flash.inode(1, FILE, LAST, 0, b"a"));
+        for (id, sequence) in (BLOCK..).zip([LAST - 1, 0, LAST]) {
+            let previous = if id == BLOCK { NONE } else { id - 1 };
+            assert!(flash.block(1, id, sequence, FILE, previous, b"ab"));
+        }
+        let rest = vec![7; flash.room(1) - room - 24];
+        assert!(flash.block(1, BLOCK + 9, 0, FILE + 9, NONE, &rest));
+        let mut pair = Pair::of(flash);
+        for (offset, length, number) in [(4, 1, 16), (5, 1, 16), (0, 6, 16), (3, 2, 16), (4, 3, 14), (6, 1, 14), (7, 0, 14), (0, 7, 14)] {
+            pair.refuses(number, |pair| pair.overwrite(b"/a", offset, &[b'x'; 7][..length]));
+        }
+        assert_eq!((pair.overwrite(b"/a", 4, b""), pair.overwrite(b"/a", 6, b"")), (0, 0));
+        let fits = |records: usize| if 26 * records <= room { 0 } else { 15 };
+        assert_eq!(pair.overwrite(b"/a", 1, b"xy"), fits(2));
+        // the first block has the last sequence, or there was no room for both
+        assert_eq!(pair.overwrite(b"/a", 0, b"z"), if room >= 52 { 16 } else { fits(1) });
+        assert_eq!(pair.overwrite(b"/a", 3, b"z"), if room >= 52 { fits(3) } else { fits(2) });
     }
 }
 

@@ -17,6 +17,7 @@ fn calls() -> Vec<Call> {
         Call::Lookup { base: base.clone(), path: root },
         Call::Create { base: base.clone(), path: file.clone(), kind: 1 },
         Call::Append { base: base.clone(), path: file.clone(), data: vec![7; 50] },
+        Call::Overwrite { base: base.clone(), path: file.clone(), offset: 20, data: vec![8; 25] },
         Call::Open { base: base.clone(), path: file.clone() },
         Call::Read { length: 20 },
         Call::ReadAt { id: 0x1000_0000, position: 10, length: 50 },
@@ -57,7 +58,7 @@ fn every_length_and_every_end() {
         }
     }
     println!("{} calls: {:?}", tally.calls, tally.answers);
-    for call in ["Report", "Lookup", "Create", "Append", "Open", "Read", "ReadAt", "Rename", "Collect", "Unlink", "Format"] {
+    for call in ["Report", "Lookup", "Create", "Append", "Overwrite", "Open", "Read", "ReadAt", "Rename", "Collect", "Unlink", "Format"] {
         for number in [0, 1, 3] {
             assert!(tally.answers.contains_key(&(call, number)), "{call} never answered {number}");
         }

@@ -3,8 +3,8 @@
 
 use std::collections::{BTreeMap, BTreeSet};
 
-use nffs_compare::Proved;
-use nffs_model::compare::{Call, Case, Model, Side};
+use nffs_compare::two::{leave, Two};
+use nffs_model::compare::Call;
 use nffs_model::forge::Flash;
 use nffs_model::generate::made::{self, Made};
 use nffs_model::generate::moved::broken_rules;
@@ -22,50 +22,6 @@ fn rename(base: &[u8], old: &[u8], new: &[u8]) -> Call {
 
 fn lookup(path: &[u8]) -> Call {
     Call::Lookup { base: Vec::new(), path: path.to_vec() }
-}
-
-/// Both engines, each on its own image, and how often each number was answered.
-struct Two {
-    ours: Side,
-    model: Side,
-    numbers: BTreeMap<(&'static str, u32), u32>,
-}
-
-impl Two {
-    fn of(flash: &Flash) -> Two {
-        let side = Side::new(&Case { image: flash.image.clone(), areas: flash.areas.clone(), calls: Vec::new() });
-        Two { ours: side.clone(), model: side, numbers: BTreeMap::new() }
-    }
-
-    /// The same answer, image and buffer of both. A refused call changes no byte.
-    #[track_caller]
-    fn call(&mut self, call: &Call) -> Vec<u32> {
-        let before = self.ours.image.clone();
-        let (answer, expected) = (self.ours.perform(&Proved, call), self.model.perform(&Model, call));
-        assert_eq!(answer, expected, "{call:?}");
-        assert!(self.ours.image == self.model.image && self.ours.buffer == self.model.buffer, "{call:?}");
-        if let Some(number) = answer.first() {
-            assert!(*number == 0 || self.ours.image == before, "{call:?}: refusal {number} changed the image");
-            *self.numbers.entry((call.name(), *number)).or_default() += 1;
-        }
-        answer
-    }
-
-    #[track_caller]
-    fn rename(&mut self, base: &[u8], old: &[u8], new: &[u8]) -> u32 {
-        self.call(&rename(base, old, new))[0]
-    }
-
-    fn count(&self, call: &'static str, number: u32) -> u32 {
-        *self.numbers.get(&(call, number)).unwrap_or(&0)
-    }
-}
-
-/// What is left of the area is filled but for so many bytes, by a block that belongs to nothing.
-fn leave(flash: &mut Flash, area: usize, bytes: usize) {
-    let data = vec![7; flash.room(area) - bytes - 24];
-    assert!(flash.block(area, 0x9000_0000 + area as u32, 0, 0x7000_0000, NONE, &data));
-    assert_eq!(flash.room(area), bytes);
 }
 
 /// Directories /d, /d/e, /d/e/g, /z, /l and /l/e, files /a, /d/e/f and /m, and one of each kind named /twice. The root, /l and /m have the last

@@ -5,7 +5,7 @@ use nffs_model::compare::{compare, Engine, Model};
 use nffs_model::generate::made;
 
 /// The numbers that each call must have answered somewhere, so that no rule is passed over.
-const REACHED: [(&str, &[u32]); 12] = [
+const REACHED: [(&str, &[u32]); 13] = [
     ("Format", &[0, 1, 3]),
     ("Report", &[0, 1, 2, 3, 4, 5, 6, 7]),
     ("AreaReport", &[0, 1]),
@@ -15,6 +15,7 @@ const REACHED: [(&str, &[u32]); 12] = [
     ("ReadAt", &[0, 1, 2, 3, 4, 5, 6, 7, 9, 11, 13, 14]),
     ("Create", &[0, 1, 2, 3, 4, 5, 6, 7, 8, 9, 10, 11, 12, 15]),
     ("Append", &[0, 1, 2, 3, 4, 5, 6, 7, 8, 9, 10, 11, 13, 15]),
+    ("Overwrite", &[0, 1, 2, 3, 4, 5, 6, 7, 8, 9, 10, 11, 13, 14, 15, 16]),
     ("Unlink", &[0, 1, 2, 3, 4, 5, 6, 7, 8, 9, 10, 11, 15, 16]),
     ("Rename", &[0, 1, 2, 3, 4, 5, 6, 7, 8, 9, 10, 11, 12, 15, 16, 18]),
     ("Collect", &[0, 1, 2, 3, 4, 5, 6, 7, 17]),

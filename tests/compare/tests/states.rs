@@ -59,6 +59,8 @@ fn every_call(side: &Side, at: &str, tally: &mut Tally) {
         vec![handle, Call::Read { length: 100 }],
         vec![Call::Create { base: b"/".to_vec(), path: b"a new name".to_vec(), kind: 1 }],
         vec![Call::Append { base: base.clone(), path: path.clone(), data: vec![7; 50] }],
+        vec![Call::Overwrite { base: base.clone(), path: path.clone(), offset: 0, data: vec![7; 1] }],
+        vec![Call::Overwrite { base: base.clone(), path: path.clone(), offset: 3, data: vec![7; 20] }],
         vec![Call::Rename { base: base.clone(), old: path.clone(), new: b"/a new name".to_vec() }],
         vec![Call::Rename { base: b"/".to_vec(), old: path.clone(), new: b"a new name".repeat(20) }],
         vec![Call::Unlink { base, path }],
@@ -91,7 +93,8 @@ fn run(seeds: std::ops::Range<u64>) {
     println!("every call in the last states: {:?}, in all {}", tally.answers, tally.calls);
     assert!((0..=7).all(|number| reports.contains_key(&number)), "a number of the report was not reached");
     assert!([0, 1, 3].iter().all(|number| formats.contains_key(number)), "a number of format was not reached");
-    for call in ["Report", "AreaReport", "Format", "Lookup", "Open", "ReadAt", "Read", "Create", "Append", "Unlink", "Rename", "Collect"] {
+    for call in ["Report", "AreaReport", "Format", "Lookup", "Open", "ReadAt", "Read", "Create", "Append", "Overwrite", "Unlink", "Rename", "Collect"]
+    {
         assert!(tally.answers.contains_key(&(call, 0)), "{call} was never accepted");
     }
 }

@@ -189,23 +189,24 @@ fn writes_between() {
         let spread: Vec<i32> = (0..areas as i32).map(|area| 200 + area * 37 % 120).collect();
         for counts in [vec![200; areas], spread] {
             let mut volume = Volume::of(256, &counts, areas - 1, areas % 2 == 0);
-            let accepted = std::cell::Cell::new([0; 4]);
+            let accepted = std::cell::Cell::new([0; 5]);
             take_turns(&mut volume, |volume, turn| {
                 let headers = volume.headers();
-                let (path, new) = (format!("/{}", turn / 4), format!("/new {}", turn / 4));
-                let number = volume.both(|e, image, areas| match turn % 4 {
+                let (path, new) = (format!("/{}", turn / 5), format!("/new {}", turn / 5));
+                let number = volume.both(|e, image, areas| match turn % 5 {
                     0 => e.create(image, areas, b"", path.as_bytes(), 1).number,
                     1 => e.append(image, areas, b"", path.as_bytes(), &[turn as u8; 20]),
-                    2 => e.rename(image, areas, b"", path.as_bytes(), new.as_bytes()),
+                    2 => e.overwrite(image, areas, b"", path.as_bytes(), 5, &[turn as u8; 10]),
+                    3 => e.rename(image, areas, b"", path.as_bytes(), new.as_bytes()),
                     _ => e.unlink(image, areas, b"", new.as_bytes()),
                 });
                 let mut times = accepted.get();
-                times[turn as usize % 4] += i32::from(number == 0);
+                times[turn as usize % 5] += i32::from(number == 0);
                 accepted.set(times);
                 assert_eq!(volume.headers(), headers);
             });
-            volume.tell(areas - 1, &format!(", {:?} creates, appends, renames and unlinks", accepted.get()));
-            assert!(accepted.get().iter().all(|times| *times > 110), "{:?}", accepted.get());
+            volume.tell(areas - 1, &format!(", {:?} creates, appends, overwrites, renames and unlinks", accepted.get()));
+            assert!(accepted.get().iter().all(|times| *times > 90), "{:?}", accepted.get());
         }
     }
 }

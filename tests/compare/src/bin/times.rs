@@ -94,7 +94,7 @@ fn first_file() -> Vec<u8> {
 /// One call on one engine: the number that it answers.
 type Call = (&'static str, fn(&dyn Engine, &mut [u8], &[u32]) -> u32);
 
-const CALLS: [Call; 12] = [
+const CALLS: [Call; 15] = [
     ("format", |e, image, areas| e.format(image, areas)),
     ("report", |e, image, areas| e.report(image, areas).number),
     ("area report", |e, image, areas| e.area_report(image, areas, 0, 0).number),
@@ -104,6 +104,10 @@ const CALLS: [Call; 12] = [
     ("create", |e, image, areas| e.create(image, areas, b"", b"/new", 1).number),
     ("append", |e, image, areas| e.append(image, areas, b"", &first_file(), &[7; 100])),
     ("append 2,000", |e, image, areas| e.append(image, areas, b"", &first_file(), &[7; 2000])),
+    ("overwrite 64 from 18 on", |e, image, areas| e.overwrite(image, areas, b"", &first_file(), 18, &[7; 64])),
+    // the whole of the first file, five blocks, of the volume with full tables and of the one that is nearly full
+    ("overwrite 100", |e, image, areas| e.overwrite(image, areas, b"", &first_file(), 0, &[7; 100])),
+    ("overwrite 850", |e, image, areas| e.overwrite(image, areas, b"", &first_file(), 0, &[7; 850])),
     ("unlink", |e, image, areas| e.unlink(image, areas, b"", &first_file())),
     ("rename", |e, image, areas| e.rename(image, areas, b"", &first_file(), b"/new")),
     ("collect", |e, image, areas| e.collect(image, areas)),
@@ -111,6 +115,9 @@ const CALLS: [Call; 12] = [
 
 /// The longest append, which the shortest file area cuts into the most blocks.
 const LONGEST: Call = ("append 8,192", |e, image, areas| e.append(image, areas, b"", &first_file(), &[7; 8192]));
+
+/// The longest overwrite, of a file that was appended so.
+const WHOLE: Call = ("overwrite 8,192", |e, image, areas| e.overwrite(image, areas, b"", &first_file(), 0, &[9; 8192]));
 
 /// The shortest of 50 runs in microseconds, each on the same bytes, and the number answered.
 fn shortest(engine: &dyn Engine, flash: &Flash, call: Call) -> (f64, u32) {
@@ -142,6 +149,9 @@ fn main() {
         }
     }
     for length in [128, 512, 1024, 4096, 4168] {
-        row(&format!("an area of {length}"), &with_an_area_of(length), LONGEST);
+        let mut flash = with_an_area_of(length);
+        row(&format!("an area of {length}"), &flash, LONGEST);
+        assert_eq!(LONGEST.1(&Model, &mut flash.image, &flash.areas), 0);
+        row(&format!("an area of {length}, with the file"), &flash, WHOLE);
     }
 }
