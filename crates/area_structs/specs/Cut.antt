@@ -20,6 +20,7 @@ use Rattle.calls.specs.Attempt.{attemptAt}
 use Rattle.calls.specs.Create.{creating, createOf, imageCreated}
 use Rattle.calls.specs.Append.{appending, appendOf, imageAppended}
 use Rattle.calls.specs.Unlink.{unlinking, unlinkOf, imageUnlinked}
+use Rattle.calls.specs.Overwrite.{overwriting, overwriteOf, imageOverwritten}
 use Rattle.calls.specs.Rename.{renaming, renameOf, imageRenamed}
 use Rattle.calls.specs.Collect.{collecting, collectOf, imageCollected}
 use Rattle.calls.specs.declared.Descriptor.{Descriptor}
@@ -98,6 +99,16 @@ unlink-whole image ds base path = whole image (λ l. unlinkOf image l base path)
 pub unlinked-whole : (image : Bytes) (ds : List Descriptor) (base path : Bytes) → imageUnlinked image (take mostEntries ds) base path ≡ imageUnlinked image ds base path
 unfolding imageUnlinked unlinking attemptAt
 unlinked-whole image ds base path = whole image (λ l. imageUnlinked image l base path) image (λ l e. rw (mount-bad image l e)) ds
+
+pub overwrite-whole : (image : Bytes) (ds : List Descriptor) (base path : Bytes) (offset : ℕ) (text : Bytes)
+    → overwriteOf image (take mostEntries ds) base path offset text ≡ overwriteOf image ds base path offset text
+unfolding overwriteOf overwriting attemptAt
+overwrite-whole image ds base path offset text = whole image (λ l. overwriteOf image l base path offset text) 1 (λ l e. rw (mount-bad image l e)) ds
+
+pub overwritten-whole : (image : Bytes) (ds : List Descriptor) (base path : Bytes) (offset : ℕ) (text : Bytes)
+    → imageOverwritten image (take mostEntries ds) base path offset text ≡ imageOverwritten image ds base path offset text
+unfolding imageOverwritten overwriting attemptAt
+overwritten-whole image ds base path offset text = whole image (λ l. imageOverwritten image l base path offset text) image (λ l e. rw (mount-bad image l e)) ds
 
 pub rename-whole : (image : Bytes) (ds : List Descriptor) (base old new : Bytes) → renameOf image (take mostEntries ds) base old new ≡ renameOf image ds base old new
 unfolding renameOf renaming attemptAt

@@ -10,6 +10,7 @@ ghost use Rattle.calls.specs.Lookup.{resolve, lookupOf, openOf};
 ghost use Rattle.calls.specs.Read.{readGiven, readAnswer, bufferAfter, handleAfter};
 ghost use Rattle.calls.specs.Create.{createOf, imageCreated};
 ghost use Rattle.calls.specs.Append.{appendOf, imageAppended};
+ghost use Rattle.calls.specs.Overwrite.{overwriteOf, imageOverwritten};
 ghost use Rattle.calls.specs.Unlink.{unlinkOf, imageUnlinked};
 ghost use Rattle.calls.specs.Rename.{renameOf, imageRenamed};
 ghost use Rattle.calls.specs.Collect.{collectOf, imageCollected};
@@ -22,6 +23,7 @@ use call_collect::collect_mounted;
 use call_create::create_mounted;
 use call_create::not_created;
 use call_format::format;
+use call_overwrite::overwrite_mounted;
 use call_read::lookup_answer;
 use call_read::not_read;
 use call_read::open_answer;
@@ -180,6 +182,27 @@ pub fn append_of<'a>(
         return m.number;
     }
     append_mounted(&mut *image, &tables[..], &places[..], m, base, path, text)
+}
+
+// Overwrites bytes of a file from an offset on, all or none: the number of refusal, or 0. A refused overwrite changes no byte.
+pub fn overwrite_of<'a>(
+    image: &mut [u8],
+    areas: Areas,
+    base: &'a [u8],
+    path: &'a [u8],
+    offset: u32,
+    text: &[u8],
+) -> u32
+    ensures number { λ r. ⌜ r ≡ overwriteOf (now (image .entry)) (areaList (areas .numbers)) (now (base .entry)) (now (path .entry)) offset (now (text .entry)) ⌝ }
+    ensures image { λ _. ⌜ now (image .exit) ≡ imageOverwritten (now (image .entry)) (areaList (areas .numbers)) (now (base .entry)) (now (path .entry)) offset (now (text .entry)) ⌝ }
+{
+    let mut tables = [0u32; TABLES];
+    let mut places = [0u16; MOST_RECORDS];
+    let m = mount(&*image, &areas.numbers, &mut tables[..], &mut places[..]);
+    if m.number != 0 {
+        return m.number;
+    }
+    overwrite_mounted(&mut *image, &tables[..], m, base, path, offset, text)
 }
 
 // Deletes what a path leads to, and with a directory all below it: the number of refusal, or 0. A refused unlink changes no byte.

@@ -1,13 +1,14 @@
 -- The number of an overwrite and the image after it. Document 02, T-05: refusals 8 to 11, 13, 14, 16 and 15.
 use Prim.Native.Nat.{ℕ, _+_, _≤_, _<_}
 use mathlib.Core.Path.{_≡_, refl, sym, ap, _∙_}
+use mathlib.Core.Logic.{_≢_}
 use mathlib.Core.Bool.{Bool, true, false, cond}
 use mathlib.Core.List.{List, map, List·Memᴰ}
 use mathlib.Core.Option.{Option, none, some}
 use native.Mathlib.Omega.{arith}
 use lib.ListN.{length, getD}
 use lib.Dec.{ltb}
-use borrow.Author.Tests.{lt-ltb, le-ltb}
+use borrow.Author.Tests.{lt-ltb, le-ltb, ne-eqb}
 use Rattle.format.specs.Bytes.{Bytes}
 use Rattle.format.specs.Ids.{isDirectoryId}
 use Rattle.volume.specs.Lists.{bind}
@@ -24,10 +25,10 @@ use Rattle.record_places.specs.Laws.{place-views}
 use Rattle.table_rows.specs.Laws.{getD-mem}
 use Rattle.calls.specs.Areas.{fileAreas}
 use Rattle.calls.specs.Refusal.{firstRefusal}
-use Rattle.calls.specs.Mount.{volume}
+use Rattle.calls.specs.Mount.{volume, mountNumber}
 use Rattle.calls.specs.Storing.{Store, noPlace, storedOr}
 use Rattle.calls.specs.Lookup.{resolve}
-use Rattle.calls.specs.Attempt.{Attempt, goes, refuses, numberOf, leaves, unless, atFound}
+use Rattle.calls.specs.Attempt.{Attempt, goes, refuses, numberOf, leaves, unless, atFound, attemptAt}
 use Rattle.calls.specs.Append.{mostAppended, isBroken}
 use Rattle.calls.specs.Overwrite.{oldBlocks, overwritePlan, overwriteTo, overwriting, overwriteImage, overwriteOf, imageOverwritten}
 use Rattle.calls.specs.declared.Descriptor.{Descriptor}
@@ -35,7 +36,7 @@ use Rattle.area_pass.specs.Listing.{placesIn}
 use Rattle.area_pass.specs.Bridge.{placedVolume, volume-places}
 use Rattle.path_walk.specs.Resolved.{refusalOf}
 use Rattle.path_find.specs.Text.{text-long, text-at}
-use Rattle.mount_state.specs.State.{Holds}
+use Rattle.mount_state.specs.State.{Holds, Mounts}
 use Rattle.mount_state.specs.declared.Mounted.{Mounted}
 use Rattle.call_overwrite.specs.Written.{AllPlaced, anyGreatest, planned, Written}
 
@@ -147,3 +148,12 @@ module _ {image : Bytes} {ds : List Descriptor} {m : Mounted} {t : List ℕ} (h 
     -- the inode f, and what became of the overwrite in it
     pub overwrite-found : (f : ℕ) → o ≡ found f → {r : ℕ} {x : Bytes} → Outcome image ds offset text (overwriteAt image ds offset text f) r x → Done r x
     overwrite-found f q w = done (overwriteAt image ds offset text f) (overwriting-is ∙ ap (atFound (λ f. overwriteTo image ds f offset text)) q) w
+
+-- ---- a refused mount
+
+pub overwrite-refused : {image : Bytes} {ds : List Descriptor} {m : Mounted} {t ps : List ℕ} → Mounts image ds m t ps → (base path : Bytes) (offset : ℕ) (text : Bytes)
+    → m .number ≢ 0 → (m .number ≡ overwriteOf image ds base path offset text) × (image ≡ imageOverwritten image ds base path offset text)
+unfolding overwriting overwriteOf imageOverwritten attemptAt
+overwrite-refused {image} {ds} c base path offset text h =
+    let e = ne-eqb (mountNumber image ds) 0 (λ z. h (c .number ∙ z)) in
+    (rw (c .number, e), rw e)

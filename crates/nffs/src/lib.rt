@@ -9,6 +9,7 @@ ghost use Rattle.calls.specs.Lookup.{lookupOf, openOf};
 ghost use Rattle.calls.specs.Read.{readGiven, readAnswer, bufferAfter, handleAfter};
 ghost use Rattle.calls.specs.Create.{createOf, imageCreated};
 ghost use Rattle.calls.specs.Append.{appendOf, imageAppended};
+ghost use Rattle.calls.specs.Overwrite.{overwriteOf, imageOverwritten};
 ghost use Rattle.calls.specs.Unlink.{unlinkOf, imageUnlinked};
 ghost use Rattle.calls.specs.Rename.{renameOf, imageRenamed};
 ghost use Rattle.calls.specs.Collect.{collectOf, imageCollected};
@@ -21,6 +22,7 @@ use call_entries::create_of;
 use call_entries::format_of;
 use call_entries::lookup_of;
 use call_entries::open_of;
+use call_entries::overwrite_of;
 use call_entries::read_at_of;
 use call_entries::read_of;
 use call_entries::rename_of;
@@ -151,6 +153,22 @@ pub extern "C" fn nffs_append<'a>(
     ensures image { λ _. ⌜ now (image .exit) ≡ imageAppended (now (image .entry)) (listed (now (areas .entry))) (now (base .entry)) (now (path .entry)) (now (text .entry)) ⌝ }
 {
     append_of(image, areas_of(areas), base, path, text)
+}
+
+// Overwrites bytes of a file from an offset on, all or none: the number of refusal, or 0. A refused overwrite changes no byte.
+#[no_mangle]
+pub extern "C" fn nffs_overwrite<'a>(
+    image: &mut [u8],
+    areas: &[Descriptor],
+    base: &'a [u8],
+    path: &'a [u8],
+    offset: u32,
+    text: &[u8],
+) -> u32
+    ensures number { λ r. ⌜ r ≡ overwriteOf (now (image .entry)) (listed (now (areas .entry))) (now (base .entry)) (now (path .entry)) offset (now (text .entry)) ⌝ }
+    ensures image { λ _. ⌜ now (image .exit) ≡ imageOverwritten (now (image .entry)) (listed (now (areas .entry))) (now (base .entry)) (now (path .entry)) offset (now (text .entry)) ⌝ }
+{
+    overwrite_of(image, areas_of(areas), base, path, offset, text)
 }
 
 // Deletes what a path leads to, and with a directory all below it: the number of refusal, or 0. A refused unlink changes no byte.
