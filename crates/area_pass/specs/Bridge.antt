@@ -74,9 +74,9 @@ places-in image [] p m = absurd (List·Memᴰ·not-nil m)
 places-in image (d ∷ fs) p m =
     ⊎-elim
     (λ n. let t = record-places-each (d .offset) p (recordsOf image d) n in
-        record { area = d; among = List·Memᴰ·head refl; there = t .0; taken = t .1; at = t .2 })
+    record { area = d; among = List·Memᴰ·head refl; there = t .0; taken = t .1; at = t .2 })
     (λ n. let t = places-in image fs p n in
-        record { area = t .area; among = List·Memᴰ·tail (t .among); there = t .there; taken = t .taken; at = t .at })
+    record { area = t .area; among = List·Memᴰ·tail (t .among); there = t .there; taken = t .taken; at = t .at })
     (List·Memᴰ·append-cases (recordPlaces (d .offset) (recordsOf image d)) m)
 
 pub places-lie : (image : Bytes) (fs : List Descriptor) (p : ℕ) → List·Memᴰ p (placesIn image fs) → Lies image p

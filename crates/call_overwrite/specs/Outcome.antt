@@ -1,13 +1,12 @@
 -- The number of an overwrite and the image after it. Document 02, T-05: refusals 8 to 11, 13, 14, 16 and 15.
 use Prim.Native.Nat.{ℕ, _+_, _≤_, _<_}
-use mathlib.Core.Path.{_≡_, refl, sym, ap, _∙_}
+use mathlib.Core.Path.{_≡_, refl, ap, _∙_}
 use mathlib.Core.Logic.{_≢_}
 use mathlib.Core.Bool.{Bool, true, false, cond}
 use mathlib.Core.List.{List, map, List·Memᴰ}
 use mathlib.Core.Option.{Option, none, some}
 use native.Mathlib.Omega.{arith}
 use lib.ListN.{length, getD}
-use lib.Dec.{ltb}
 use borrow.Author.Tests.{lt-ltb, le-ltb, ne-eqb}
 use Rattle.format.specs.Bytes.{Bytes}
 use Rattle.format.specs.Ids.{isDirectoryId}
@@ -19,18 +18,18 @@ use Rattle.volume.specs.Tree.{Found, found, absent}
 use Rattle.volume_laws.specs.Lists.{keep-mem}
 use Rattle.volume_laws.specs.Counting.{counting-mem}
 use Rattle.volume_laws.specs.Chain.{chain-counts}
-use Rattle.volume_laws.specs.Map.{over, overVolume, fileBlocks-map, textOf-map}
+use Rattle.volume_laws.specs.Map.{over, fileBlocks-map, textOf-map}
 use Rattle.record_places.specs.Place.{byPlace, bytesAt}
 use Rattle.record_places.specs.Laws.{place-views}
 use Rattle.table_rows.specs.Laws.{getD-mem}
 use Rattle.calls.specs.Areas.{fileAreas}
 use Rattle.calls.specs.Refusal.{firstRefusal}
 use Rattle.calls.specs.Mount.{volume, mountNumber}
-use Rattle.calls.specs.Storing.{Store, noPlace, storedOr}
+use Rattle.calls.specs.Storing.{Store, noPlace}
 use Rattle.calls.specs.Lookup.{resolve}
 use Rattle.calls.specs.Attempt.{Attempt, goes, refuses, numberOf, leaves, unless, atFound, attemptAt}
-use Rattle.calls.specs.Append.{mostAppended, isBroken}
-use Rattle.calls.specs.Overwrite.{oldBlocks, overwritePlan, overwriteTo, overwriting, overwriteImage, overwriteOf, imageOverwritten}
+use Rattle.calls.specs.Append.{mostAppended}
+use Rattle.calls.specs.Overwrite.{overwritePlan, overwriteTo, overwriting, overwriteImage, overwriteOf, imageOverwritten}
 use Rattle.calls.specs.declared.Descriptor.{Descriptor}
 use Rattle.area_pass.specs.Listing.{placesIn}
 use Rattle.area_pass.specs.Bridge.{placedVolume, volume-places}

@@ -1,5 +1,5 @@
 -- What became of the new versions: all are stored, or none and 16 or 15.
-use Prim.Native.Nat.{ℕ, suc, _+_, _≤_, _<_}
+use Prim.Native.Nat.{ℕ, _+_, _≤_, _<_}
 use mathlib.Core.Path.{_≡_, refl, sym, ap, _∙_}
 use mathlib.Core.Bool.{Bool, true, false, cond}
 use mathlib.Core.List.{List, [], _∷_, map, List·Memᴰ}
@@ -15,7 +15,7 @@ use Rattle.calls.specs.Areas.{fileAreas}
 use Rattle.calls.specs.Refusal.{_refused-by_, firstRefusal}
 use Rattle.calls.specs.Storing.{Store, spaces, placeAll, noPlace, storeAll, storedOr, isAmong}
 use Rattle.calls.specs.Rewrite.{lastSequence}
-use Rattle.calls.specs.Overwrite.{Change, changes, changesFrom, textAfter, newVersion}
+use Rattle.calls.specs.Overwrite.{Change, changes, textAfter, newVersion}
 use Rattle.calls.specs.declared.Descriptor.{Descriptor}
 use Rattle.calls_laws.specs.Checks.{passes}
 use Rattle.image_laws.specs.Laws.{length-put}
@@ -25,7 +25,7 @@ use Rattle.area_pass.specs.Listing.{placesIn}
 use Rattle.mount_state.specs.State.{Safe, Holds}
 use Rattle.mount_state.specs.declared.Mounted.{Mounted}
 use Rattle.write_room.specs.Spaces.{ClearOf, clear-parts, EndsWithin}
-use Rattle.write_room.specs.Plan.{placesFor, EachAt, places-each, Planned, pairStores, pairs-needed, each-needed, blocks-paired}
+use Rattle.write_room.specs.Plan.{placesFor, places-each, Planned, pairStores, pairs-needed, each-needed, blocks-paired}
 use Rattle.write_room.specs.Clear.{records-clear}
 use Rattle.file_blocks.specs.Walk.{data-long}
 use Rattle.file_list.specs.Listing.{dataSize, Listed}

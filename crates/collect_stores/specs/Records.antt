@@ -1,18 +1,13 @@
 -- Records of an image that stand apart from what is stored: their sizes and bytes stay.
 use Prim.Native.Nat.{ℕ, suc, _+_, _≤_, _<_}
 use mathlib.Core.Path.{_≡_, refl, sym, ap, ap₂, _∙_}
-use mathlib.Core.Bool.{Bool, true, false}
 use mathlib.Core.List.{List, [], _∷_, _++_, map, append-assoc, append-nil}
 use native.Mathlib.Omega.{arith}
 use native.Mathlib.Numerals.{add-one}
-use lib.ListN.{length, take, drop, getD, length-append, length-take, length-drop, take-append-drop}
+use lib.ListN.{length, take, drop, getD, length-append, take-append-drop}
 use lib.Seq.{take-suc}
-use lib.Dec.{eqb}
-use Rattle.format.specs.Bytes.{Bytes, byteAt, le16, le32}
-use Rattle.format.specs.Record.{block}
-use Rattle.format_laws.specs.Bytes.{same-byte, same-le16, same-le32, drop-byte, drop-le16, drop-le32}
+use Rattle.format.specs.Bytes.{Bytes}
 use Rattle.volume_laws.specs.Lists.{map-append}
-use Rattle.calls.specs.Image.{part}
 use Rattle.image_laws.specs.Stores.{joinedBytes}
 use Rattle.record_places.specs.Place.{bytesAt}
 

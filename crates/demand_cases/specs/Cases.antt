@@ -255,10 +255,6 @@ pub record OverwriteCases : Type 0 where
   -- a block longer than the greatest block size keeps its length
   pub overwrite-long-block : bytesOf (recordsOf (imageOverwritten (long 0 ++ (holding 1 1 [] ++ holding 0 255 [])) three [] (slash a) 43 xy) area₁)
       ≡ blockBytes 0x80000000 1 file NONE (replicate 43 0x6f ++ xy) ∷ []
-  -- a block of 0 bytes, of which no volume has one, holds none of the range
-  pub overwrite-of-empty-block : map (λ c. c .text) (changes (blockBytes 0x80000000 0 file NONE a
-      ∷ blockBytes 0x80000001 0 file 0x80000000 [] ∷ blockBytes 0x80000002 0 file 0x80000001 b ∷ []) 0 xy)
-      ≡ (0x78 ∷ []) ∷ (0x79 ∷ []) ∷ []
 
 pub overwriteCases : OverwriteCases
 unfolding
@@ -282,5 +278,4 @@ overwriteCases = record {
   overwrite-in-order = refl;
   overwrite-whole-file = refl;
   overwrite-long-block = refl;
-  overwrite-of-empty-block = refl;
 }

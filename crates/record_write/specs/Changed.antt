@@ -1,16 +1,16 @@
 -- A body that is another one with some bytes changed is checked and stored in three parts: what stands before those bytes, they, and what
 -- stands after them.
 use Prim.Native.Nat.{ℕ, _+_, _-_, _≤_}
-use mathlib.Core.Path.{_≡_, refl, sym, ap, _∙_}
+use mathlib.Core.Path.{_≡_, sym, ap, _∙_}
 use mathlib.Core.List.{[], _++_, append-assoc}
 use native.Mathlib.Omega.{arith}
 use native.Mathlib.Nat.{add-assoc}
-use lib.ListN.{length, take, drop, length-append, length-drop, length-take}
+use lib.ListN.{length, take, drop, length-append, length-drop}
 use lib.Seq.{take-all, take-take, drop-drop}
 use Rattle.format.specs.Bytes.{Bytes, enc16}
 use Rattle.format.specs.Crc.{crcOver, check}
 use Rattle.format.specs.Record.{block}
-use Rattle.format.specs.Encoding.{blockFront, sealed, blockBytes}
+use Rattle.format.specs.Encoding.{blockFront, blockBytes}
 use Rattle.format_laws.specs.Bytes.{drop-take}
 use Rattle.format_laws.specs.Crc.{crc-append}
 use Rattle.calls.specs.Image.{put, part}

@@ -1,9 +1,8 @@
 -- The loops of an append: places taken, ids taken, and the pieces stored, one after the other.
 use Prim.Native.Nat.{ℕ, suc, _+_, _-_, _≤_, _<_}
-use mathlib.Core.Path.{_≡_, refl, sym, ap, subst, _∙_}
-use mathlib.Core.Bool.{Bool, true, false}
+use mathlib.Core.Path.{_≡_, refl, sym, ap, _∙_}
 use mathlib.Core.List.{List, [], _∷_, _++_, map, append-nil, append-assoc}
-use mathlib.Core.Option.{Option, none, some}
+use mathlib.Core.Option.{none, some}
 use native.Mathlib.Omega.{arith}
 use native.Mathlib.Numerals.{add-one}
 use native.Mathlib.Nat.{sub-zero}
@@ -14,13 +13,8 @@ use Rattle.format.specs.Ids.{firstBlockId}
 use Rattle.format.specs.Record.{block, longestData}
 use Rattle.format.specs.Encoding.{blockBytes}
 use Rattle.format_laws.specs.Encoding.{block-size}
-use Rattle.volume.specs.Lists.{bind}
 use Rattle.calls.specs.Image.{put}
-use Rattle.calls.specs.Areas.{fileAreas}
-use Rattle.calls.specs.Storing.{Space, spaces, firstFit, storeAll, unusedId}
-use Rattle.calls.specs.declared.Descriptor.{Descriptor}
-use Rattle.mount_state.specs.State.{Safe, Holds}
-use Rattle.mount_state.specs.declared.Mounted.{Mounted}
+use Rattle.calls.specs.Storing.{firstFit, storeAll, unusedId}
 use Rattle.image_laws.specs.Laws.{length-put}
 use Rattle.table_words.specs.Occupancy.{bits, capacity, firstZero}
 use Rattle.write_ids.specs.Window.{Marks}

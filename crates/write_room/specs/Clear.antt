@@ -6,7 +6,6 @@ use mathlib.Core.List.{List, [], _∷_, List·Memᴰ, List·Memᴰ·head, List·
 use native.Mathlib.Omega.{arith}
 use lib.ListN.{length, drop, length-take, length-drop}
 use Rattle.format.specs.Bytes.{Bytes}
-use Rattle.format.specs.AreaHeader.{areaHeaderSize}
 use Rattle.format.specs.Record.{recordSize}
 use Rattle.format.specs.Reading.{areaFree, areaClean}
 use Rattle.format_laws.specs.Record.{record-inside}

@@ -16,7 +16,7 @@ use Rattle.calls.specs.Image.{part}
 use Rattle.calls.specs.Storing.{isAmong}
 use Rattle.calls.specs.Rewrite.{lastSequence}
 use Rattle.calls.specs.Overwrite.{Change, holdsByte, changesFrom}
-use Rattle.record_places.specs.Place.{bytesAt, byPlace}
+use Rattle.record_places.specs.Place.{bytesAt}
 use Rattle.record_places.specs.Laws.{place-views}
 use Rattle.file_list.specs.Listing.{dataSize, Listed}
 use Rattle.write_versions.specs.Held.{Position, position-begins, position-next}

@@ -1,11 +1,10 @@
 -- The loop that stores the new versions, in file order.
-use Prim.Native.Nat.{ℕ, zero, suc, max, min, _+_, _-_, _≤_, _<_}
-use mathlib.Core.Path.{_≡_, refl, sym, ap, subst, _∙_}
-use mathlib.Core.Logic.{_≢_}
-use mathlib.Core.Bool.{Bool, true, false, cond, _&&_, _||_}
-use mathlib.Core.List.{List, [], _∷_, _++_, map}
+use Prim.Native.Nat.{ℕ, suc, max, min, _+_, _-_, _≤_, _<_}
+use mathlib.Core.Path.{_≡_, refl, sym, ap, _∙_}
+use mathlib.Core.Bool.{true, false, cond, _&&_}
+use mathlib.Core.List.{List, [], _∷_, map}
 use native.Mathlib.Omega.{arith}
-use lib.ListN.{length, take, drop, getD, length-append, drop-of-length-le}
+use lib.ListN.{length, drop, getD, length-append, drop-of-length-le}
 use lib.Seq.{drop-cons, drop-drop, drop-append-seam, take-append-seam}
 use lib.Dec.{eqb}
 use borrow.Author.Tests.{eqb-false}
@@ -18,10 +17,10 @@ use Rattle.volume_laws.specs.Tests.{or-is-false}
 use Rattle.calls.specs.Image.{put, part}
 use Rattle.calls.specs.Storing.{storeAll}
 use Rattle.calls.specs.Rewrite.{lastSequence}
-use Rattle.calls.specs.Overwrite.{Change, holdsByte, changesFrom, changes, textAfter, newVersion}
+use Rattle.calls.specs.Overwrite.{holdsByte, changesFrom, changes, textAfter, newVersion}
 use Rattle.image_laws.specs.Apart.{Apart}
 use Rattle.image_laws.specs.Laws.{length-put, part-length, part-outside, part-shared}
-use Rattle.record_places.specs.Place.{blockAt, sizeAt, bytesAt, byPlace, Lies}
+use Rattle.record_places.specs.Place.{sizeAt, bytesAt, byPlace}
 use Rattle.record_places.specs.Laws.{place-views, size-block}
 use Rattle.record_places.specs.Stays.{kind-stays, size-stays, bytes-stay}
 use Rattle.file_list.specs.Listing.{dataSize, Listed}
@@ -256,8 +255,8 @@ module _ {x₀ : Bytes} {bs ns qs : List ℕ} {from to : ℕ} {text : Bytes} (ok
         pub storing-on : (y : Bytes) → length y ≡ length x
             → (Versioned x p n at
             → y ≡ put x at (newVersion (record {
-            block = bytesAt x p;
-            text = put (byPlace x .text p) (max s from - s) (part text (max s from - from) (min (s + n) to - max s from));
+              block = bytesAt x p;
+              text = put (byPlace x .text p) (max s from - s) (part text (max s from - from) (min (s + n) to - max s from));
             })))
             → Storing x₀ bs ns qs from to text y (s + n) (k + 1) (i + 1)
         unfolding pairStores storeAll

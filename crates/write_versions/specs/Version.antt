@@ -51,12 +51,12 @@ from-first f b d h = omega arith
 -- with a part of a text, from b up to d in the file, where the text begins at `from`
 pub version-part : (x y : Bytes) (p n at s from to : ℕ) (text : Bytes) (b d : ℕ) → b ≡ max s from → d ≡ min (s + n) to
     → y ≡ put x at (newVersion (record {
-    block = bytesAt x p;
-    text = put (byPlace x .text p) (b - s) (part text (b - from) (d - from - (b - from)));
+      block = bytesAt x p;
+      text = put (byPlace x .text p) (b - s) (part text (b - from) (d - from - (b - from)));
     }))
     → y ≡ put x at (newVersion (record {
-    block = bytesAt x p;
-    text = put (byPlace x .text p) (max s from - s) (part text (max s from - from) (min (s + n) to - max s from));
+      block = bytesAt x p;
+      text = put (byPlace x .text p) (max s from - s) (part text (max s from - from) (min (s + n) to - max s from));
     }))
 version-part x y p n at s from to text b d be de stored =
     rw (from-first from (max s from) (min (s + n) to) (le-max-right s from)) at (rw (be, de) at stored)

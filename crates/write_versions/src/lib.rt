@@ -175,19 +175,18 @@ fn store_version(image: &mut [u8], p: u32, n: u32, at: u32, begin: usize, text: 
         previous: load32(&*image, old + BlockHeader::PREVIOUS_AT),
         length: n,
     };
-    write_changed(&mut *image, at as usize, header, old + BlockHeader::SIZE, begin, text);
+    write_changed(
+        &mut *image,
+        at as usize,
+        header,
+        old + BlockHeader::SIZE,
+        begin,
+        text,
+    );
 }
 
 // Stores at `at` the next version of the block at `p`, of `n` bytes from `s` on in its file, with what it holds of the range taken from the text.
-fn store_part(
-    image: &mut [u8],
-    p: u32,
-    n: u32,
-    at: u32,
-    s: usize,
-    range: Range,
-    text: &[u8],
-)
+fn store_part(image: &mut [u8], p: u32, n: u32, at: u32, s: usize, range: Range, text: &[u8])
     requires { ⌜ (p + (block .headerSize + n) ≤ length (now image)) × (at + (block .headerSize + n) ≤ length (now image)) × (s + n ≤ mostBlocks * 65535) ⌝ }
     requires { ⌜ (range .to ≡ range .from + length (now text)) × (holdsByte (range .from) (range .to) s n ≡ true) ⌝ }
     ensures { λ _. ⌜ (Versioned (now (image .entry)) p n at → now (image .exit) ≡ put (now (image .entry)) at (newVersion (record { block = bytesAt (now (image .entry)) p; text = put (byPlace (now (image .entry)) .text p) (max s (range .from) - s) (part (now (text .entry)) (max s (range .from) - range .from) (min (s + n) (range .to) - max s (range .from))) }))) ⌝ }

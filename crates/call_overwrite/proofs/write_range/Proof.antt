@@ -40,7 +40,7 @@ returns-2 c =
     let p = c .before .before .before in
     let s = lent (asked p) in
     let q = s .pre .1 .1 .1 in
-    λ ds h a. no-place _ ds _ _ _ _ _ (s .pre .1 .0) (q .1) (q .2) (none-last p ds) 
+    λ ds h a. no-place _ ds _ _ _ _ _ (s .pre .1 .0) (q .1) (q .2) (none-last p ds)
     (planned-none _ (p .plan-versions .result) _ (p .plan-versions .ensures .0 ds h) (c .if2 .left))
 
 abbrev placed : tie.Then2 → tie.After-plan-versions
@@ -52,7 +52,7 @@ store-versions-requires c κs =
     let p = placed t in
     let s = lent (asked p) in
     let q = s .pre .1 .1 .1 in
-    storable _ _ _ _ _ _ (s .pre .1 .0) (q .1) (q .2) _ (s .pre .1 .1 .0) 
+    storable _ _ _ _ _ _ (s .pre .1 .0) (q .1) (q .2) _ (s .pre .1 .1 .0)
     (planned-inside (length (s .args .image .now)) _ (p .plan-versions .result) _ (p .plan-versions .ensures .1) (t .if2 .taken))
 
 returns-3 : tie.Need-returns-3

@@ -2,7 +2,6 @@
 use Prim.Native.Nat.{ℕ, _≤_}
 use mathlib.Core.Path.{_≡_, sym, ap, subst, _∙_}
 use mathlib.Core.Option.{some}
-use mathlib.Core.List.{List}
 use native.Mathlib.Omega.{arith}
 use lib.ListN.{length, take}
 use lib.Seq.{length-take-le, take-at}
@@ -76,7 +75,7 @@ told z r e =
     let n = counted z in
     let a = lent (sought n) .args in
     subst (λ (q : Size). Lists (a .image .now) (chainBack (byPlace (a .image .now)) (found (length (a .ids .now)) (a .ids .now) (a .spots .now)) (a .file) (n .owned-count .result) (n .before .before .last .given .0 .0)) q
-        (z .list-chain .last .1 .1 .1 .1 .1 .0) (z .list-chain .last .1 .1 .1 .1 .1 .1 .0)) e (rw (rows-long n .0) at (z .list-chain .ensures .1))
+    (z .list-chain .last .1 .1 .1 .1 .1 .0) (z .list-chain .last .1 .1 .1 .1 .1 .1 .0)) e (rw (rows-long n .0) at (z .list-chain .ensures .1))
 
 returns-2 : tie.Need-returns-2
 returns-2 c =

@@ -5,7 +5,6 @@ use lib.ListN.{length, getD}
 use Rattle.calls.specs.Mount.{mostBlocks}
 use Rattle.write_versions.specs.Held.{position-within}
 use Rattle.write_versions.specs.Greatest.{Searching, listed-long, searching-begins, searching-found, searching-on, searching-ends}
-use borrow.Author.Needs.{needs}
 use Rattle.write_versions.proofs.any_greatest.Statement.{statement}
 use Rattle.write_versions.proofs.any_greatest.Tie as tie
 

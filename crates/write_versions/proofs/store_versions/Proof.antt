@@ -9,7 +9,6 @@ use Rattle.calls.specs.Overwrite.{holdsByte}
 use Rattle.write_versions.specs.Held.{position-within}
 use Rattle.write_versions.specs.Greatest.{listed-long}
 use Rattle.write_versions.specs.Stores.{Storing, storing-begins, storing-inside, storing-past, storing-row, storing-fits, storing-on, storing-ends}
-use borrow.Author.Needs.{needs}
 use Rattle.write_versions.proofs.store_versions.Statement.{statement}
 use Rattle.write_versions.proofs.store_versions.Tie as tie
 

@@ -1,6 +1,6 @@
 -- `write_versions::take_places` meets its contract: the blocks before `i` that hold a byte of the range have their places.
 use Prim.Native.Nat.{_+_, _-_, _*_, _≤_, _<_}
-use mathlib.Core.Path.{_≡_, sym, _∙_}
+use mathlib.Core.Path.{sym, _∙_}
 use native.Mathlib.Omega.{arith}
 use lib.ListN.{length, getD}
 use Rattle.calls.specs.Mount.{mostBlocks}
