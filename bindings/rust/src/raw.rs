@@ -160,6 +160,19 @@ mod exports {
             data: *const u8,
             data_length: usize,
         ) -> u32;
+        pub fn nffs_overwrite(
+            image: *mut u8,
+            size: usize,
+            areas: *const Area,
+            areas_count: usize,
+            base: *const u8,
+            base_length: usize,
+            path: *const u8,
+            path_length: usize,
+            offset: u32,
+            data: *const u8,
+            data_length: usize,
+        ) -> u32;
         pub fn nffs_unlink(
             image: *mut u8,
             size: usize,
@@ -328,6 +341,32 @@ pub fn append(image: &mut [u8], areas: &[Area], base: &[u8], path: &[u8], data: 
             base.len(),
             path.as_ptr(),
             path.len(),
+            data.as_ptr(),
+            data.len(),
+        )
+    }
+}
+
+pub fn overwrite(
+    image: &mut [u8],
+    areas: &[Area],
+    base: &[u8],
+    path: &[u8],
+    offset: u32,
+    data: &[u8],
+) -> u32 {
+    // SAFETY: slices as the call needs them, see above.
+    unsafe {
+        exports::nffs_overwrite(
+            image.as_mut_ptr(),
+            image.len(),
+            areas.as_ptr(),
+            areas.len(),
+            base.as_ptr(),
+            base.len(),
+            path.as_ptr(),
+            path.len(),
+            offset,
             data.as_ptr(),
             data.len(),
         )
