@@ -32,7 +32,7 @@ const TABLE: [(u32, &str, &str); 18] = [
         "--replace, of put and import, replaces a file."),
     (13, "Blocks of this file are lost. Other files can be read. Unlink it and store it anew.",
         "`nffs put IMAGE PATH FILE --replace` does both."),
-    (14, "Begin the read inside the file, or just at its end. An overwrite begins and ends there, too, and makes no file longer: append what goes behind the end. Where the file was longer, ask for a report: its last blocks may be lost.",
+    (14, "Begin the read inside the file, or just at its end. An overwrite begins and ends there: it makes no file longer, an append does. Where the file was longer, ask for a report: its last blocks may be lost.",
         "`nffs check IMAGE` prints sizes; `nffs append` makes a file longer."),
     (15, "No room in a clean file area; an overwrite needs it for a copy of each block that it touches. Ask for a report first: a stretch may mean that an older version counts, and a collection of its area removes the stretch. Then collect and call again; each call collects one area.",
         "--collect collects until it fits; `nffs rm` gives a collection something to free."),
