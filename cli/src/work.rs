@@ -166,22 +166,17 @@ impl<'a> Work<'a> {
     }
 
     /// Writes data of any length over what a file holds from an offset on, by as many calls as it
-    /// takes, all or none. Where it takes several, the range's end is asked for first: a range that is
-    /// too long is refused as such, and not for want of room.
+    /// takes; where one of them is refused the work is to be given up. Where it takes several, the
+    /// range's end is asked for first: a range that is too long is refused as such, and not for want
+    /// of room.
     pub fn overwrite(&mut self, path: &[u8], offset: u32, data: &[u8]) -> Result<(), Refusal> {
-        let write = |work: &mut Work, at: u32, piece: &[u8]| {
-            work.make(|image, areas| nffs::overwrite(image, areas, b"", path, at, piece))
+        let mut write = |at: u32, piece: &[u8]| {
+            self.make(|image, areas| nffs::overwrite(image, areas, b"", path, at, piece))
         };
         if data.len() > nffs::APPEND_MOST {
-            write(self, offset.saturating_add(data.len() as u32), b"")?;
+            write(offset.saturating_add(data.len() as u32), b"")?;
         }
-        let before = self.image.clone();
-        let pieces = pieces(offset, data);
-        let written = pieces.into_iter().try_for_each(|(at, piece)| write(self, at, piece));
-        if written.is_err() {
-            self.image = before;
-        }
-        written
+        pieces(offset, data).into_iter().try_for_each(|(at, piece)| write(at, piece))
     }
 
     /// Stores a file, in the place of one that is there. A directory is refused, as open refuses it:
@@ -213,9 +208,8 @@ impl<'a> Work<'a> {
     }
 }
 
-/// Where a range from a position on is cut, if one call does not take it: where `put` cuts a file, at
-/// each so many bytes from its start. So no block of such a file is in two pieces, and none is
-/// written twice.
+/// A range of a file, cut where one call does not take it: where `put` cuts a file, at each so many
+/// bytes from its start. So no block of such a file is in two pieces, and none is written twice.
 fn pieces(offset: u32, data: &[u8]) -> Vec<(u32, &[u8])> {
     let mut pieces = Vec::new();
     let (mut at, mut rest) = (offset, data);
