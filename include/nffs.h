@@ -38,7 +38,7 @@
 #include <string.h>
 
 /* Of the calls and their declarations here. */
-#define NFFS_VERSION "0.6.0"
+#define NFFS_VERSION "0.7.0"
 
 /* An answer that nobody looks at may be a refusal. */
 #if defined(__cplusplus) && __cplusplus >= 201703L
@@ -74,15 +74,15 @@ enum {
     NFFS_TOO_MANY_IDS = 5,        /* more than 256 inode ids or 1,024 block ids */
     NFFS_CONFLICT = 6,            /* two records of one id, same sequence, different bytes */
     NFFS_NO_ROOT = 7,             /* no record of the root */
-    NFFS_BAD_PATH = 8,            /* bad path or name; over 8,192 bytes to append; creating or unlinking the root, or renaming to it */
+    NFFS_BAD_PATH = 8,            /* bad path or name; over 8,192 bytes to append or overwrite; creating or unlinking the root, or renaming to it */
     NFFS_NOT_FOUND = 9,           /* no such child, or a handle's id is not live */
     NFFS_AMBIGUOUS = 10,          /* two or more live children of that name */
     NFFS_WRONG_KIND = 11,         /* a file where a directory is needed, or the reverse */
     NFFS_EXISTS = 12,             /* create, rename: the name is there */
-    NFFS_BROKEN = 13,             /* read or append of a broken file */
-    NFFS_PAST_END = 14,           /* read begins after the end */
+    NFFS_BROKEN = 13,             /* read, append or overwrite of a broken file */
+    NFFS_PAST_END = 14,           /* read begins after the end; overwrite begins or ends after it */
     NFFS_NO_ROOM = 15,            /* a record fits in no clean file area */
-    NFFS_LAST_SEQUENCE = 16,      /* unlink, rename: the sequence is at its greatest */
+    NFFS_LAST_SEQUENCE = 16,      /* unlink, rename: the sequence is at its greatest; overwrite: that of a block in the range */
     NFFS_NO_SOURCE = 17,          /* collect: no file area is as long as the scratch area */
     NFFS_INTO_ITSELF = 18         /* rename: the root, or a directory moved below itself */
 };
@@ -93,7 +93,7 @@ enum { NFFS_DIRECTORY = 0, NFFS_FILE = 1 };
 /* What nffs_area_report finds an area to be: without a valid header, and so passed over with all that lies in it; a file area; scratch. */
 enum { NFFS_AREA_PASSED_OVER = 0, NFFS_AREA_FILE = 1, NFFS_AREA_SCRATCH = 2 };
 
-/* The most areas of a list, and the most bytes that one nffs_append takes. */
+/* The most areas of a list, and the most bytes that one nffs_append or nffs_overwrite takes. */
 enum { NFFS_MOST_AREAS = 16, NFFS_APPEND_MOST = 8192 };
 
 /* The answers. Where the number is not 0, the others are 0. */
@@ -205,6 +205,18 @@ NFFS_ANSWERS uint32_t nffs_append(uint8_t *image, size_t image_length, const nff
                      const uint8_t *base, size_t base_length, const uint8_t *path, size_t path_length,
                      const uint8_t *data, size_t data_length);
 
+/* Writes data over what a file holds from offset on, all of it or nothing; at most NFFS_APPEND_MOST bytes, and within the file's size: it gets
+   no longer. Every other byte stays, and so do its id, handles to it, and how many headers a read follows. Each block that holds a byte of the
+   range is written anew, whole, in file order, where any new record goes. So it needs room for a copy of each such block, 24 bytes and the
+   block's length, however few bytes change; the old versions keep their room until their areas are collected. 0 bytes write nothing.
+   A range in one block is one record. One in several is several records: where only some of them come to the flash, or one is damaged
+   or comes back stale, the file reads partly new and partly old, each block with a right check, and a report need not show it
+   (docs/LINKING.md, "Rewrite in place"). Checks in order: 1 to 7, 8, then 9, 10 or 11 at the first step of the path that fails, 11 for a
+   directory, 13, 14 where offset or end is past the size, 16 where a block of the range is at the greatest sequence, 15. */
+NFFS_ANSWERS uint32_t nffs_overwrite(uint8_t *image, size_t image_length, const nffs_area *areas, size_t areas_count,
+                        const uint8_t *base, size_t base_length, const uint8_t *path, size_t path_length,
+                        uint32_t offset, const uint8_t *data, size_t data_length);
+
 /* Deletes a file, or a directory with what lies below it. Checks in order: 1 to 7, 8, then 9, 10 or 11 at the first step of the path
    that fails, 16, 15. */
 NFFS_ANSWERS uint32_t nffs_unlink(uint8_t *image, size_t image_length, const nffs_area *areas, size_t areas_count,
@@ -255,13 +267,13 @@ static inline const char *nffs_meaning(uint32_t number) {
     case NFFS_TOO_MANY_IDS: return "more than 256 inode ids or 1,024 block ids";
     case NFFS_CONFLICT: return "two records of one id, same sequence, different bytes";
     case NFFS_NO_ROOT: return "no record of the root";
-    case NFFS_BAD_PATH: return "bad path or name, too much to append, or creating or unlinking the root, or renaming to it";
+    case NFFS_BAD_PATH: return "bad path or name, too much to append or overwrite, or creating or unlinking the root, or renaming to it";
     case NFFS_NOT_FOUND: return "no such child, or a handle's id is not live";
     case NFFS_AMBIGUOUS: return "two or more live children of that name";
     case NFFS_WRONG_KIND: return "a file where a directory is needed, or the reverse";
     case NFFS_EXISTS: return "the name is there already";
     case NFFS_BROKEN: return "the file is broken";
-    case NFFS_PAST_END: return "read begins after the end";
+    case NFFS_PAST_END: return "read begins after the end, or overwrite begins or ends after it";
     case NFFS_NO_ROOM: return "a record fits in no clean file area";
     case NFFS_LAST_SEQUENCE: return "the sequence is at its greatest";
     case NFFS_NO_SOURCE: return "no file area is as long as the scratch area";
@@ -344,6 +356,11 @@ NFFS_ANSWERS static inline nffs_create_answer nffs_volume_create(const nffs_volu
 
 NFFS_ANSWERS static inline uint32_t nffs_volume_append(const nffs_volume *v, const char *base, const char *path, const void *data, size_t length) {
     return nffs_append(NFFS_IMAGE_(v), NFFS_TEXT_(base), NFFS_TEXT_(path), nffs_bytes(data, length), length);
+}
+
+NFFS_ANSWERS static inline uint32_t nffs_volume_overwrite(const nffs_volume *v, const char *base, const char *path, uint32_t offset,
+                                                         const void *data, size_t length) {
+    return nffs_overwrite(NFFS_IMAGE_(v), NFFS_TEXT_(base), NFFS_TEXT_(path), offset, nffs_bytes(data, length), length);
 }
 
 NFFS_ANSWERS static inline uint32_t nffs_volume_unlink(const nffs_volume *v, const char *base, const char *path) {

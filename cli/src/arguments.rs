@@ -24,6 +24,8 @@ usage: nffs COMMAND IMAGE [WORDS] [OPTIONS]
                               or with --force of the areas of a file that is there
   put IMAGE PATH [FILE]       store FILE, or standard input, as a new file
   append IMAGE PATH [FILE]    append FILE, or standard input, to a file that is there
+  write IMAGE PATH OFFSET     write FILE, or standard input, over what a file holds from OFFSET
+      [FILE]                  on; it gets no longer
   import IMAGE FOLDER [PATH]  store what lies in FOLDER below PATH, or the root
   mkdir IMAGE PATH            create a directory
   mv IMAGE OLD NEW            give what the path OLD leads to the path NEW, which must be free
@@ -33,7 +35,7 @@ usage: nffs COMMAND IMAGE [WORDS] [OPTIONS]
   --areas AREAS    OFFSET:LENGTH,.. or LENGTHxCOUNT (COUNT areas, one behind the other), or
                    @FILE, which holds such a list; without it, areas are found by their headers
   --at OFFSET      the volume begins there in a longer file; areas are counted from there
-  --collect        of put, append, import, mkdir, mv, rm: collect until it fits
+  --collect        of put, append, write, import, mkdir, mv, rm: collect until it fits
   --replace        of put, import, export: replace a file that is there
   -q, --quiet      no notes and no progress; warnings, hints and failures are still told
   -h, --help, -V, --version; -- ends the options
@@ -175,6 +177,7 @@ impl Arguments {
             let what = match (name, self.words.len()) {
                 ("import" | "export", _) => "no folder",
                 ("mv", 1) => "no new path",
+                ("write", 1) => "no offset",
                 _ => "no path",
             };
             return Err(usage(format!("{name}: {what}")));
@@ -209,11 +212,20 @@ impl Arguments {
         self.word(place).map_or(b"/", OsStr::as_bytes)
     }
 
-    /// The command as a message names it: with its image and the word that follows, of a rename
-    /// both.
+    /// A word that is a position in a file.
+    pub fn position(&self, place: usize) -> Result<u32, Failure> {
+        let word = self.word(place).unwrap_or_default().as_bytes();
+        number(word).and_then(|n| u32::try_from(n).ok()).ok_or_else(|| {
+            let (command, word) = (self.command, shown(word));
+            usage(format!("{command}: '{word}' is no offset, a number from 0 to {}", u32::MAX))
+        })
+    }
+
+    /// The command as a message names it: with its image and the path that follows, and the second
+    /// path or the offset where there is one.
     pub fn what(&self) -> String {
         let mut what = format!("{} {}", self.command, self.image.display());
-        let named = if self.command == "mv" { 2 } else { 1 };
+        let named = if matches!(self.command, "mv" | "write") { 2 } else { 1 };
         for word in self.words.iter().take(named) {
             what = format!("{what} {}", shown(word.as_bytes()));
         }

@@ -152,6 +152,13 @@ pub fn append(arguments: &Arguments) -> Result<(), Failure> {
     change(arguments, |work| work.make(|image, areas| append_all(image, areas, b"", path, &data)))
 }
 
+pub fn write(arguments: &Arguments) -> Result<(), Failure> {
+    let offset = arguments.position(1)?;
+    let data = data(arguments.word(2))?;
+    let path = arguments.path(0);
+    change(arguments, |work| work.overwrite(path, offset, &data))
+}
+
 pub fn mkdir(arguments: &Arguments) -> Result<(), Failure> {
     let path = arguments.path(0);
     change(arguments, |work| {

@@ -26,7 +26,7 @@ use std::process::ExitCode;
 
 /// The commands: how many words follow the image, their own options, what they do.
 #[rustfmt::skip]
-static COMMANDS: [Command; 15] = [
+static COMMANDS: [Command; 16] = [
     Command { name: "check", words: (0, 0), options: &["--json"], run: check::check },
     Command { name: "map", words: (0, 0), options: &["--json", "--stretches"], run: map::map },
     Command { name: "areas", words: (0, 0), options: &[], run: files::areas_seen },
@@ -37,6 +37,7 @@ static COMMANDS: [Command; 15] = [
     Command { name: "format", words: (0, 0), options: &["--force"], run: files::format },
     Command { name: "put", words: (1, 2), options: &["--replace", "--collect"], run: files::put },
     Command { name: "append", words: (1, 2), options: &["--collect"], run: files::append },
+    Command { name: "write", words: (2, 3), options: &["--collect"], run: files::write },
     Command { name: "import", words: (1, 2), options: &["--replace", "--collect"], run: folders::import },
     Command { name: "mkdir", words: (1, 1), options: &["--collect"], run: files::mkdir },
     Command { name: "mv", words: (2, 2), options: &["--collect"], run: files::mv },

@@ -13,9 +13,9 @@ use std::fmt::Write;
 
 const DAMAGE: &str = "\
 Damage: bytes that no record holds, torn or worn. Of what stood there an older version may count,
-  under an earlier name perhaps, or something deleted be back: compare with what you expect. Nothing
-  is written to a damaged area; `nffs collect` clears the area that it collects, which is never one
-  shorter than scratch. `nffs map` shows where it lies.";
+  with earlier bytes or an earlier name perhaps, or something deleted be back: compare with what you
+  expect. Nothing is written to a damaged area; `nffs collect` clears the area that it collects,
+  which is never one shorter than scratch. `nffs map` shows where it lies.";
 const PASSED_OVER: &str = "where the list names an area without a valid header.
   What lies there is not read, and no damage is counted in it: what is live without it may be an
   older version, and what was deleted may be back. If it is a part of the volume, write nothing to

@@ -165,6 +165,20 @@ impl<'a> Work<'a> {
         })
     }
 
+    /// Writes data of any length over what a file holds from an offset on, by as many calls as it
+    /// takes; where one of them is refused the work is to be given up. Where it takes several, the
+    /// range's end is asked for first: a range that is too long is refused as such, and not for want
+    /// of room.
+    pub fn overwrite(&mut self, path: &[u8], offset: u32, data: &[u8]) -> Result<(), Refusal> {
+        let mut write = |at: u32, piece: &[u8]| {
+            self.make(|image, areas| nffs::overwrite(image, areas, b"", path, at, piece))
+        };
+        if data.len() > nffs::APPEND_MOST {
+            write(offset.saturating_add(data.len() as u32), b"")?;
+        }
+        pieces(offset, data).into_iter().try_for_each(|(at, piece)| write(at, piece))
+    }
+
     /// Stores a file, in the place of one that is there. A directory is refused, as open refuses it:
     /// it would go with all that lies below it.
     pub fn store_or_replace(&mut self, path: &[u8], data: &[u8]) -> Result<(), Refusal> {
@@ -192,6 +206,20 @@ impl<'a> Work<'a> {
         }
         stored
     }
+}
+
+/// A range of a file, cut where one call does not take it: where `put` cuts a file, at each so many
+/// bytes from its start. So no block of such a file is in two pieces, and none is written twice.
+fn pieces(offset: u32, data: &[u8]) -> Vec<(u32, &[u8])> {
+    let mut pieces = Vec::new();
+    let (mut at, mut rest) = (offset, data);
+    while rest.len() > nffs::APPEND_MOST {
+        let (piece, later) = rest.split_at(nffs::APPEND_MOST - at as usize % nffs::APPEND_MOST);
+        pieces.push((at, piece));
+        (at, rest) = (at + piece.len() as u32, later);
+    }
+    pieces.push((at, rest));
+    pieces
 }
 
 /// Stores a file beside the one that a path leads to, unlinks that, and gives the new one its name.

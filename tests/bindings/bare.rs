@@ -1,5 +1,5 @@
-//! The crate and the archive without `std` and without a C library, as on bare metal: a volume is made, and a file written, renamed and read
-//! back. What the archive needs from outside is two functions, `memset` and `memcpy`, and they are here. Status 0 where all went well.
+//! The crate and the archive without `std` and without a C library, as on bare metal: a volume is made, and a file written, overwritten, renamed
+//! and read back. What the archive needs from outside is two functions, `memset` and `memcpy`, and they are here. Status 0 where all went well.
 #![no_std]
 #![no_main]
 
@@ -16,11 +16,12 @@ fn stored() -> Result<bool, Refusal> {
     volume.format()?;
     volume.create(b"", b"/dose", Kind::File)?;
     volume.append(b"", b"/dose", b"20 mSv")?;
+    volume.overwrite(b"", b"/dose", 0, b"15")?;
     volume.rename(b"", b"/dose", b"/limit")?;
     let mut file = volume.open(b"", b"/limit")?;
     let mut buffer = [0; 64];
     let given = volume.read(&mut file, &mut buffer)?;
-    Ok(buffer[..given.bytes].iter().eq(b"20 mSv"))
+    Ok(buffer[..given.bytes].iter().eq(b"15 mSv"))
 }
 
 #[no_mangle]

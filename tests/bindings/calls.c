@@ -1,21 +1,8 @@
 /* Every call from C: what is answered, what is written and what is left alone, with slices that are empty too. Ends with the count. */
+#include "cases.h"
 #include "nffs.h"
 
-#include <stdio.h>
 #include <string.h>
-
-static unsigned passed, failed;
-
-static void check(int holds, const char *what) {
-    if (holds) {
-        passed++;
-    } else {
-        failed++;
-        printf("FAILED: %s\n", what);
-    }
-}
-
-#define CHECK(what) check(what, #what)
 
 enum { SIZE = 4096 };
 static uint8_t image[2 * SIZE];
@@ -79,62 +66,78 @@ static void layouts(void) {
     CHECK(root.number == NFFS_OK && root.id == 0 && root.kind == NFFS_DIRECTORY);
 }
 
-/* What a list of areas is: up to its end mark or its end, of any length. Every call is asked, and none changes what it refuses. */
+/* The calls, each asked about the root; of the area reports the first two entries of the list. */
+enum { REPORT, LOOKUP, OPEN, READ, READ_AT, CREATE, APPEND, OVERWRITE, UNLINK, RENAME, COLLECT, FIRST_AREA, SECOND_AREA, FORMAT };
+
 static uint32_t number_of(int call, const nffs_area *list, size_t count) {
     nffs_handle handle = {0, 0};
     uint8_t byte = 0;
     const uint8_t *const path = (const uint8_t *)"/";
     switch (call) {
-    case 0: return nffs_report(image, sizeof image, list, count).number;
-    case 1: return nffs_lookup(image, sizeof image, list, count, path, 0, path, 1).number;
-    case 2: return nffs_open(image, sizeof image, list, count, path, 0, path, 1).number;
-    case 3: return nffs_read(image, sizeof image, list, count, &handle, &byte, 1).number;
-    case 4: return nffs_read_at(image, sizeof image, list, count, 0, 0, &byte, 1).number;
-    case 5: return nffs_create(image, sizeof image, list, count, path, 0, path, 1, NFFS_FILE).number;
-    case 6: return nffs_append(image, sizeof image, list, count, path, 0, path, 1, &byte, 0);
-    case 7: return nffs_unlink(image, sizeof image, list, count, path, 0, path, 1);
-    case 8: return nffs_rename(image, sizeof image, list, count, path, 0, path, 1, (const uint8_t *)"/a", 2);
-    case 9: return nffs_collect(image, sizeof image, list, count);
-    case 10: return nffs_area_report(image, sizeof image, list, count, 0, 0).number;
-    case 11: return nffs_area_report(image, sizeof image, list, count, 1, 0).number;
+    case REPORT: return nffs_report(image, sizeof image, list, count).number;
+    case LOOKUP: return nffs_lookup(image, sizeof image, list, count, path, 0, path, 1).number;
+    case OPEN: return nffs_open(image, sizeof image, list, count, path, 0, path, 1).number;
+    case READ: return nffs_read(image, sizeof image, list, count, &handle, &byte, 1).number;
+    case READ_AT: return nffs_read_at(image, sizeof image, list, count, 0, 0, &byte, 1).number;
+    case CREATE: return nffs_create(image, sizeof image, list, count, path, 0, path, 1, NFFS_FILE).number;
+    case APPEND: return nffs_append(image, sizeof image, list, count, path, 0, path, 1, &byte, 0);
+    case OVERWRITE: return nffs_overwrite(image, sizeof image, list, count, path, 0, path, 1, 0, &byte, 0);
+    case UNLINK: return nffs_unlink(image, sizeof image, list, count, path, 0, path, 1);
+    case RENAME: return nffs_rename(image, sizeof image, list, count, path, 0, path, 1, (const uint8_t *)"/a", 2);
+    case COLLECT: return nffs_collect(image, sizeof image, list, count);
+    case FIRST_AREA: return nffs_area_report(image, sizeof image, list, count, 0, 0).number;
+    case SECOND_AREA: return nffs_area_report(image, sizeof image, list, count, 1, 0).number;
     default: return nffs_format(image, sizeof image, list, count);
     }
 }
 
+enum { MOST = 20 };
+
+/* What each call answers to a list whose end mark is at a place, to the same list up to its mark, and up to before it. */
+static void ended_list(const nffs_area *list, size_t end) {
+    static const uint32_t of_root[] = {
+        [REPORT] = NFFS_OK, [LOOKUP] = NFFS_OK, [OPEN] = NFFS_WRONG_KIND, [READ] = NFFS_WRONG_KIND, [READ_AT] = NFFS_WRONG_KIND,
+        [CREATE] = NFFS_BAD_PATH, [APPEND] = NFFS_WRONG_KIND, [OVERWRITE] = NFFS_WRONG_KIND, [UNLINK] = NFFS_BAD_PATH,
+        [RENAME] = NFFS_INTO_ITSELF,
+    };
+    const uint32_t expected = end == 0 ? NFFS_BAD_AREAS : end == 1 ? NFFS_NO_FILE_OR_SCRATCH : end == 2 ? NFFS_OK : NFFS_BAD_AREAS;
+    for (int call = REPORT; call <= RENAME; call++) {
+        const uint32_t number = expected == NFFS_OK ? of_root[call] : expected;
+        CHECK(number_of(call, list, MOST) == number);
+        CHECK(number_of(call, list, end + 1) == number);
+        CHECK(number_of(call, list, end) == number);
+    }
+    if (expected != NFFS_OK) {
+        CHECK(number_of(COLLECT, list, MOST) == expected && number_of(COLLECT, list, end) == expected);
+        CHECK(number_of(FORMAT, list, MOST) == expected && number_of(FORMAT, list, end) == expected);
+    }
+    /* of the check for 3 an area's report knows nothing; a list of one entry has no second */
+    for (int call = FIRST_AREA; call <= SECOND_AREA; call++) {
+        const uint32_t number = expected == NFFS_NO_FILE_OR_SCRATCH ? (call == FIRST_AREA ? NFFS_OK : NFFS_BAD_AREAS) : expected;
+        CHECK(number_of(call, list, MOST) == number && number_of(call, list, end) == number);
+    }
+}
+
+/* What a list of areas is: up to its end mark or its end, of any length. Every call is asked, and none changes what it refuses. */
 static void area_lists(void) {
-    /* what each call answers about the root of a good volume, and whether it leaves the image as it is */
-    static const uint32_t of_root[] = {NFFS_OK, NFFS_OK, NFFS_WRONG_KIND, NFFS_WRONG_KIND, NFFS_WRONG_KIND, NFFS_BAD_PATH, NFFS_WRONG_KIND, NFFS_BAD_PATH, NFFS_INTO_ITSELF};
-    enum { MOST = 20 };
     nffs_area list[MOST];
     keep();
     for (size_t end = 0; end < MOST; end++) {
+        /* behind the mark stands what would be bad */
         for (size_t i = 0; i < MOST; i++) {
             list[i] = i < 2 ? areas[i] : (nffs_area){9, 9};
         }
-        /* the mark at each place, and behind it what would be bad; then the same list with its end there */
         list[end].length = 0;
-        const uint32_t expected = end == 0 ? NFFS_BAD_AREAS : end == 1 ? NFFS_NO_FILE_OR_SCRATCH : end == 2 ? NFFS_OK : NFFS_BAD_AREAS;
-        for (int call = 0; call < 9; call++) {
-            const uint32_t number = expected == NFFS_OK ? of_root[call] : expected;
-            CHECK(number_of(call, list, MOST) == number);
-            CHECK(number_of(call, list, end + 1) == number);
-            CHECK(number_of(call, list, end) == number);
-        }
-        if (expected != NFFS_OK) {
-            CHECK(number_of(9, list, MOST) == expected && number_of(9, list, end) == expected);
-            CHECK(number_of(12, list, MOST) == expected && number_of(12, list, end) == expected);
-        }
-        /* of the check for 3 an area's report knows nothing; a list of one entry has no second */
-        for (int call = 10; call < 12; call++) {
-            const uint32_t number = expected == NFFS_NO_FILE_OR_SCRATCH ? (call == 10 ? NFFS_OK : NFFS_BAD_AREAS) : expected;
-            CHECK(number_of(call, list, MOST) == number && number_of(call, list, end) == number);
-        }
+        ended_list(list, end);
         CHECK(same());
     }
     CHECK(nffs_report(image, sizeof image - 1, areas, 2).number == NFFS_BAD_AREAS);
+}
 
-    /* good entries: sixteen are taken, seventeen or more are refused, and no call looks at a seventeenth behind the mark */
+/* Good entries: sixteen are taken, seventeen or more are refused, and no call looks at a seventeenth behind the mark. */
+static void most_areas(void) {
     static uint8_t wide[MOST * 128];
+    nffs_area list[MOST];
     for (uint32_t i = 0; i < MOST; i++) {
         list[i] = (nffs_area){i * 128, 128};
     }
@@ -164,6 +167,7 @@ static void empty_slices(void) {
     CHECK(nffs_volume_read_at(&nothing, 0, 0, &byte, 1).number == NFFS_BAD_AREAS);
     CHECK(nffs_volume_create(&nothing, NULL, NULL, NFFS_FILE).number == NFFS_BAD_AREAS);
     CHECK(nffs_volume_append(&nothing, NULL, NULL, NULL, 0) == NFFS_BAD_AREAS);
+    CHECK(nffs_volume_overwrite(&nothing, NULL, NULL, 0, NULL, 0) == NFFS_BAD_AREAS);
     CHECK(nffs_volume_unlink(&nothing, NULL, NULL) == NFFS_BAD_AREAS);
     CHECK(nffs_volume_rename(&nothing, NULL, NULL, NULL) == NFFS_BAD_AREAS);
     CHECK(nffs_volume_collect(&nothing) == NFFS_BAD_AREAS);
@@ -172,6 +176,7 @@ static void empty_slices(void) {
     CHECK(nffs_volume_lookup(&flash, NULL, NULL).number == NFFS_BAD_PATH);
     CHECK(nffs_volume_lookup(&flash, "/", "").number == NFFS_BAD_PATH);
     CHECK(nffs_volume_lookup(&flash, NULL, "a").number == NFFS_BAD_PATH);
+    CHECK(nffs_volume_overwrite(&flash, NULL, NULL, 0, NULL, 0) == NFFS_BAD_PATH);
     CHECK(nffs_volume_rename(&flash, NULL, NULL, "/a") == NFFS_BAD_PATH && nffs_volume_rename(&flash, NULL, "/a", NULL) == NFFS_BAD_PATH);
 }
 
@@ -192,6 +197,7 @@ static void paths(void) {
     CHECK(nffs_volume_create(&flash, NULL, "/", NFFS_FILE).number == NFFS_BAD_PATH);
     CHECK(nffs_volume_unlink(&flash, NULL, "/e") == NFFS_NOT_FOUND);
     CHECK(nffs_volume_append(&flash, NULL, "/d", "x", 1) == NFFS_WRONG_KIND);
+    CHECK(nffs_volume_overwrite(&flash, NULL, "/d", 0, "x", 1) == NFFS_WRONG_KIND);
     CHECK(same());
 
     CHECK(nffs_volume_unlink(&flash, NULL, "/d") == NFFS_OK);
@@ -229,13 +235,9 @@ static void bench(void) {
     image[SIZE + 103] ^= 1;
 }
 
-/* The same area by itself: its damage, its two stretches, and what else it may be. */
-static void area_reports(void) {
-    image[SIZE + 50] ^= 1;
-    image[SIZE + 103] ^= 1;
-    static const uint32_t second[] = {NFFS_OK, NFFS_AREA_FILE, 0, 0, 2, 2, 50, SIZE - 128, 99, 29};
-    uint32_t answer[10];
-    memcpy(answer, second, sizeof answer);
+/* What the area's report answers of its second stretch, of the first, and of none, while the records of "a" and of its second block are damaged. */
+static void area_stretches(void) {
+    uint32_t answer[] = {NFFS_OK, NFFS_AREA_FILE, 0, 0, 2, 2, 50, SIZE - 128, 99, 29};
     const nffs_area_answer last = nffs_volume_area_report(&flash, 1, 1);
     CHECK(is_area(&last, answer));
     answer[8] = 44;
@@ -259,7 +261,13 @@ static void area_reports(void) {
     const nffs_area_answer passed_over = nffs_volume_area_report(&flash, 1, UINT32_MAX);
     CHECK(is_area(&passed_over, answer));
     image[SIZE] ^= 1;
+}
 
+/* The same area by itself: its damage, its two stretches, and what else there may be. */
+static void area_reports(void) {
+    image[SIZE + 50] ^= 1;
+    image[SIZE + 103] ^= 1;
+    area_stretches();
     /* what lies in scratch is no damage */
     image[50] = 0;
     const nffs_area_answer scratch = nffs_volume_area_report(&flash, 0, 0);
@@ -304,12 +312,29 @@ static void reads(void) {
     CHECK(read.number == NFFS_OK && read.given == 2 && read.headers == 2 && buffer[1] == 0x41 && buffer[2] == 0xa5);
 }
 
-/* The file area and scratch change places, and the image holds the file still. */
+/* Bytes 8 to 11 of the 15: both blocks are written anew behind the two, and nothing else changes. */
+static void overwrite(void) {
+    uint8_t buffer[20];
+    keep();
+    CHECK(nffs_volume_overwrite(&flash, "/", "a", 8, "\x42\x42\x42\x42", 4) == NFFS_OK);
+    CHECK(memcmp(image, kept, SIZE + 128) == 0 && image[SIZE + 190] == 0x41 && all(image + SIZE + 191, SIZE - 191, 0xff));
+    const nffs_read_answer read = nffs_volume_read_at(&flash, 0x10000000, 0, buffer, sizeof buffer);
+    CHECK(read.number == NFFS_OK && read.given == 15 && read.headers == 2);
+    CHECK(all(buffer, 8, 0x41) && all(buffer + 8, 4, 0x42) && all(buffer + 12, 3, 0x41));
+    keep();
+    CHECK(nffs_volume_overwrite(&flash, NULL, "/a", 15, NULL, 0) == NFFS_OK);
+    CHECK(nffs_volume_overwrite(&flash, NULL, "/a", 16, NULL, 0) == NFFS_PAST_END);
+    CHECK(nffs_volume_overwrite(&flash, NULL, "/a", 14, buffer, 2) == NFFS_PAST_END);
+    CHECK(same());
+}
+
+/* The file area and scratch change places, and the image holds the file still: root, file and two blocks. */
 static void collection(void) {
     uint8_t buffer[20];
     CHECK(nffs_volume_collect(&flash) == NFFS_OK);
-    CHECK(all(image + SIZE + 24, SIZE - 24, 0xff));
-    CHECK(nffs_volume_read_at(&flash, 0x10000000, 0, buffer, sizeof buffer).given == 15 && all(buffer, 15, 0x41));
+    CHECK(all(image + SIZE + 24, SIZE - 24, 0xff) && nffs_volume_area_report(&flash, 0, 0).records == 4);
+    CHECK(nffs_volume_read_at(&flash, 0x10000000, 0, buffer, sizeof buffer).given == 15);
+    CHECK(all(buffer, 8, 0x41) && all(buffer + 8, 4, 0x42) && all(buffer + 12, 3, 0x41));
     CHECK(nffs_volume_report(&flash).live == 2);
 }
 
@@ -324,13 +349,14 @@ int main(void) {
     CHECK(nffs_volume_format(&flash) == NFFS_OK);
     layouts();
     area_lists();
+    most_areas();
     empty_slices();
     paths();
     bench();
     area_reports();
     reads();
+    overwrite();
     collection();
     meanings();
-    printf("%u passed, %u failed\n", passed, failed);
-    return failed != 0;
+    return counted();
 }

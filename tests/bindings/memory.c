@@ -40,6 +40,21 @@ static void *copied(const void *bytes, size_t size, int at_end) {
     return memcpy(guarded(size, at_end), bytes, size);
 }
 
+/* Bytes from either end of the data are written over the second block, and it is restored; whether it reads so. */
+static int overwritten(uint8_t *image, const nffs_area *areas, const uint8_t *path, const uint8_t *data, uint8_t *buffer, uint32_t id) {
+    enum { PART = 500, AT = DATA - PART - 100 };
+    static const uint8_t none[1];
+    int good = 1;
+    for (int end = 0; end < 2; end++) {
+        const uint8_t *const part = end ? data + DATA - PART : data;
+        good &= nffs_overwrite(image, IMAGE, areas, AREAS, none, 0, path, 2, AT, part, PART) == NFFS_OK;
+        good &= nffs_read_at(image, IMAGE, areas, AREAS, id, 0, buffer, DATA).given == DATA && memcmp(buffer + AT, part, PART) == 0;
+        good &= memcmp(buffer, data, AT) == 0 && memcmp(buffer + AT + PART, data + AT + PART, DATA - AT - PART) == 0;
+        good &= nffs_overwrite(image, IMAGE, areas, AREAS, none, 0, path, 2, AT, data + AT, PART) == NFFS_OK;
+    }
+    return good;
+}
+
 /* Each call once over these slices; whether all is as it should be. The file is renamed to the second path. */
 static int all_calls(uint8_t *image, const nffs_area *areas, const uint8_t *path, const uint8_t *second, const uint8_t *data, uint8_t *buffer,
                      nffs_handle *handle) {
@@ -56,6 +71,7 @@ static int all_calls(uint8_t *image, const nffs_area *areas, const uint8_t *path
     const nffs_open_answer opened = nffs_open(image, IMAGE, areas, AREAS, none, 0, path, 2);
     handle->id = opened.id;
     handle->position = opened.position;
+    good &= overwritten(image, areas, path, data, buffer, opened.id);
     const nffs_read_answer read = nffs_read(image, IMAGE, areas, AREAS, handle, buffer, DATA);
     good &= read.number == NFFS_OK && read.given == DATA && memcmp(buffer, data, DATA) == 0 && handle->position == DATA;
     good &= nffs_read_at(image, IMAGE, areas, AREAS, opened.id, 1, buffer, DATA).given == DATA - 1;
@@ -123,6 +139,7 @@ static void long_lengths(void) {
     check("a path of 2^32 bytes more", nffs_lookup(image, IMAGE, areas, AREAS, none, 0, far, ((size_t)1 << 32) + 1).number == NFFS_BAD_PATH);
     const uint32_t id = nffs_create(image, IMAGE, areas, AREAS, none, 0, path, 2, NFFS_FILE).id;
     check("data of 2^32 bytes", nffs_append(image, IMAGE, areas, AREAS, none, 0, path, 2, far, (size_t)1 << 32) == NFFS_BAD_PATH);
+    check("data of 2^32 bytes to overwrite", nffs_overwrite(image, IMAGE, areas, AREAS, none, 0, path, 2, 0, far, (size_t)1 << 32) == NFFS_BAD_PATH);
     check("a new path of 2^32 bytes more", nffs_rename(image, IMAGE, areas, AREAS, none, 0, path, 2, far, ((size_t)1 << 32) + 1) == NFFS_BAD_PATH);
     check("an old path of 2^32 bytes more", nffs_rename(image, IMAGE, areas, AREAS, none, 0, far, ((size_t)1 << 32) + 1, path, 2) == NFFS_BAD_PATH);
     check("an append", nffs_append(image, IMAGE, areas, AREAS, none, 0, path, 2, data, DATA) == NFFS_OK);

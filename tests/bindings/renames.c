@@ -1,24 +1,9 @@
 /* nffs_rename from C: what it refuses, in which order, what it writes and what it keeps; and what docs/LINKING.md, 12, says of records that are
    damaged, come back stale, or are read again after a while. Ends with the count. */
+#include "cases.h"
 #include "nffs.h"
 
-#include <stdio.h>
 #include <string.h>
-
-static unsigned passed, failed;
-
-static void check(int holds, const char *what, int line) {
-    if (holds) {
-        passed++;
-    } else {
-        failed++;
-        printf("FAILED: line %d: %s\n", line, what);
-    }
-}
-
-#define CHECK(what) check(what, #what, __LINE__)
-/* what a case stands on; counted only where it does not hold */
-#define NEED(what) ((what) ? (void)0 : check(0, #what, __LINE__))
 
 enum { SIZE = 4096, IMAGE = 2 * SIZE, WIDE = 65536, FILE_ID = 0x10000000, HEADER = 20 };
 static uint8_t image[WIDE];
@@ -635,6 +620,5 @@ int main(void) {
     unlink_and_create_read_again();
     area_read_again();
     too_deep();
-    printf("%u passed, %u failed\n", passed, failed);
-    return failed != 0;
+    return counted();
 }

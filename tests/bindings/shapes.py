@@ -119,6 +119,33 @@ sizes = {c: 4 * len(fields(answers, RUST_STRUCT, name)) for name, (c, _) in STRU
 check("the sizes of structs, docs/LINKING.md", sizes, {c: int(n) for n, c in re.findall(r"^\| [^|]+ \| (\d+) \| `(nffs_\w+)` \|", linking, re.M)})
 
 
+def joined(words):
+    """Words as the document names them: a slice that is not parted by its own name."""
+    return re.sub(r"([\w ]+) pointer, \1 length", r"\1", ", ".join(words))
+
+
+def passed_as(args, answer):
+    """A row of the table of registers, by the System V convention: six words in registers, the others on the stack."""
+    words = []
+    for parameter in args.split(","):
+        name = parameter.split()[-1].lstrip("*")
+        if name.endswith(("_length", "_count")):
+            words[-1:] = [f"{words[-1]} pointer", f"{words[-1]} length"]
+        else:
+            words.append(name.replace("_", " "))
+    fifth, sixth = (words[4:6] + ["", ""])[:2]
+    returned = {"uint32_t": "`eax`", "nffs_create_answer": "`rax`"}.get(answer, "`rax`, `edx`")
+    return [joined(words[:2]), joined(words[2:4]), fifth, sixth, joined(words[6:]), returned]
+
+
+# an answer of more than 16 bytes is written to memory, and the document says in words what that moves
+rows = re.findall(r"^\| ((?:`nffs_\w+`(?:, )?)+) \| (\w+) \| (\w+) \| ([\w ]*?) ?\| ([\w ]*?) ?\| ([\w, ]*?) ?\| (`[^|]+`) \|$", linking, re.M)
+registers = {name: list(row[1:]) for row in rows for name in re.findall(r"nffs_\w+", row[0])}
+computed = {name: passed_as(args, answer) for answer, name, args in re.findall(r"^(\w+) (nffs_\w+)\(([^)]*)\);", bare, re.M) if "report" not in name}
+for name in sorted(computed):
+    check(f"how the arguments of {name} pass, docs/LINKING.md", computed[name], registers.get(name))
+
+
 def limit(name, text):
     """The number that a constant is given."""
     return re.findall(rf"\b{name}(?:: usize)? = (\d+)\b", text)

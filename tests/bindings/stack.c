@@ -12,6 +12,7 @@
 #define nffs_read_at entered_nffs_read_at
 #define nffs_create entered_nffs_create
 #define nffs_append entered_nffs_append
+#define nffs_overwrite entered_nffs_overwrite
 #define nffs_unlink entered_nffs_unlink
 #define nffs_rename entered_nffs_rename
 #define nffs_collect entered_nffs_collect
@@ -27,6 +28,7 @@ STUB("nffs_read");
 STUB("nffs_read_at");
 STUB("nffs_create");
 STUB("nffs_append");
+STUB("nffs_overwrite");
 STUB("nffs_unlink");
 STUB("nffs_rename");
 STUB("nffs_collect");
@@ -63,6 +65,7 @@ static void read(void) { number = nffs_volume_read(&flash, &handle, data, sizeof
 static void read_at(void) { number = nffs_volume_read_at(&flash, handle.id, 0, data, sizeof data).number; }
 static void create(void) { number = nffs_volume_create(&flash, HOME, "f", NFFS_FILE).number; }
 static void append(void) { number = nffs_volume_append(&flash, HOME, "f", data, sizeof data); }
+static void overwrite(void) { number = nffs_volume_overwrite(&flash, HOME, "f", 0, data, sizeof data); }
 static void unlink_(void) { number = nffs_volume_unlink(&flash, HOME, RENAMED); }
 static void rename_(void) { number = nffs_volume_rename(&flash, HOME, "f", RENAMED); }
 static void collect(void) { number = nffs_volume_collect(&flash); }
@@ -97,7 +100,7 @@ int main(void) {
     } calls[] = {
         {"nffs_format", format},   {"nffs_create", create}, {"nffs_append", append},
         {"nffs_lookup", lookup},   {"nffs_open", open},     {"nffs_read", read},
-        {"nffs_read_at", read_at}, {"nffs_area_report", area_report},
+        {"nffs_read_at", read_at}, {"nffs_area_report", area_report}, {"nffs_overwrite", overwrite},
         {"nffs_rename", rename_},  {"nffs_unlink", unlink_}, {"nffs_collect", collect},
         {"nffs_report", report},
     };

@@ -4,20 +4,7 @@
 #include "../../examples/swap_table.c"
 #undef main
 
-static unsigned passed, failed;
-
-static void check(bool holds, const char *what, int line) {
-    if (holds) {
-        passed++;
-    } else {
-        failed++;
-        printf("FAILED: line %d: %s\n", line, what);
-    }
-}
-
-#define CHECK(what) check(what, #what, __LINE__)
-/* what a case stands on; counted only where it does not hold */
-#define NEED(what) ((what) ? (void)0 : check(false, #what, __LINE__))
+#include "cases.h"
 
 enum { MOST = 4, LENGTH = 2048, SIZE = MOST * LENGTH, PAGE = 512 };
 static uint8_t bytes[SIZE], before[SIZE], later[SIZE];
@@ -281,6 +268,5 @@ int main(void) {
     }
     room_in_two();
     updated();
-    printf("%u passed, %u failed\n", passed, failed);
-    return failed != 0;
+    return counted();
 }

@@ -208,7 +208,7 @@ pub struct Given {
 /// ```
 pub const MOST_AREAS: usize = 16;
 
-/// The most bytes that one [`append`] takes.
+/// The most bytes that one [`append`] or [`overwrite`] takes.
 pub const APPEND_MOST: usize = 8192;
 
 /// Erases the areas and makes an empty volume of them. The longest area, first among equals, is
@@ -467,27 +467,47 @@ pub fn append(
     Refusal::check(raw::append(image, areas, base, path, data))
 }
 
-/// Writes data over what a file has from an offset on, all of it or nothing; at most
-/// [`APPEND_MOST`] bytes. The file does not grow: an offset or an end past its size is 14, of no
-/// bytes too. Each block that holds a byte of the range is written anew, whole.
+/// Writes data over what a file holds from `offset` on, all of it or nothing; at most
+/// [`APPEND_MOST`] bytes, and within the file's size: it gets no longer. Every other byte stays, and
+/// so do its id, handles to it, and how many headers a read follows.
+///
+/// Each block that holds a byte of the range is written anew, whole, in file order, where any new
+/// record goes. So it needs room for a copy of each such block, 24 bytes and the block's length,
+/// however few bytes change; the old versions keep their room until their areas are collected. 0
+/// bytes write nothing.
+///
+/// A range in one block is one record. One in several is several records: where only some of them
+/// come to the flash, or one is damaged or comes back stale, the file reads partly new and partly
+/// old, each block with a right check, and a report need not show it (`docs/LINKING.md`, "Rewrite in
+/// place").
 ///
 /// Checks in order: 1 to 7, 8, then 9, 10 or 11 at the first step of the path that fails, 11 for a
-/// directory, 13, 14, 16 of the blocks that are written anew, 15.
+/// directory, 13, 14 where offset or end is past the size, 16 where a block of the range is at the
+/// greatest sequence, 15.
 ///
 /// ```
 /// # use nffs::{Area, Kind, Refusal};
 /// # let mut flash = [0; 2 * 4096];
 /// # let areas = Area::row::<2>(4096);
 /// # nffs::format(&mut flash, &areas)?;
+/// // a header of its own block, and an entry behind it
 /// let id = nffs::create(&mut flash, &areas, b"", b"/log", Kind::File)?;
-/// nffs::append(&mut flash, &areas, b"", b"/log", b"lines 00: start")?;
-/// nffs::overwrite(&mut flash, &areas, b"", b"/log", 6, b"01")?;
-/// let mut log = [0; 15];
-/// nffs::read_at(&flash, &areas, id, 0, &mut log)?;
-/// assert_eq!(&log, b"lines 01: start");
+/// nffs::append(&mut flash, &areas, b"", b"/log", b"0 entries\n")?;
+/// nffs::append(&mut flash, &areas, b"", b"/log", b"pump started\n")?;
+/// let free = nffs::area_report(&flash, &areas, 1, 0)?.free;
+/// nffs::overwrite(&mut flash, &areas, b"", b"/log", 0, b"1")?;
+/// assert_eq!(nffs::area_report(&flash, &areas, 1, 0)?.free, free - 24 - 10);
 ///
-/// let past = nffs::overwrite(&mut flash, &areas, b"", b"/log", 14, b"02");
-/// assert_eq!(past, Err(Refusal::PAST_END));
+/// let mut log = [0; 23];
+/// nffs::read_at(&flash, &areas, id, 0, &mut log)?;
+/// assert_eq!(&log, b"1 entries\npump started\n");
+///
+/// // within the size, and no further
+/// let before = flash;
+/// assert_eq!(nffs::overwrite(&mut flash, &areas, b"", b"/log", 23, b""), Ok(()));
+/// assert_eq!(nffs::overwrite(&mut flash, &areas, b"", b"/log", 24, b""), Err(Refusal::PAST_END));
+/// let longer = nffs::overwrite(&mut flash, &areas, b"", b"/log", 22, b"..");
+/// assert_eq!((longer, flash), (Err(Refusal::PAST_END), before));
 /// # Ok::<(), Refusal>(())
 /// ```
 pub fn overwrite(

@@ -48,13 +48,13 @@ refusals! {
     TOO_MANY_IDS 5 "more than 256 inode ids or 1,024 block ids";
     CONFLICT 6 "two records of one id, same sequence, different bytes";
     NO_ROOT 7 "no record of the root";
-    BAD_PATH 8 "bad path or name, too much to append, or creating or unlinking the root, or renaming to it";
+    BAD_PATH 8 "bad path or name, too much to append or overwrite, or creating or unlinking the root, or renaming to it";
     NOT_FOUND 9 "no such child, or a handle's id is not live";
     AMBIGUOUS 10 "two or more live children of that name";
     WRONG_KIND 11 "a file where a directory is needed, or the reverse";
     EXISTS 12 "the name is there already";
     BROKEN 13 "the file is broken";
-    PAST_END 14 "read begins after the end";
+    PAST_END 14 "read begins after the end, or overwrite begins or ends after it";
     NO_ROOM 15 "a record fits in no clean file area";
     LAST_SEQUENCE 16 "the sequence is at its greatest";
     NO_SOURCE 17 "no file area is as long as the scratch area";

@@ -14,16 +14,17 @@ use crate::{Area, AreaReport, Found, Given, Handle, Kind, Refusal, Report, Stret
 /// volume.format()?;
 /// volume.create(b"", b"/dose", Kind::File)?;
 /// volume.append(b"", b"/dose", b"20 mSv")?;
+/// volume.overwrite(b"", b"/dose", 0, b"15")?;
 /// volume.rename(b"/", b"dose", b"limit")?;
 ///
 /// let volume = Volume::new(&flash[..], &areas);
 /// let mut file = volume.open(b"", b"/limit")?;
 /// let mut buffer = [0; 64];
 /// let given = volume.read(&mut file, &mut buffer)?;
-/// assert_eq!(&buffer[..given.bytes], b"20 mSv");
+/// assert_eq!(&buffer[..given.bytes], b"15 mSv");
 ///
-/// // root, file, block and the file's new name, and no damage
-/// assert_eq!(volume.area_report(1, 0)?.records, 4);
+/// // root, file, block, the block's new version and the file's new name, and no damage
+/// assert_eq!(volume.area_report(1, 0)?.records, 5);
 /// assert_eq!(volume.stretches(1)?.len(), 0);
 /// # Ok::<(), nffs::Refusal>(())
 /// ```
@@ -99,6 +100,17 @@ impl<Image: AsMut<[u8]>> Volume<'_, Image> {
     /// See [`crate::append`].
     pub fn append(&mut self, base: &[u8], path: &[u8], data: &[u8]) -> Result<(), Refusal> {
         crate::append(self.image.as_mut(), self.areas, base, path, data)
+    }
+
+    /// See [`crate::overwrite`].
+    pub fn overwrite(
+        &mut self,
+        base: &[u8],
+        path: &[u8],
+        offset: u32,
+        data: &[u8],
+    ) -> Result<(), Refusal> {
+        crate::overwrite(self.image.as_mut(), self.areas, base, path, offset, data)
     }
 
     /// See [`crate::unlink`].

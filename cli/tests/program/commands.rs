@@ -221,40 +221,43 @@ fn ids_are_collected_level_by_level() {
     assert!(said.contains("refused with 5, ") && said.contains("also after"), "{said}");
 }
 
+/// Words of no command that can be run, and what is said of them.
+const NO_COMMANDS: [(&[&str], &str); 29] = [
+    (&[], "no command"),
+    (&["ls", "image"], "no command ls"),
+    (&["report"], "report: no image"),
+    (&["format", "other"], "format: no --areas"),
+    (&["report", "image", "--areas"], "--areas: no value"),
+    (&["report", "image", "--areas", "4096x2", "--areas", "4096x2"], "--areas is given twice"),
+    (&["report", "image", "--at=0", "--at", "0"], "--at is given twice"),
+    (&["report", "image", "--at", "1k"], "--at: '1k' is no number"),
+    (&["report", "image", "--at", "0x"], "--at: '0x' is no number"),
+    (&["cat", "image"], "cat: no path"),
+    (&["import", "image"], "import: no folder"),
+    (&["cat", "image", "/a", "/b"], "cat: too many words"),
+    (&["cat", "image", "/a", "--force"], "cat takes no --force"),
+    (&["rm", "image", "/a", "--replace"], "rm takes no --replace"),
+    (&["collect", "image", "--collect"], "collect takes no --collect"),
+    (&["report", "image", "--json"], "report takes no --json"),
+    (&["report", "image", "--stretches"], "report takes no --stretches"),
+    (&["map", "image", "--collect"], "map takes no --collect"),
+    (&["map", "image", "--stretches=1"], "--stretches takes no value"),
+    (&["map"], "map: no image"),
+    (&["report", "image", "--all"], "no option --all"),
+    (&["report", "image", "-x"], "no option -x"),
+    (&["check", "image", "--json=1"], "--json takes no value"),
+    (&["report", "missing"], "cannot read missing: "),
+    (&["report", "--", "--areas"], "cannot read --areas: "),
+    (&["rm", "missing", "/a"], "cannot read missing: "),
+    (&["put", "image", "/a", "missing"], "cannot read missing: "),
+    (&["format", "no/image", "--areas", "4096x2"], "cannot make a file in no: "),
+    (&["format", "image", "--areas", "4096x2"], "image is there: --force formats its areas"),
+];
+
 #[test]
 fn words_that_make_no_command() {
     let folder = Folder::formatted("usage");
-    for (words, said) in [
-        (&[][..], "no command"),
-        (&["ls", "image"], "no command ls"),
-        (&["report"], "report: no image"),
-        (&["format", "other"], "format: no --areas"),
-        (&["report", "image", "--areas"], "--areas: no value"),
-        (&["report", "image", "--areas", "4096x2", "--areas", "4096x2"], "--areas is given twice"),
-        (&["report", "image", "--at=0", "--at", "0"], "--at is given twice"),
-        (&["report", "image", "--at", "1k"], "--at: '1k' is no number"),
-        (&["report", "image", "--at", "0x"], "--at: '0x' is no number"),
-        (&["cat", "image"], "cat: no path"),
-        (&["import", "image"], "import: no folder"),
-        (&["cat", "image", "/a", "/b"], "cat: too many words"),
-        (&["cat", "image", "/a", "--force"], "cat takes no --force"),
-        (&["rm", "image", "/a", "--replace"], "rm takes no --replace"),
-        (&["collect", "image", "--collect"], "collect takes no --collect"),
-        (&["report", "image", "--json"], "report takes no --json"),
-        (&["report", "image", "--stretches"], "report takes no --stretches"),
-        (&["map", "image", "--collect"], "map takes no --collect"),
-        (&["map", "image", "--stretches=1"], "--stretches takes no value"),
-        (&["map"], "map: no image"),
-        (&["report", "image", "--all"], "no option --all"),
-        (&["report", "image", "-x"], "no option -x"),
-        (&["check", "image", "--json=1"], "--json takes no value"),
-        (&["report", "missing"], "cannot read missing: "),
-        (&["report", "--", "--areas"], "cannot read --areas: "),
-        (&["rm", "missing", "/a"], "cannot read missing: "),
-        (&["put", "image", "/a", "missing"], "cannot read missing: "),
-        (&["format", "no/image", "--areas", "4096x2"], "cannot make a file in no: "),
-        (&["format", "image", "--areas", "4096x2"], "image is there: --force formats its areas"),
-    ] {
+    for (words, said) in NO_COMMANDS {
         let heard = folder.bad(words, b"", 2);
         assert!(heard.contains(said), "{words:?}: {heard}");
     }

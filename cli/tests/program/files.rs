@@ -90,6 +90,7 @@ fn a_read_only_image_is_not_replaced() {
     folder.good(&["report", "image"], b"");
     for words in [
         &["put", "image", "/dose"][..],
+        &["write", "image", "/dose", "0"],
         &["mv", "image", "/dose", "/limit"],
         &["collect", "image"],
         &["import", "image", "."],

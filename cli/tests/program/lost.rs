@@ -110,6 +110,7 @@ fn nothing_is_changed_where_records_are_in_no_area_that_was_found() {
     for words in [
         &["put", "image", "/new"][..],
         &["append", "image", "/dose"],
+        &["write", "image", "/dose", "0"],
         &["import", "image", "folder"],
         &["mkdir", "image", "/new"],
         &["mv", "image", "/dose", "/new"],

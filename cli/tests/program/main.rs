@@ -15,3 +15,4 @@ mod records;
 mod refusals;
 mod replaced;
 mod reserved;
+mod writes;

@@ -63,7 +63,7 @@ fn a_directory_goes_with_what_lies_below_it() {
 
 /// All that a refusal says: the first line, and below it what docs/LINKING.md says of its number and
 /// what the program offers.
-fn told(first: &str, number: u32, offered: &str) -> String {
+pub fn told(first: &str, number: u32, offered: &str) -> String {
     let row = format!("\n| {number} | ");
     let document = include_str!("../../../docs/LINKING.md");
     // the first such row is that of the numbers
@@ -77,8 +77,8 @@ const NOT_FOUND: &str = "refused with 9, no such child, or a handle's id is not 
 const WRONG_KIND: &str = "refused with 11, a file where a directory is needed, or the reverse";
 const EXISTS: &str = "refused with 12, the name is there already";
 const INTO_ITSELF: &str = "refused with 18, renaming the root, or moving a directory below itself";
-const BAD_PATH: &str = "refused with 8, bad path or name, too much to append, or creating or \
-                        unlinking the root, or renaming to it";
+const BAD_PATH: &str = "refused with 8, bad path or name, too much to append or overwrite, or \
+                        creating or unlinking the root, or renaming to it";
 
 #[test]
 fn each_refusal_names_the_path_that_it_is_about() {
@@ -219,7 +219,9 @@ fn where_the_new_name_is_damaged_the_old_one_is_back() {
     assert!(page.contains("\ndamage: 1 stretch, 23 bytes, first "), "{page}");
     assert!(page.contains("\n         12  /log\n  directory  /tables\n"), "{page}");
     assert!(
-        page.contains("an older version may count,\n  under an earlier name perhaps"),
+        page.contains(
+            "an older version may count,\n  with earlier bytes or an earlier name perhaps"
+        ),
         "{page}"
     );
     folder.good(&["mv", "image", "/log", "/tables/log", "--collect"], b"");

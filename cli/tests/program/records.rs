@@ -30,7 +30,12 @@ pub fn inode_with(reserved: u8, id: u32, sequence: u32, parent: u32, name: &[u8]
 
 /// A block that is the only one of its file.
 pub fn block(id: u32, owner: u32, data: &[u8]) -> Vec<u8> {
-    let fields = [0x53ba_23b9, id, 0, owner, NONE];
+    block_with(0, id, owner, data)
+}
+
+/// The same with this sequence.
+pub fn block_with(sequence: u32, id: u32, owner: u32, data: &[u8]) -> Vec<u8> {
+    let fields = [0x53ba_23b9, id, sequence, owner, NONE];
     let mut front: Vec<u8> = fields.iter().flat_map(|field: &u32| field.to_le_bytes()).collect();
     front.extend((data.len() as u16).to_le_bytes());
     let check = check(&[&front, data].concat());

@@ -15,7 +15,7 @@ fn with_area(reserved: u8, records: &[Vec<u8>]) -> Vec<u8> {
     let mut area = [header(1, 4096), records.concat()].concat();
     area[22] = reserved;
     area.resize(4096, 0xff);
-    [image(&[inode(FILE, 0, 0, b"dose")]), area].concat()
+    [image(&[inode(FILE, 0, 0, b"dose"), block(0x8000_0000, FILE, b"dose")]), area].concat()
 }
 
 /// An image whose root has this reserved byte, and a right check; these records follow it.
@@ -91,10 +91,11 @@ fn every_command_that_reads_hints_at_an_area_that_is_passed_over() {
 }
 
 /// Each command that changes an image, on what `with_area` holds.
-const CHANGES: [&[&str]; 8] = [
+const CHANGES: [&[&str]; 9] = [
     &["put", "image", "/new"],
     &["put", "image", "/dose", "--replace", "--collect"],
     &["append", "image", "/dose"],
+    &["write", "image", "/dose", "0"],
     &["import", "image", "folder"],
     &["mkdir", "image", "/new"],
     &["mv", "image", "/dose", "/new"],
@@ -174,7 +175,7 @@ areas: 4096x2, found
 inodes: 2, of which 2 live, 0 deleted, 0 orphans
 damage: 0 stretches, 0 bytes
   directory  /
-          0  /dose
+          4  /dose
 ";
     let hint = format!("H{}", area_hint("file area 1", 8192, 1).trim_end()) + ADVICE;
     let found = page(&folder, &[], 3);
@@ -209,7 +210,11 @@ fn a_volume_without_its_only_file_area_or_scratch() {
         let kind = if id == 255 { "scratch" } else { "file" };
         assert_eq!(fields(&folder, &[], 1), format!("[({at}, 4096, '{kind}', {id}, 255)] []"));
     }
-    // both
+}
+
+#[test]
+fn a_volume_without_both() {
+    let folder = Folder::new("reserved_both");
     let mut bytes = image(&[]);
     (bytes[22], bytes[4096 + 22]) = (1, 2);
     folder.write("image", &bytes);
@@ -313,17 +318,20 @@ fn a_record_that_no_version_read() {
     }
 }
 
+/// No hint is given at an image whose check ends with this status.
+fn no_hint(folder: &Folder, bytes: Vec<u8>, status: i32) {
+    folder.write("image", bytes);
+    let page = page(folder, &[], status);
+    assert!(hints(&page) == 0, "{page}");
+    assert_eq!(fields(folder, &[], status), "[] []");
+    let refused = i32::from(status == 1);
+    assert_eq!(hints(&said(folder, &["report", "image"], refused)), 0);
+}
+
 #[test]
 fn no_hint_where_there_is_nothing() {
     let folder = Folder::new("reserved_not");
-    let clean = |bytes: Vec<u8>, status: i32| {
-        folder.write("image", bytes);
-        let page = page(&folder, &[], status);
-        assert!(hints(&page) == 0, "{page}");
-        assert_eq!(fields(&folder, &[], status), "[] []");
-        let refused = i32::from(status == 1);
-        assert_eq!(hints(&said(&folder, &["report", "image"], refused)), 0);
-    };
+    let clean = |bytes: Vec<u8>, status: i32| no_hint(&folder, bytes, status);
     clean(image(&[]), 0);
     clean(with_area(0, &[inode(FILE + 1, 0, 0, b"other")]), 0);
     // records that were torn behind their magic, or whose reserved byte was damaged
