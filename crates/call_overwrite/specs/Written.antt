@@ -77,16 +77,16 @@ module _ (image : Bytes) (ds : List Descriptor) (bs ns : List ℕ) (from to : �
   abbrev needed : List ℕ
   needed = sizesHeld from to 0 ns
 
-  text-long : length (textOf byBytes (map (bytesAt image) bs)) ≡ total ns
-  text-long =
+  whole-long : length (textOf byBytes (map (bytesAt image) bs)) ≡ total ns
+  whole-long =
       ap length (textOf-map (byPlace image) byBytes (bytesAt image) (place-views image) bs) ∙ text-total image bs ∙ ap total (sym (listed .sizes))
 
   sizes-are : map length (versionsOf image bs from text) ≡ map (λ n. block .headerSize + n) needed
   unfolding changes
   sizes-are =
       let after = textAfter (map (bytesAt image) bs) from text in
-      let long : length after ≡ total ns = length-put (textOf byBytes (map (bytesAt image) bs)) from text (omega (arith, text-long)) ∙ text-long in
-      rw (range, ← data-sizes) (versions-sizes from (from + length text) after 0 (map (bytesAt image) bs) (omega (arith, text-long)))
+      let long : length after ≡ total ns = length-put (textOf byBytes (map (bytesAt image) bs)) from text (omega (arith, whole-long)) ∙ whole-long in
+      rw (range, ← data-sizes) (versions-sizes from (from + length text) after 0 (map (bytesAt image) bs) (omega (arith, whole-long)))
     where
       data-sizes : map (λ b. length (byBytes .text b)) (map (bytesAt image) bs) ≡ ns
       data-sizes = go bs ∙ sym (listed .sizes)
@@ -128,9 +128,9 @@ module _ (image : Bytes) (ds : List Descriptor) (bs ns : List ℕ) (from to : �
   }
 
 -- what `list_file` holds are sizes of blocks of an image
-pub sizes-held : {image : Bytes} {m : Mounted} {t : List ℕ} → Safe image m t → (n size : ℕ) (bs ns : List ℕ) → Rows image n size bs ns
+pub rows-sizes : {image : Bytes} {m : Mounted} {t : List ℕ} → Safe image m t → (n size : ℕ) (bs ns : List ℕ) → Rows image n size bs ns
     → Sizes (take n ns) × (size ≡ total (take n ns))
-sizes-held {image} safe n size bs ns r =
+rows-sizes {image} safe n size bs ns r =
     let l = r .listed in
     let e : size ≡ total (take n ns) = r .sized ∙ text-total image (take n bs) ∙ ap total (sym (l .sizes)) in (
       record {

@@ -6,6 +6,7 @@ ghost use mathlib.Core.List.{List};
 ghost use Prim.Native.Nat.{_+_, _≤_};
 ghost use lib.ListN.{length};
 ghost use Rattle.format.specs.Ids.{isDirectoryId};
+ghost use Rattle.calls.specs.Mount.{mostBlocks};
 ghost use Rattle.calls.specs.Append.{mostAppended};
 ghost use Rattle.calls.specs.Overwrite.{overwriteOf, imageOverwritten};
 ghost use Rattle.calls.specs.declared.Descriptor.{Descriptor};
@@ -35,7 +36,7 @@ use write_versions::plan_versions;
 use write_versions::store_versions;
 
 // Writes new versions of the blocks that hold a byte of the range, all or none: LAST_SEQUENCE, then NO_ROOM. A place for each is found, in what is lent to plan in, before the first store.
-fn write_range(
+fn write_planned(
     image: &mut [u8],
     tables: &[u32],
     m: Mounted,
@@ -61,6 +62,36 @@ fn write_range(
     0
 }
 
+// Writes them, with an array for the plan of the most that there may be.
+fn write_range(
+    image: &mut [u8],
+    tables: &[u32],
+    m: Mounted,
+    blocks: &[u32],
+    sizes: &[u32],
+    range: Range,
+    text: &[u8],
+) -> u32
+    requires { ⌜ Safe (now image) m (now tables) ⌝ }
+    requires { ⌜ Listed (now image) (now blocks) (now sizes) ⌝ }
+    requires { ⌜ Sizes (now sizes) ⌝ }
+    requires { ⌜ (length (now sizes) ≤ mostBlocks) × (range .to ≡ range .from + length (now text)) × (range .to ≤ total (now sizes)) ⌝ }
+    ensures { λ r. ⌜ ((ds : List Descriptor) → Holds (now (image .entry)) ds m (now (tables .entry)) → AllPlaced (now (image .entry)) ds (now (blocks .entry)) → Written (now (image .entry)) ds (now (blocks .entry)) (range .from) (now (text .entry)) r (now (image .exit))) ⌝ }
+{
+    let mut places = [0u32; MOST_BLOCKS];
+    let n = sizes.len();
+    write_planned(
+        &mut *image,
+        tables,
+        m,
+        blocks,
+        sizes,
+        range,
+        text,
+        &mut places[..n],
+    )
+}
+
 // Overwrites in a file from `offset` on: BROKEN, then PAST_END, then what can refuse the versions.
 fn overwrite_in(
     image: &mut [u8],
@@ -78,7 +109,6 @@ fn overwrite_in(
     let spots_end = BLOCK_SPOTS + m.blocks;
     let mut blocks = [0u32; MOST_BLOCKS];
     let mut sizes = [0u32; MOST_BLOCKS];
-    let mut places = [0u32; MOST_BLOCKS];
     let File::Whole(n, size) = list_file(
         &*image,
         &tables[BLOCK_IDS..ids_end],
@@ -102,7 +132,6 @@ fn overwrite_in(
         &sizes[..n],
         Range { from, to },
         text,
-        &mut places[..n],
     )
 }
 

@@ -21,7 +21,7 @@ use Rattle.calls.specs.Storing.{spaces, placeAll, noPlace, storedOr, nam
 use Rattle.calls.specs.Attempt.{Attempt, numberOf, leaves, attemptAt}
 use Rattle.calls.specs.declared.Descriptor.{Descriptor}
 
--- "over 8,192 bytes to append" is 8
+-- "over 8,192 bytes to append" is 8, and to overwrite by T-05
 abbrev pub mostAppended : ℕ
 mostAppended = 8192
 

@@ -11,7 +11,7 @@ pub const SHORTEST_AREA: usize = 128;
 
 pub const LARGEST_IMAGE: usize = 65536;
 
-// The most bytes that one append takes.
+// The most bytes that one append takes, and one overwrite (T-05).
 pub const MOST_APPENDED: usize = 8192;
 
 // The most records that fit in the largest image: none is shorter than 20 bytes, an inode's header.

@@ -1,4 +1,4 @@
--- Records of an image that stand apart from what is stored: their sizes and bytes stay.
+-- The records at some places, one behind the other.
 use Prim.Native.Nat.{ℕ, suc, _+_, _≤_, _<_}
 use mathlib.Core.Path.{_≡_, refl, sym, ap, ap₂, _∙_}
 use mathlib.Core.List.{List, [], _∷_, _++_, map, append-assoc, append-nil}

@@ -21,9 +21,9 @@ pub record Rows (image : Bytes) (n size : ℕ) (bs ns : List ℕ) : Type 0 where
   pub small : size ≤ n * 65535
 
 -- what an answer of `list_file` says of the rows
-abbrev pub Held : Bytes → File → List ℕ → List ℕ → Type 0
-Held image (Whole n size) bs ns = Rows image n size bs ns
-Held image Broken bs ns = Unit {0}
+abbrev pub Filled : Bytes → File → List ℕ → List ℕ → Type 0
+Filled image (Whole n size) bs ns = Rows image n size bs ns
+Filled image Broken bs ns = Unit {0}
 
 -- and of the file's blocks
 abbrev pub fileOf : File → List ℕ → Option (List ℕ)

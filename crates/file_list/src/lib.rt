@@ -10,7 +10,7 @@ ghost use Rattle.table_rows.specs.Table.{found};
 ghost use Rattle.table_rows.specs.Rows.{BlockTable};
 ghost use Rattle.file_blocks.specs.Blocks.{BlocksOf, bytesOf};
 ghost use Rattle.file_list.specs.Listing.{Lists};
-ghost use Rattle.file_list.specs.File.{Held, fileOf};
+ghost use Rattle.file_list.specs.File.{Filled, fileOf};
 use file_blocks::Last;
 use file_blocks::Size;
 use file_blocks::data_length;
@@ -30,7 +30,7 @@ pub enum File {
 }
 
 // Lists the chain of just as many blocks of the file as there are rows, followed back from `start`; answers how many bytes they hold.
-pub fn list_chain(
+fn list_chain(
     image: &[u8],
     ids: &[u32],
     spots: &[u32],
@@ -64,7 +64,7 @@ pub fn list_chain(
     Size::Broken
 }
 
-// Lists the blocks of the file in the first rows.
+// Lists the blocks of the file in the first rows; answers how many there are, and how many bytes they hold.
 pub fn list_file(
     image: &[u8],
     ids: &[u32],
@@ -75,7 +75,7 @@ pub fn list_file(
 ) -> File
     requires { ⌜ BlockTable (now image) (now ids) (now spots) ⌝ }
     requires { ⌜ (length (now ids) ≤ length (now blocks)) × (length (now blocks) ≡ mostBlocks) × (length (now sizes) ≡ mostBlocks) ⌝ }
-    ensures held { λ r. ⌜ Held (now (image .entry)) r (now (blocks .exit)) (now (sizes .exit)) ⌝ }
+    ensures held { λ r. ⌜ Filled (now (image .entry)) r (now (blocks .exit)) (now (sizes .exit)) ⌝ }
     ensures told { λ r. ⌜ ((v : Volume ℕ) → BlocksOf (now (image .entry)) (now (ids .entry)) (now (spots .entry)) v → fileOf r (now (blocks .exit)) ≡ fileBlocks (byPlace (now (image .entry))) v file) ⌝ }
 {
     let Last::Start(last) = last_block(image, ids, spots, file) else {

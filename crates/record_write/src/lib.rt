@@ -114,7 +114,7 @@ fn copy_changed(image: &mut [u8], from: usize, to: usize, n: usize, begin: usize
     copy(image, from + end, to + end, n - end);
 }
 
-// Stores the block `h` at `at`, whose data is that at `from` with `text` in the place of its bytes from `begin` on.
+// Stores the block `h` at `at`, whose data is that at `from` with `text` in the place of its bytes from `begin` on. What it holds is told only where the two places share no byte.
 pub fn write_changed(
     image: &mut [u8],
     at: usize,

@@ -3,18 +3,17 @@ use Prim.Native.Nat.{ℕ, _≤_}
 use mathlib.Core.Path.{_≡_, refl, sym, ap, subst, _∙_}
 use mathlib.Core.List.{List}
 use native.Mathlib.Omega.{arith}
-use lib.ListN.{length, take, replicate, length-replicate}
+use lib.ListN.{length, take}
 use lib.Seq.{length-take-le}
 use Rattle.volume.specs.Contents.{fileBlocks}
-use Rattle.calls.specs.Mount.{mostBlocks}
 use Rattle.calls.specs.declared.Descriptor.{Descriptor}
 use Rattle.record_places.specs.Place.{byPlace}
 use Rattle.area_pass.specs.Bridge.{placedVolume}
 use Rattle.mount_state.specs.State.{Holds}
 use Rattle.mount_state.specs.Bridge.{blocks-lent, blocks-few, block-rows-lent}
-use Rattle.file_list.specs.File.{Rows, Held, fileOf}
+use Rattle.file_list.specs.File.{Rows, Filled, fileOf}
 use Rattle.file_list.specs.declared.File.{File}
-use Rattle.call_overwrite.specs.Written.{sizes-held}
+use Rattle.call_overwrite.specs.Written.{rows-sizes}
 use Rattle.call_overwrite.specs.Outcome.{in-broken, in-past, all-placed, in-written}
 use borrow.Author.Needs.{needs}
 use Rattle.call_overwrite.proofs.overwrite_in.Statement.{statement}
@@ -34,16 +33,12 @@ count k = k .before .n .given .0 .0
 abbrev bytes : tie.After-known-told → ℕ
 bytes k = k .before .n .given .0 .1 .0
 
--- the front of a fresh array is as long as is asked for
-front : (k n : ℕ) → n ≤ k → length {A = ℕ} (take n (replicate k 0)) ≡ n
-front k n h = length-take-le n (replicate k 0) (rw (length-replicate {A = ℕ} k 0) h)
-
 -- the rows that were filled
 held : (k : tie.After-known-told) → let l = listing k in
     Rows (lent l .args .image .now) (count k) (bytes k) (l .list-file .last .1 .1 .1 .1 .0) (l .list-file .last .1 .1 .1 .1 .1 .0)
 held k =
     let l = listing k in
-    subst (λ (r : File). Held (lent l .args .image .now) r (l .list-file .last .1 .1 .1 .1 .0) (l .list-file .last .1 .1 .1 .1 .1 .0))
+    subst (λ (r : File). Filled (lent l .args .image .now) r (l .list-file .last .1 .1 .1 .1 .0) (l .list-file .last .1 .1 .1 .1 .1 .0))
     (k .before .n .given .1) (l .list-file .ensures .0)
 
 rows : (k : tie.After-known-told) → let l = listing k in
@@ -84,16 +79,16 @@ returns-2 c =
 
 write-range-requires : tie.Need-write-range-requires
 write-range-requires c κs =
-    let e = c .before .before .before .before in
+    let e = c .before .before .before in
     let k = e .before in
     let s = lent (listing k) in
-    let z = sizes-held (s .pre .0) (count k) (bytes k) _ _ (held k) in
-    (s .pre .0, (held k .listed, (z .0, (front mostBlocks (count k) (held k .few) ∙ sym (rows-long k .1), refl, omega (arith, z .1, e .if1 .left)))))
+    let z = rows-sizes (s .pre .0) (count k) (bytes k) _ _ (held k) in
+    (s .pre .0, (held k .listed, (z .0, (omega (arith, rows-long k .1, held k .few), refl, omega (arith, z .1, e .if1 .left)))))
 
 returns-3 : tie.Need-returns-3
 returns-3 c =
-    let w = c .before .before .before in
-    let e = w .before .before .before .before .before in
+    let w = c .before .before in
+    let e = w .before .before .before .before in
     let k = e .before in
     let l = listing k in
     let a = lent l .args in
@@ -128,8 +123,6 @@ overwrite-in-spec =
     (λ c. sym (rows-long (c .before .before .before) .0))
     (λ c. rows (c .before .before .before) .1)
     (λ c. sym (rows-long (c .before .before .before .before) .1))
-    (λ c. held (c .before .before .before .before) .few)
-    (λ c. sym (front mostBlocks _ (held (c .before .before .before .before .before) .few)))
     write-range-requires
     (λ c. search needs)
     returns-3)
