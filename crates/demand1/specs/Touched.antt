@@ -1,5 +1,5 @@
 -- The checks of an overwrite, 14 and 16, mean what their rows say.
-use Prim.Native.Nat.{ℕ, max, min, _+_, _≤_, _<_}
+use Prim.Native.Nat.{ℕ, _+_, _-_, _≤_, _<_}
 use mathlib.Core.Path.{_≡_, refl, sym, ap}
 use mathlib.Core.Logic.{_⊎_, inr, ⊎-elim}
 use mathlib.Core.Bool.{Bool, true, false, cond}
@@ -19,6 +19,7 @@ use Rattle.calls.specs.Append.{isBroken}
 use Rattle.calls.specs.Storing.{isAmong}
 use Rattle.calls.specs.Overwrite.{holdsByte, Change, changesFrom, changes, blocksIn}
 use Rattle.calls_laws.specs.Unused.{among, not-among}
+use Rattle.demand2_overwrite.specs.Blocks.{holds-true, holds-false}
 use Rattle.demand1.specs.Table.{Touched}
 use Rattle.demand1.specs.Mounting.{Means}
 
@@ -41,19 +42,6 @@ past-means o offset n w = (
       let s = ap (λ (l : List Bytes). length (textOf byBytes l)) (same-blocks o (p .0) (p .1)) in
       ⊎-elim (λ h. omega (arith, g, s, h)) (λ h. omega (arith, g, s, h)) (p .2)),
 )
-
--- the n bytes from s on have one of the range, or none
-held-some : (from to s n : ℕ) → holdsByte from to s n ≡ true → (from ≤ max s from) × (max s from < to) × (s ≤ max s from) × (max s from < s + n)
-unfolding holdsByte
-held-some from to s n e =
-    let h = ltb-true (max s from) (min (s + n) to) e in
-    (omega arith, omega arith, omega arith, omega arith)
-
-held-none : (from to s n p : ℕ) → holdsByte from to s n ≡ false → from ≤ p → p < to → s ≤ p → p < s + n → ⊥
-unfolding holdsByte
-held-none from to s n p e a b c d =
-    let h = ltb-false (max s from) (min (s + n) to) e in
-    omega arith
 
 -- a block of the sequence q that holds a byte of the range, where the first of the blocks begins at s
 record TouchedFrom (from to s : ℕ) (bs : List Bytes) (q : ℕ) : Type 0 where
@@ -106,15 +94,15 @@ module _ (from to : ℕ) (after : Bytes) where
         where
           here : q ≡ recordSequence b → TouchedFrom from to s (b ∷ bs) q
           here z =
-              let h = held-some from to s n e in
+              let h = holds-true from to s n e in
               record {
                 block = b;
                 before = [];
                 behind = bs;
                 split = refl;
-                place = max s from;
-                written = (h .0, h .1);
-                held = (omega (arith, h .2), omega (arith, h .3));
+                place = s + h .0;
+                written = (h .2, h .3);
+                held = (omega arith, omega (arith, h .1));
                 sequence-is = sym z;
               }
       go false e m ih = further s b bs q (ih m)
@@ -135,7 +123,7 @@ module _ (from to : ℕ) (after : Bytes) where
       go : (t : Bool) → holdsByte from to s n ≡ t
           → List·Memᴰ (recordSequence b) (sequencesOf (cond t (record { block = b; text = part after s n } ∷ later) later))
       go true e = List·Memᴰ·head refl
-      go false e = absurd (held-none from to s n p e i j (omega arith) (omega arith))
+      go false e = absurd (holds-false from to s n e (p - s, omega arith, omega arith, omega arith))
   touched-changed (a ∷ before) behind b s p i j k l =
       let e = length-append (byBytes .text a) (textOf byBytes before) in
       go (holdsByte from to s n) (touched-changed before behind b (s + n) p i j (omega arith) (omega arith))

@@ -55,14 +55,14 @@ pub data BlocksAfter (from to : ℕ) (after : Bytes) : ℕ → List Bytes → Li
 -- ---- the changes
 
 -- the test of a change finds such a byte, the first of both
-holds-true : (from to s n : ℕ) → holdsByte from to s n ≡ true → HoldsByte from to s n
+pub holds-true : (from to s n : ℕ) → holdsByte from to s n ≡ true → HoldsByte from to s n
 unfolding holdsByte
 holds-true from to s n e =
     let h = ltb-true (max s from) (min (s + n) to) e in
     (max s from - s, omega arith, omega arith, omega arith)
 
 -- and where it fails there is none
-holds-false : (from to s n : ℕ) → holdsByte from to s n ≡ false → ¬ HoldsByte from to s n
+pub holds-false : (from to s n : ℕ) → holdsByte from to s n ≡ false → ¬ HoldsByte from to s n
 unfolding holdsByte
 holds-false from to s n e t = omega (arith, ltb-false (max s from) (min (s + n) to) e, t .1, t .2, t .3)
 
@@ -141,6 +141,29 @@ module _ (from to : ℕ) (after : Bytes) where
           → Nodup (map changedId (perhaps x s b bs))
       go true ih up = ((λ m. h .0 (up m)), ih)
       go false ih up = ih
+
+  -- the new versions are as told, of whatever blocks the file would then have
+  pub versions-after : (s : ℕ) (bs : List Bytes)
+      → ((c : Change) → List·Memᴰ c (changesFrom from to after s bs) → Meant c × (length (c .text) ≡ held (c .block)))
+      → (cs : List Bytes) × BlocksAfter from to after s bs cs (map newVersion (changesFrom from to after s bs))
+  unfolding changesFrom newVersion
+  versions-after s [] k = ([], no-more)
+  versions-after s (b ∷ bs) k = go (holdsByte from to s (held b)) refl k (versions-after (s + held b) bs)
+    where
+      go : (x : Bool) → holdsByte from to s (held b) ≡ x
+          → ((c : Change) → List·Memᴰ c (perhaps x s b bs) → Meant c × (length (c .text) ≡ held (c .block)))
+          → (((c : Change) → List·Memᴰ c (later s b bs) → Meant c × (length (c .text) ≡ held (c .block)))
+          → (cs : List Bytes) × BlocksAfter from to after (s + held b) bs cs (map newVersion (later s b bs)))
+          → (cs : List Bytes) × BlocksAfter from to after s (b ∷ bs) cs (map newVersion (perhaps x s b bs))
+      go true e k ih =
+          let c = changeAt after s b in
+          let h = k c (List·Memᴰ·head refl) in
+          let r = ih (λ d m. k d (List·Memᴰ·tail m)) in (
+            newVersion c ∷ r .0,
+            rewritten {c = newVersion c} (holds-true from to s (held b) e)
+                (record { is = h .0; same-length = ap length (h .0 .text-is) ∙ h .1; bytes-are = refl }) (r .1),
+          )
+      go false e k ih = let r = ih k in (b ∷ r .0, as-before (holds-false from to s (held b) e) (r .1))
 
   -- the blocks are then as told
   pub blocks-after : (φ : Bytes → Bytes) (s : ℕ) (bs : List Bytes) → Nodup (map recordId bs) → Turns φ bs (changesFrom from to after s bs)
