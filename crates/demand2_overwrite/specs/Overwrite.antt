@@ -61,7 +61,7 @@ use Rattle.demand2.specs.Found.{passed-check, path-eight, root-there, found-liv
 use Rattle.demand2.specs.NewRecord.{block-made}
 use Rattle.demand2.specs.Append.{text-goes, not-broken}
 use Rattle.demand2_overwrite.specs.Versions.{changedId, Meant, AllRenewed, all-renewed, inodes-kept}
-use Rattle.demand2_overwrite.specs.Blocks.{held, BlocksAfter, ChangeOf, each-change, changes-once, no-changes, blocks-after, versions-after}
+use Rattle.demand2_overwrite.specs.Blocks.{held, Holder, BlocksAfter, ChangeOf, each-change, change-holds, changes-once, no-changes, blocks-after, versions-after}
 use Rattle.demand2_overwrite.specs.Blocks.{after-ids, after-lengths, after-headers, after-text}
 
 -- what an accepted overwrite found
@@ -228,8 +228,8 @@ text-octets [] h = octets-none
 text-octets (b ∷ bs) h = octets-append (byBytes .text b) (textOf byBytes bs) (octets-drop 24 b (h b (List·Memᴰ·head refl)))
     (text-octets bs (λ c m. h c (List·Memᴰ·tail m)))
 
--- the records that would be written: of an image and a text of bytes, of a whole file, and of a range within its size that holds no byte of a block
--- at the last sequence
+-- the records that would be written, be there room or not: of an image and a text of bytes, of a whole file, and of a range within its size, no
+-- block of which is at the last sequence
 module _ (image : Bytes) (ds : List Descriptor) (f : ℕ) (old : List Bytes) (offset : ℕ) (text : Bytes) (octets-image : Octets image)
     (octets-text : Octets text) (whole : fileBlocks byBytes (volume image ds) f ≡ some old) (within : offset + length text ≤ length (textOf byBytes old))
     (not-last : (c : Change) → List·Memᴰ c (changes old offset text) → recordSequence (c .block) ≢ lastSequence) where
@@ -277,13 +277,21 @@ module _ (image : Bytes) (ds : List Descriptor) (f : ℕ) (old : List Bytes) (of
   unfolding newVersion
   each-made c m = block-made (changedId c) (suc (recordSequence (c .block))) (recordLink (c .block)) (blockPrevious (c .block)) (c .text) (meant c m)
 
-  -- Refused calls included: the records for which there must be room are those of `BlocksAfter`, so that an overwrite is never refused by 15 for the
-  -- want of room for any others.
-  pub versions-meant : (new : List Bytes)
+  -- and is a block's
+  told : (new : List Bytes)
       × BlocksAfter offset (offset + length text) (textAfter old offset text) 0 old new (map newVersion (changes old offset text))
   unfolding changes
-  versions-meant = versions-after offset (offset + length text) (textAfter old offset text) 0 old
-      (λ c m. (each-made c m, each-of c m .same-length))
+  told = versions-after offset (offset + length text) (textAfter old offset text) 0 old (λ c m. (each-made c m, each-of c m .same-length))
+
+-- Refused calls included: of a whole file and of a range within its size, no block of which is at the last sequence, the records for which room is
+-- sought are those of `BlocksAfter`. So 15 is given for want of room for just these.
+pub versions-meant : (image : Bytes) (ds : List Descriptor) (f : ℕ) (old : List Bytes) (offset : ℕ) (text : Bytes) → Octets image → Octets text
+    → fileBlocks byBytes (volume image ds) f ≡ some old → offset + length text ≤ length (textOf byBytes old)
+    → ((b : Bytes) → Holder offset (offset + length text) 0 old b → recordSequence b ≢ lastSequence)
+    → (new : List Bytes) × BlocksAfter offset (offset + length text) (textAfter old offset text) 0 old new (map newVersion (changes old offset text))
+unfolding changes
+versions-meant image ds f old offset text oi ot whole within not-last = told image ds f old offset text oi ot whole within
+    (λ c m. not-last (c .block) (change-holds offset (offset + length text) (textAfter old offset text) 0 old c m))
 
 module _ (image : Bytes) (ds : List Descriptor) (base path : Bytes) (offset : ℕ) (text : Bytes) (octets-image : Octets image)
     (octets-text : Octets text) (g : OverwriteGoes image ds base path offset text) where
