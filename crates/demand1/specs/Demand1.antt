@@ -2,45 +2,41 @@
 use Prim.Native.Nat.{ℕ, _+_, _-_, _≤_}
 use mathlib.Core.Path.{_≡_, refl, _∙_}
 use mathlib.Core.Logic.{inl, inr}
-use mathlib.Core.Bool.{Bool, true, false, cond, not, _||_}
+use mathlib.Core.Bool.{Bool, true, false, cond}
 use mathlib.Core.Option.{Option, none, some}
-use mathlib.Core.List.{List, [], _++_, map}
+use mathlib.Core.List.{List, [], _++_}
 use native.Mathlib.Omega.{arith}
 use lib.ListN.{length, drop, length-append, length-take, length-drop}
 use lib.Seq.{getD-append-add, getD-drop}
-use lib.Dec.{eqb, ltb, leb}
+use lib.Dec.{eqb, leb}
 use Rattle.format.specs.Bytes.{Bytes, byteAt}
 use Rattle.format.specs.Ids.{NONE, isDirectoryId}
-use Rattle.format.specs.Record.{recordSequence}
 use Rattle.volume.specs.View.{byBytes}
 use Rattle.volume.specs.Fate.{isLive, fateOf}
 use Rattle.volume.specs.Contents.{fileBlocks, textOf}
-use Rattle.volume.specs.Path.{goodPath, pathNames}
-use Rattle.volume.specs.Tree.{Found, found, lookupNames}
-use Rattle.volume_laws.specs.Tests.{or-is-false, not-is-false}
-use Rattle.calls.specs.Refusal.{firstRefusal}
+use Rattle.volume.specs.Path.{pathNames}
+use Rattle.volume.specs.Tree.{found, lookupNames}
 use Rattle.calls.specs.Mount.{volume, mountNumber}
 use Rattle.calls.specs.Read.{Given, given, refused, giveBlocks, giveFile, give, readGiven}
 use Rattle.calls.specs.Lookup.{resolve}
 use Rattle.calls.specs.Create.{lastName, namesBefore, newInode, createOf, imageCreated}
-use Rattle.calls.specs.Append.{mostAppended, newBlocks, isBroken, appendOf, imageAppended}
-use Rattle.calls.specs.Storing.{Store, noPlace, isAmong}
-use Rattle.calls.specs.Rewrite.{lastSequence, rewritten, rewritePlan, imageRewritten}
+use Rattle.calls.specs.Append.{newBlocks, appendOf, imageAppended}
+use Rattle.calls.specs.Storing.{Store}
+use Rattle.calls.specs.Rewrite.{rewritten, rewritePlan, imageRewritten}
 use Rattle.calls.specs.Unlink.{deletion, unlinkOf, imageUnlinked}
 use Rattle.calls.specs.Rename.{renameOf, imageRenamed}
-use Rattle.calls.specs.Overwrite.{changes, oldBlocks, overwritePlan, overwriteTo, overwriting, overwriteOf, imageOverwritten}
+use Rattle.calls.specs.Overwrite.{oldBlocks, overwriteOf, imageOverwritten}
 use Rattle.calls.specs.declared.Descriptor.{Descriptor}
 use Rattle.calls.specs.declared.Handle.{Handle}
 use Rattle.calls_laws.specs.Checks.{passes}
-use Rattle.calls_laws.specs.Attempt.{AttemptGoes, attempt-goes}
-use Rattle.demand2.specs.Found.{passed-check, lookup-refused, resolved}
-use Rattle.demand2.specs.Places.{place-found}
+use Rattle.demand2.specs.Found.{resolved}
 use Rattle.demand2.specs.Format.{format}
 use Rattle.demand2.specs.Create.{create-goes}
 use Rattle.demand2.specs.Append.{append-goes}
 use Rattle.demand2.specs.Unlink.{unlink-goes}
 use Rattle.demand2.specs.Refused.{refused-calls}
 use Rattle.demand2_rename.specs.Rename.{rename-goes}
+use Rattle.demand2_overwrite.specs.Overwrite.{overwrite-goes}
 use Rattle.demand2_collect.specs.Collect.{collect}
 use Rattle.demand1.specs.Table.{newVersions}
 use Rattle.demand1.specs.Words.{OnlyStored, OnlyOne, OnlyRead, AcceptedCalls, Demand1}
@@ -118,43 +114,17 @@ module _ (image : Bytes) (ds : List Descriptor) where
         rw (imageAppended, g .goes, g .placed) (only-stored image ds (passes image ds (g .mounted) .described) _ (g .stores) (g .placed)),
       )
 
-  -- the checks of `overwriteTo`
-  overwrite-placed : (f offset : ℕ) (text : Bytes) → overwriteTo image ds f offset text ≡ 0
-      → (l : List Store) × (overwritePlan image ds f offset text ≡ some l)
-  unfolding overwriteTo firstRefusal
-  overwrite-placed f offset text e =
-      let bs = oldBlocks image ds f in
-      let a = passed-check (isDirectoryId f) 10 _ e in
-      let b = passed-check (isBroken (fileBlocks byBytes (volume image ds) f)) 12 _ (a .1) in
-      let c = passed-check (ltb (length (textOf byBytes bs)) (offset + length text)) 13 _ (b .1) in
-      let d = passed-check (isAmong lastSequence (map (λ c. recordSequence (c .block)) (changes bs offset text))) 15 _ (c .1) in
-      place-found (overwritePlan image ds f offset text) (passed-check (noPlace (overwritePlan image ds f offset text)) 14 0 (d .1) .0)
-
   overwritten : (base path : Bytes) (offset : ℕ) (text : Bytes) → overwriteOf image ds base path offset text ≡ 0
       → (f : ℕ) × (resolve image ds base path ≡ found f)
       × OnlyStored image (imageOverwritten image ds base path offset text) ds (newVersions image ds f offset text)
-  unfolding overwriteOf overwriting overwritePlan imageOverwritten
+  unfolding imageOverwritten
   overwritten base path offset text e =
-      at (attempt-goes (mountNumber image ds) checks bad there (lookup-refused byBytes (volume image ds) (pathNames base path)) e)
-    where
-      checks : ℕ → ℕ
-      checks f = overwriteTo image ds f offset text
-
-      bad : Bool
-      bad = not (goodPath base path) || ltb mostAppended (length text)
-
-      there : Found
-      there = lookupNames byBytes (volume image ds) (pathNames base path)
-
-      at : AttemptGoes (mountNumber image ds) bad there checks → (f : ℕ) × (resolve image ds base path ≡ found f)
-          × OnlyStored image (imageOverwritten image ds base path offset text) ds (newVersions image ds f offset text)
-      at w =
-          let good = not-is-false (goodPath base path) (or-is-false (not (goodPath base path)) (ltb mostAppended (length text)) (w .good) .0) in
-          let l = overwrite-placed (w .inode) offset text (w .checked) in (
-            w .inode,
-            resolved image ds base path (w .mounted) ∙ rw good (w .found-there),
-            rw (imageOverwritten, w .goes-on, l .1) (only-stored image ds (passes image ds (w .mounted) .described) _ (l .0) (l .1)),
-          )
+      let g = overwrite-goes image ds base path offset text e in
+      let is : oldBlocks image ds (g .file) ≡ g .old = rw (g .not-broken) in (
+        g .file,
+        resolved image ds base path (g .mounted) ∙ rw (g .good) (g .found-there),
+        rw (imageOverwritten, g .goes, g .image-is, is) (only-stored image ds (passes image ds (g .mounted) .described) _ (g .stores) (g .placed)),
+      )
 
   -- an inode rewritten
   only-rewritten : mountNumber image ds ≡ 0 → (i parent : ℕ) (name : Bytes) (l : List Store) → rewritePlan image ds i parent name ≡ some l

@@ -1,10 +1,10 @@
 -- The checks of an overwrite, 14 and 16, mean what their rows say.
-use Prim.Native.Nat.{ℕ, max, min, _+_, _≤_, _<_}
-use mathlib.Core.Path.{_≡_, refl, sym, ap}
+use Prim.Native.Nat.{ℕ, _+_, _-_, _≤_, _<_}
+use mathlib.Core.Path.{_≡_, refl, ap}
 use mathlib.Core.Logic.{_⊎_, inr, ⊎-elim}
 use mathlib.Core.Bool.{Bool, true, false, cond}
 use mathlib.Core.Option.{Option, none, some}
-use mathlib.Core.List.{List, [], _∷_, _++_, map, List·Memᴰ, List·Memᴰ·head, List·Memᴰ·tail, List·Memᴰ·cases-cons, List·Memᴰ·not-nil}
+use mathlib.Core.List.{List, [], _∷_, _++_, map, List·Memᴰ, List·Memᴰ·head, List·Memᴰ·tail, Memᴰ·of-map}
 use native.Mathlib.Omega.{arith}
 use lib.ListN.{length, length-append}
 use lib.Dec.{ltb}
@@ -19,6 +19,7 @@ use Rattle.calls.specs.Append.{isBroken}
 use Rattle.calls.specs.Storing.{isAmong}
 use Rattle.calls.specs.Overwrite.{holdsByte, Change, changesFrom, changes, blocksIn}
 use Rattle.calls_laws.specs.Unused.{among, not-among}
+use Rattle.demand2_overwrite.specs.Blocks.{Holder, holds-false, change-holds}
 use Rattle.demand1.specs.Table.{Touched}
 use Rattle.demand1.specs.Mounting.{Means}
 
@@ -42,84 +43,12 @@ past-means o offset n w = (
       ⊎-elim (λ h. omega (arith, g, s, h)) (λ h. omega (arith, g, s, h)) (p .2)),
 )
 
--- the n bytes from s on have one of the range, or none
-held-some : (from to s n : ℕ) → holdsByte from to s n ≡ true → (from ≤ max s from) × (max s from < to) × (s ≤ max s from) × (max s from < s + n)
-unfolding holdsByte
-held-some from to s n e =
-    let h = ltb-true (max s from) (min (s + n) to) e in
-    (omega arith, omega arith, omega arith, omega arith)
-
-held-none : (from to s n p : ℕ) → holdsByte from to s n ≡ false → from ≤ p → p < to → s ≤ p → p < s + n → ⊥
-unfolding holdsByte
-held-none from to s n p e a b c d =
-    let h = ltb-false (max s from) (min (s + n) to) e in
-    omega arith
-
--- a block of the sequence q that holds a byte of the range, where the first of the blocks begins at s
-record TouchedFrom (from to s : ℕ) (bs : List Bytes) (q : ℕ) : Type 0 where
-  block : Bytes
-  before : List Bytes
-  behind : List Bytes
-  split : bs ≡ before ++ (block ∷ behind)
-  place : ℕ
-  written : (from ≤ place) × (place < to)
-  held : (s + length (textOf byBytes before) ≤ place) × (place < s + length (textOf byBytes before) + length (byBytes .text block))
-  sequence-is : recordSequence block ≡ q
-
 -- the sequences of the blocks that are changed
 abbrev sequencesOf : List Change → List ℕ
 sequencesOf cs = map (λ c. recordSequence (c .block)) cs
 
 module _ (from to : ℕ) (after : Bytes) where
-  -- a block behind the first
-  further : (s : ℕ) (b : Bytes) (bs : List Bytes) (q : ℕ) → TouchedFrom from to (s + length (byBytes .text b)) bs q → TouchedFrom from to s (b ∷ bs) q
-  unfolding textOf
-  further s b bs q t =
-      let n = length-append (byBytes .text b) (textOf byBytes (t .before)) in
-      record {
-        block = t .block;
-        before = b ∷ t .before;
-        behind = t .behind;
-        split = ap (λ (l : List Bytes). b ∷ l) (t .split);
-        place = t .place;
-        written = t .written;
-        held = (omega (arith, n, t .held .0), omega (arith, n, t .held .1));
-        sequence-is = t .sequence-is;
-      }
-
-  -- each block that is changed holds a byte of the range
-  changed-touched : (bs : List Bytes) (s q : ℕ) → List·Memᴰ q (sequencesOf (changesFrom from to after s bs)) → TouchedFrom from to s bs q
-  unfolding changesFrom textOf
-  changed-touched [] s q m = absurd (List·Memᴰ·not-nil m)
-  changed-touched (b ∷ bs) s q m = go (holdsByte from to s n) refl m (changed-touched bs (s + n) q)
-    where
-      n : ℕ
-      n = length (byBytes .text b)
-
-      later : List Change
-      later = changesFrom from to after (s + n) bs
-
-      go : (t : Bool) → holdsByte from to s n ≡ t
-          → List·Memᴰ q (sequencesOf (cond t (record { block = b; text = part after s n } ∷ later) later))
-          → (List·Memᴰ q (sequencesOf later) → TouchedFrom from to (s + n) bs q) → TouchedFrom from to s (b ∷ bs) q
-      go true e m ih = ⊎-elim here (λ k. further s b bs q (ih k)) (List·Memᴰ·cases-cons m)
-        where
-          here : q ≡ recordSequence b → TouchedFrom from to s (b ∷ bs) q
-          here z =
-              let h = held-some from to s n e in
-              record {
-                block = b;
-                before = [];
-                behind = bs;
-                split = refl;
-                place = max s from;
-                written = (h .0, h .1);
-                held = (omega (arith, h .2), omega (arith, h .3));
-                sequence-is = sym z;
-              }
-      go false e m ih = further s b bs q (ih m)
-
-  -- and each that holds a byte of the range, the one at p, is changed
+  -- each block that holds a byte of the range, the one at p, is changed
   touched-changed : (before behind : List Bytes) (b : Bytes) (s p : ℕ) → from ≤ p → p < to → s + length (textOf byBytes before) ≤ p
       → p < s + length (textOf byBytes before) + length (byBytes .text b)
       → List·Memᴰ (recordSequence b) (sequencesOf (changesFrom from to after s (before ++ (b ∷ behind))))
@@ -135,7 +64,7 @@ module _ (from to : ℕ) (after : Bytes) where
       go : (t : Bool) → holdsByte from to s n ≡ t
           → List·Memᴰ (recordSequence b) (sequencesOf (cond t (record { block = b; text = part after s n } ∷ later) later))
       go true e = List·Memᴰ·head refl
-      go false e = absurd (held-none from to s n p e i j (omega arith) (omega arith))
+      go false e = absurd (holds-false from to s n e (p - s, omega arith, omega arith, omega arith))
   touched-changed (a ∷ before) behind b s p i j k l =
       let e = length-append (byBytes .text a) (textOf byBytes before) in
       go (holdsByte from to s n) (touched-changed before behind b (s + n) p i j (omega arith) (omega arith))
@@ -156,23 +85,22 @@ block-means : (bs : List Bytes) (offset : ℕ) (text : Bytes) (q : ℕ)
     → Means (isAmong q (sequencesOf (changes bs offset text))) ((b : Bytes) × Touched bs offset (length text) b × (recordSequence b ≡ q))
 unfolding changes
 block-means bs offset text q = (
-  (λ e. to-block (changed-touched offset (offset + length text) _ bs 0 q (among q _ (true→T e)))),
+  (λ e. let r = Memᴰ·of-map (λ (c : Change). recordSequence (c .block)) (changes bs offset text) (among q _ (true→T e)) in
+      (r .0 .block, to-block (r .0 .block) (change-holds offset (offset + length text) _ 0 bs (r .0) (r .1)), r .2)),
   (λ e p. not-among q _ (λ t. rw e at t) (back (p .0) (p .1) (p .2))),
 )
   where
-    to-block : TouchedFrom offset (offset + length text) 0 bs q → (b : Bytes) × Touched bs offset (length text) b × (recordSequence b ≡ q)
-    to-block t = (
-      t .block,
-      record {
-        before = t .before;
-        behind = t .behind;
-        split = t .split;
-        place = t .place;
-        written = t .written;
-        held = (omega (arith, t .held .0), omega (arith, t .held .1));
-      },
-      t .sequence-is,
-    )
+    to-block : (b : Bytes) → Holder offset (offset + length text) 0 bs b → Touched bs offset (length text) b
+    to-block b h =
+        let i = h .holds in
+        record {
+          before = h .front;
+          behind = h .behind;
+          split = h .split;
+          place = length (textOf byBytes (h .front)) + i .0;
+          written = (omega (arith, i .2), omega (arith, i .3));
+          held = (omega arith, omega (arith, i .1));
+        }
 
     back : (b : Bytes) → Touched bs offset (length text) b → recordSequence b ≡ q → List·Memᴰ q (sequencesOf (changes bs offset text))
     back b t y = rw (t .split, ← y) (touched-changed offset (offset + length text) _ (t .before) (t .behind) b 0 (t .place)

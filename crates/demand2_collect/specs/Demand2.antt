@@ -1,16 +1,18 @@
 -- Demand 2, whole: for any image and any area list, what each call leaves.
-use Prim.Native.Nat.{ℕ, _≤_, _<_}
+use Prim.Native.Nat.{ℕ, _+_, _≤_, _<_}
 use mathlib.Core.Path.{_≡_, _∙_}
-use mathlib.Core.Logic.{_⊎_, inl, inr}
+use mathlib.Core.Logic.{_≢_, _⊎_, inl, inr}
 use mathlib.Core.Option.{Option, some}
-use mathlib.Core.List.{List, [], List·Memᴰ}
+use mathlib.Core.List.{List, [], map, List·Memᴰ}
 use native.Mathlib.Omega.{arith}
 use native.Mathlib.Decide.{ℕ-discrete}
+use lib.ListN.{length}
 use Rattle.format.specs.Bytes.{Bytes}
 use Rattle.format.specs.Record.{recordId, recordSequence}
 use Rattle.format_laws.specs.Crc.{Octets}
 use Rattle.volume.specs.View.{byBytes}
 use Rattle.volume.specs.Counting.{counting, inodeOf, blockOf}
+use Rattle.volume.specs.Contents.{fileBlocks, textOf}
 use Rattle.volume_laws.specs.Counting.{Agree, counting-mem, counting-top, counting-some, counting-is}
 use Rattle.calls.specs.Mount.{volume, mountNumber}
 use Rattle.calls.specs.Format.{formatNumber, imageFormatted}
@@ -18,7 +20,8 @@ use Rattle.calls.specs.Create.{createOf, imageCreated}
 use Rattle.calls.specs.Append.{appendOf, imageAppended}
 use Rattle.calls.specs.Unlink.{unlinkOf, imageUnlinked}
 use Rattle.calls.specs.Rename.{renameOf, imageRenamed}
-use Rattle.calls.specs.Overwrite.{overwriteOf, imageOverwritten}
+use Rattle.calls.specs.Rewrite.{lastSequence}
+use Rattle.calls.specs.Overwrite.{changes, textAfter, newVersion, overwriteOf, imageOverwritten}
 use Rattle.calls.specs.Collect.{collectOf, imageCollected}
 use Rattle.calls.specs.declared.Descriptor.{Descriptor}
 use Rattle.calls_laws.specs.Checks.{passes}
@@ -28,7 +31,8 @@ use Rattle.demand2.specs.Create.{AfterCreate, create}
 use Rattle.demand2.specs.Append.{AfterAppend, append, append-nothing}
 use Rattle.demand2.specs.Unlink.{AfterUnlink, unlink}
 use Rattle.demand2_rename.specs.Rename.{AfterRename, rename}
-use Rattle.demand2_overwrite.specs.Overwrite.{AfterOverwrite, overwrite, overwrite-nothing}
+use Rattle.demand2_overwrite.specs.Blocks.{Holder, BlocksAfter}
+use Rattle.demand2_overwrite.specs.Overwrite.{AfterOverwrite, overwrite, overwrite-nothing, versions-meant}
 use Rattle.demand2.specs.Refused.{RefusedCalls, refused-calls}
 use Rattle.demand2_collect.specs.Collect.{AfterCollect, collect}
 
@@ -83,6 +87,12 @@ pub record Demand2 (image : Bytes) (ds : List Descriptor) : Type 0 where
   pub overwrites : (base path : Bytes) (offset : ℕ) (text : Bytes) → Octets image → Octets text → overwriteOf image ds base path offset text ≡ 0
       → AfterOverwrite image (imageOverwritten image ds base path offset text) ds base path offset text
   pub overwrites-nothing : (base path : Bytes) (offset : ℕ) → imageOverwritten image ds base path offset [] ≡ image
+  -- the records for which an overwrite must find room, or be refused by 15, are those of `BlocksAfter`: of every whole file and every range within its
+  -- size, no block of which is at the last sequence
+  pub overwrites-need : (f : ℕ) (old : List Bytes) (offset : ℕ) (text : Bytes) → Octets image → Octets text
+      → fileBlocks byBytes (volume image ds) f ≡ some old → offset + length text ≤ length (textOf byBytes old)
+      → ((b : Bytes) → Holder offset (offset + length text) 0 old b → recordSequence b ≢ lastSequence)
+      → (new : List Bytes) × BlocksAfter offset (offset + length text) (textAfter old offset text) 0 old new (map newVersion (changes old offset text))
   pub collects : collectOf image ds ≡ 0 → AfterCollect image (imageCollected image ds) ds
   -- and of each refused one
   pub refused : RefusedCalls image ds
@@ -99,6 +109,7 @@ demand2 image ds = record {
   renames = rename image ds;
   overwrites = overwrite image ds;
   overwrites-nothing = overwrite-nothing image ds;
+  overwrites-need = versions-meant image ds;
   collects = collect image ds;
   refused = refused-calls image ds;
 }

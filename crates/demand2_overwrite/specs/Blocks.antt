@@ -43,6 +43,13 @@ pub record Rewritten (after : Bytes) (s : ℕ) (b c : Bytes) : Type 0 where
 abbrev pub HoldsByte : ℕ → ℕ → ℕ → ℕ → Type 0
 HoldsByte from to s n = (i : ℕ) × (i < n) × (from ≤ s + i) × (s + i < to)
 
+-- b is one of the blocks bs, of which the first begins at s in the file, and holds such a byte
+pub record Holder (from to s : ℕ) (bs : List Bytes) (b : Bytes) : Type 0 where
+  pub front : List Bytes
+  pub behind : List Bytes
+  pub split : bs ≡ front ++ (b ∷ behind)
+  pub holds : HoldsByte from to (s + length (textOf byBytes front)) (held b)
+
 -- The blocks of a file before and after, of which the first begins at s in it, and the records that are written for them: "each block that holds a
 -- byte of the written range is rewritten", "in file order", and a block that holds none is the very same record
 pub data BlocksAfter (from to : ℕ) (after : Bytes) : ℕ → List Bytes → List Bytes → List Bytes → Type 0 where
@@ -55,14 +62,14 @@ pub data BlocksAfter (from to : ℕ) (after : Bytes) : ℕ → List Bytes → Li
 -- ---- the changes
 
 -- the test of a change finds such a byte, the first of both
-holds-true : (from to s n : ℕ) → holdsByte from to s n ≡ true → HoldsByte from to s n
+pub holds-true : (from to s n : ℕ) → holdsByte from to s n ≡ true → HoldsByte from to s n
 unfolding holdsByte
 holds-true from to s n e =
     let h = ltb-true (max s from) (min (s + n) to) e in
     (max s from - s, omega arith, omega arith, omega arith)
 
 -- and where it fails there is none
-holds-false : (from to s n : ℕ) → holdsByte from to s n ≡ false → ¬ HoldsByte from to s n
+pub holds-false : (from to s n : ℕ) → holdsByte from to s n ≡ false → ¬ HoldsByte from to s n
 unfolding holdsByte
 holds-false from to s n e t = omega (arith, ltb-false (max s from) (min (s + n) to) e, t .1, t .2, t .3)
 
@@ -141,6 +148,56 @@ module _ (from to : ℕ) (after : Bytes) where
           → Nodup (map changedId (perhaps x s b bs))
       go true ih up = ((λ m. h .0 (up m)), ih)
       go false ih up = ih
+
+  -- each block that is changed holds a byte of the range
+  pub change-holds : (s : ℕ) (bs : List Bytes) (c : Change) → List·Memᴰ c (changesFrom from to after s bs) → Holder from to s bs (c .block)
+  unfolding changesFrom textOf
+  change-holds s [] c m = absurd (List·Memᴰ·not-nil m)
+  change-holds s (b ∷ bs) c m = go (holdsByte from to s (held b)) refl m (change-holds (s + held b) bs c)
+    where
+      further : Holder from to (s + held b) bs (c .block) → Holder from to s (b ∷ bs) (c .block)
+      further h =
+          let n = length-append (byBytes .text b) (textOf byBytes (h .front)) in
+          let i = h .holds in
+          record {
+            front = b ∷ h .front;
+            behind = h .behind;
+            split = ap (λ (l : List Bytes). b ∷ l) (h .split);
+            holds = (i .0, i .1, omega (arith, n, i .2), omega (arith, n, i .3));
+          }
+
+      go : (x : Bool) → holdsByte from to s (held b) ≡ x → List·Memᴰ c (perhaps x s b bs)
+          → (List·Memᴰ c (later s b bs) → Holder from to (s + held b) bs (c .block)) → Holder from to s (b ∷ bs) (c .block)
+      go true e m ih = ⊎-elim here (λ n. further (ih n)) (List·Memᴰ·cases-cons m)
+        where
+          here : c ≡ changeAt after s b → Holder from to s (b ∷ bs) (c .block)
+          here q =
+              let i = holds-true from to s (held b) e in
+              rw q (record { front = []; behind = bs; split = refl; holds = (i .0, i .1, omega (arith, i .2), omega (arith, i .3)) })
+      go false e m ih = further (ih m)
+
+  -- the new versions are as told, of whatever blocks the file would then have
+  pub versions-after : (s : ℕ) (bs : List Bytes)
+      → ((c : Change) → List·Memᴰ c (changesFrom from to after s bs) → Meant c × (length (c .text) ≡ held (c .block)))
+      → (cs : List Bytes) × BlocksAfter from to after s bs cs (map newVersion (changesFrom from to after s bs))
+  unfolding changesFrom newVersion
+  versions-after s [] k = ([], no-more)
+  versions-after s (b ∷ bs) k = go (holdsByte from to s (held b)) refl k (versions-after (s + held b) bs)
+    where
+      go : (x : Bool) → holdsByte from to s (held b) ≡ x
+          → ((c : Change) → List·Memᴰ c (perhaps x s b bs) → Meant c × (length (c .text) ≡ held (c .block)))
+          → (((c : Change) → List·Memᴰ c (later s b bs) → Meant c × (length (c .text) ≡ held (c .block)))
+          → (cs : List Bytes) × BlocksAfter from to after (s + held b) bs cs (map newVersion (later s b bs)))
+          → (cs : List Bytes) × BlocksAfter from to after s (b ∷ bs) cs (map newVersion (perhaps x s b bs))
+      go true e k ih =
+          let c = changeAt after s b in
+          let h = k c (List·Memᴰ·head refl) in
+          let r = ih (λ d m. k d (List·Memᴰ·tail m)) in (
+            newVersion c ∷ r .0,
+            rewritten {c = newVersion c} (holds-true from to s (held b) e)
+                (record { is = h .0; same-length = ap length (h .0 .text-is) ∙ h .1; bytes-are = refl }) (r .1),
+          )
+      go false e k ih = let r = ih k in (b ∷ r .0, as-before (holds-false from to s (held b) e) (r .1))
 
   -- the blocks are then as told
   pub blocks-after : (φ : Bytes → Bytes) (s : ℕ) (bs : List Bytes) → Nodup (map recordId bs) → Turns φ bs (changesFrom from to after s bs)

@@ -61,7 +61,7 @@ use Rattle.demand2.specs.Found.{passed-check, path-eight, root-there, found-liv
 use Rattle.demand2.specs.NewRecord.{block-made}
 use Rattle.demand2.specs.Append.{text-goes, not-broken}
 use Rattle.demand2_overwrite.specs.Versions.{changedId, Meant, AllRenewed, all-renewed, inodes-kept}
-use Rattle.demand2_overwrite.specs.Blocks.{held, BlocksAfter, ChangeOf, each-change, changes-once, no-changes, blocks-after}
+use Rattle.demand2_overwrite.specs.Blocks.{held, Holder, BlocksAfter, ChangeOf, each-change, change-holds, changes-once, no-changes, blocks-after, versions-after}
 use Rattle.demand2_overwrite.specs.Blocks.{after-ids, after-lengths, after-headers, after-text}
 
 -- what an accepted overwrite found
@@ -228,6 +228,71 @@ text-octets [] h = octets-none
 text-octets (b ∷ bs) h = octets-append (byBytes .text b) (textOf byBytes bs) (octets-drop 24 b (h b (List·Memᴰ·head refl)))
     (text-octets bs (λ c m. h c (List·Memᴰ·tail m)))
 
+-- the records that would be written, be there room or not: of an image and a text of bytes, of a whole file, and of a range within its size, no
+-- block of which is at the last sequence
+module _ (image : Bytes) (ds : List Descriptor) (f : ℕ) (old : List Bytes) (offset : ℕ) (text : Bytes) (octets-image : Octets image)
+    (octets-text : Octets text) (whole : fileBlocks byBytes (volume image ds) f ≡ some old) (within : offset + length text ≤ length (textOf byBytes old))
+    (not-last : (c : Change) → List·Memᴰ c (changes old offset text) → recordSequence (c .block) ≢ lastSequence) where
+  -- its blocks count, each once
+  old-blocks : FileBlocks byBytes (volume image ds) f old
+  old-blocks = file-blocks byBytes (volume image ds) (λ r m e. omega (arith, volume-sound image ds .block-id r m .1)) f old whole
+
+  -- and so they are the volume's
+  there : (b : Bytes) → List·Memᴰ b old → List·Memᴰ b (volume image ds .blocks)
+  there b m = counting-mem byBytes (volume image ds .blocks) (recordId b) b (old-blocks .counts b m) .0
+
+  -- and bytes, as is what the file will hold
+  block-octets : (b : Bytes) → List·Memᴰ b old → Octets b
+  block-octets b m = record-octets image ds octets-image b (block-ruled image ds b (there b m) .accepted)
+
+  after-octets : Octets (textAfter old offset text)
+  after-octets = octets-put (textOf byBytes old) offset text (text-octets old block-octets) octets-text
+
+  -- each change is of one of them
+  each-of : (c : Change) → List·Memᴰ c (changes old offset text) → ChangeOf old c
+  unfolding changes
+  each-of = each-change offset (offset + length text) (textAfter old offset text) after-octets 0 old
+      (omega (arith, length-put (textOf byBytes old) offset text within))
+
+  -- what is meant can be written
+  meant : (c : Change) → List·Memᴰ c (changes old offset text)
+      → MeantBlock (changedId c) (suc (recordSequence (c .block))) (recordLink (c .block)) (blockPrevious (c .block)) (c .text)
+  meant c m =
+      let k = each-of c m in
+      let b = c .block in
+      let r = block-ruled image ds b (there b (k .block-there)) in
+      let o = block-octets b (k .block-there) in
+      record {
+        id-fits = le32-fits b o 4;
+        sequence-fits = omega (arith, le32-fits b o 8, not-last c m);
+        owner-fits = le32-fits b o 12;
+        previous-fits = le32-fits b o 16;
+        text-fits = omega (arith, k .same-length, r .short);
+        rule = rw (k .same-length) (r .ruled);
+        octets = k .octets;
+      }
+
+  -- and is written
+  each-made : (c : Change) → List·Memᴰ c (changes old offset text) → Meant c
+  unfolding newVersion
+  each-made c m = block-made (changedId c) (suc (recordSequence (c .block))) (recordLink (c .block)) (blockPrevious (c .block)) (c .text) (meant c m)
+
+  -- and is a block's
+  told : (new : List Bytes)
+      × BlocksAfter offset (offset + length text) (textAfter old offset text) 0 old new (map newVersion (changes old offset text))
+  unfolding changes
+  told = versions-after offset (offset + length text) (textAfter old offset text) 0 old (λ c m. (each-made c m, each-of c m .same-length))
+
+-- Refused calls included: of a whole file and of a range within its size, no block of which is at the last sequence, the records for which room is
+-- sought are those of `BlocksAfter`. So 15 is given for want of room for just these.
+pub versions-meant : (image : Bytes) (ds : List Descriptor) (f : ℕ) (old : List Bytes) (offset : ℕ) (text : Bytes) → Octets image → Octets text
+    → fileBlocks byBytes (volume image ds) f ≡ some old → offset + length text ≤ length (textOf byBytes old)
+    → ((b : Bytes) → Holder offset (offset + length text) 0 old b → recordSequence b ≢ lastSequence)
+    → (new : List Bytes) × BlocksAfter offset (offset + length text) (textAfter old offset text) 0 old new (map newVersion (changes old offset text))
+unfolding changes
+versions-meant image ds f old offset text oi ot whole within not-last = told image ds f old offset text oi ot whole within
+    (λ c m. not-last (c .block) (change-holds offset (offset + length text) (textAfter old offset text) 0 old c m))
+
 module _ (image : Bytes) (ds : List Descriptor) (base path : Bytes) (offset : ℕ) (text : Bytes) (octets-image : Octets image)
     (octets-text : Octets text) (g : OverwriteGoes image ds base path offset text) where
   -- the checks of the mount, before
@@ -264,46 +329,14 @@ module _ (image : Bytes) (ds : List Descriptor) (base path : Bytes) (offset : �
 
   -- its blocks count, each once
   blocks : FileBlocks byBytes v f old
-  blocks = file-blocks byBytes v (λ r m e. omega (arith, volume-sound image ds .block-id r m .1)) f old (g .not-broken)
+  blocks = old-blocks image ds f old offset text octets-image octets-text (g .not-broken) (g .within) (g .not-last)
 
-  -- and so they are the volume's
-  there : (b : Bytes) → List·Memᴰ b old → List·Memᴰ b (v .blocks)
-  there b m = counting-mem byBytes (v .blocks) (recordId b) b (blocks .counts b m) .0
-
-  -- and bytes, as is what the file will hold
-  block-octets : (b : Bytes) → List·Memᴰ b old → Octets b
-  block-octets b m = record-octets image ds octets-image b (block-ruled image ds b (there b m) .accepted)
-
-  after-octets : Octets after
-  after-octets = octets-put was offset text (text-octets old block-octets) octets-text
-
-  -- each change is of one of them
+  -- each change is of one of them, and its new version is as meant
   change-of : (c : Change) → List·Memᴰ c cs → ChangeOf old c
-  unfolding changes
-  change-of = each-change offset (offset + length text) after after-octets 0 old (omega (arith, length-put was offset text (g .within)))
+  change-of = each-of image ds f old offset text octets-image octets-text (g .not-broken) (g .within) (g .not-last)
 
-  -- what is meant can be written
-  meant : (c : Change) → List·Memᴰ c cs
-      → MeantBlock (changedId c) (suc (recordSequence (c .block))) (recordLink (c .block)) (blockPrevious (c .block)) (c .text)
-  meant c m =
-      let k = change-of c m in
-      let b = c .block in
-      let r = block-ruled image ds b (there b (k .block-there)) in
-      let o = block-octets b (k .block-there) in
-      record {
-        id-fits = le32-fits b o 4;
-        sequence-fits = omega (arith, le32-fits b o 8, g .not-last c m);
-        owner-fits = le32-fits b o 12;
-        previous-fits = le32-fits b o 16;
-        text-fits = omega (arith, k .same-length, r .short);
-        rule = rw (k .same-length) (r .ruled);
-        octets = k .octets;
-      }
-
-  -- and is written
   made : (c : Change) → List·Memᴰ c cs → Meant c
-  unfolding newVersion
-  made c m = block-made (changedId c) (suc (recordSequence (c .block))) (recordLink (c .block)) (blockPrevious (c .block)) (c .text) (meant c m)
+  made = each-made image ds f old offset text octets-image octets-text (g .not-broken) (g .within) (g .not-last)
 
   -- what holds of each new version
   each : (P : Bytes → Type 0) → ((c : Change) → Meant c → P (newVersion c)) → (b : Bytes) → List·Memᴰ b (map newVersion cs) → P b
