@@ -53,7 +53,7 @@ use Rattle.demand1.specs.Table.{Exactly}
 use Rattle.demand1.specs.Stores.{fit-inside, space-of}
 use Rattle.demand1.specs.Paths.{named-names, path-means}
 use Rattle.demand1.specs.Walk.{child-means, child-listed, foundOr, walk-answers}
-use Rattle.demand1.specs.Touched.{whole-blocks, past-means, touched-means}
+use Rattle.demand1.specs.Touched.{whole-blocks, past-means, touched-means, versions-mean}
 use Rattle.demand1.specs.Mounting.{Means, ltb-means, leb-means, eqb-means, is-means, fails-means, or-means, step, done, list-means, mount-answers}
 
 -- ---- rows one after the other
@@ -464,7 +464,7 @@ module _ (image : Bytes) (ds : List Descriptor) where
         step (ltb (length (textOf byBytes (oldBlocks image ds f))) (offset + length text)) 14 _ _ _ (rw q (past-means o offset (length text) w)) (λ e.
         step (isAmong lastSequence (map (λ c. recordSequence (c .block)) (changes (oldBlocks image ds f) offset text))) 16 _ _ _
         (rw q (touched-means o offset text lastSequence w)) (λ e.
-        step (noPlace (placeAll ss bs)) 15 0 _ [] (rw q (place-means bs ss)) (λ e. done))))
+        step (noPlace (placeAll ss bs)) 15 0 _ [] (rw q (versions-mean o offset text _ (NoRoomLeft ss) w (place-means bs ss))) (λ e. done))))
 
     unlink-answers : Answers (unlinkRows image ds base path) (unlinkOf image ds base path)
     unfolding unlinkOf unlinking unlinkOne rewriteNumber rewritePlan deletion

@@ -10,7 +10,8 @@ use lib.ListN.{length}
 use Rattle.format.specs.Bytes.{Bytes}
 use Rattle.format.specs.Ids.{rootId, isDirectoryId}
 use Rattle.format.specs.AreaHeader.{areaId}
-use Rattle.format.specs.Record.{recordSize, recordId, recordSequence}
+use Rattle.format.specs.Record.{recordSize, recordId, recordSequence, recordLink, blockPrevious}
+use Rattle.format.specs.Encoding.{blockBytes}
 use Rattle.format.specs.Reading.{areaClean}
 use Rattle.volume.specs.View.{byBytes}
 use Rattle.volume.specs.Counting.{Volume, inodeOf, inodeIds, blockIds}
@@ -18,6 +19,7 @@ use Rattle.volume.specs.Fate.{live, fateOf, lineage}
 use Rattle.volume.specs.Contents.{fileBlocks, textOf}
 use Rattle.volume.specs.Path.{SLASH, longestName, longestPath, pathNames}
 use Rattle.volume.specs.Tree.{Found, found, absent, lookupNames}
+use Rattle.calls.specs.Image.{put, part}
 use Rattle.calls.specs.Areas.{mostAreas, shortestArea, largestImage, areaEnd, areaBytes, fileAreas, scratchAreas}
 use Rattle.calls.specs.Mount.{mostInodes, mostBlocks, acceptedRecords, volume}
 use Rattle.calls.specs.Storing.{Space, Fit, spaces, firstFit}
@@ -36,6 +38,7 @@ use Rattle.calls.specs.Collect.{collectOf}
 use Rattle.calls.specs.declared.Descriptor.{Descriptor}
 use Rattle.calls_laws.specs.Checks.{InArea}
 use Rattle.demand2.specs.Store.{freePlace}
+use Rattle.demand2_overwrite.specs.Blocks.{held, HoldsByte}
 
 -- a row: a number, and when it is given
 pub record Row : Type 1 where
@@ -263,6 +266,16 @@ pub record Touched (bs : List Bytes) (offset n : ℕ) (b : Bytes) : Type 0 where
 abbrev pub newVersions : Bytes → List Descriptor → ℕ → ℕ → Bytes → List Bytes
 newVersions image ds f offset text = map newVersion (changes (oldBlocks image ds f) offset text)
 
+-- T-05: the records ws for a file's blocks, of which the first begins at s in a file that will hold `after`: "each block that holds a byte of the
+-- written range is rewritten with the same id, owner, previous and length, sequence plus one, and its changed data", "in file order"
+pub data NewRecords (from to : ℕ) (after : Bytes) : ℕ → List Bytes → List Bytes → Type 0 where
+  no-more : {s : ℕ} → NewRecords from to after s [] []
+  none-for : {s : ℕ} {b : Bytes} {bs ws : List Bytes} → ¬ HoldsByte from to s (held b) → NewRecords from to after (s + held b) bs ws
+      → NewRecords from to after s (b ∷ bs) ws
+  one-for : {s : ℕ} {b : Bytes} {bs ws : List Bytes} → HoldsByte from to s (held b) → NewRecords from to after (s + held b) bs ws
+      → NewRecords from to after s (b ∷ bs)
+      (blockBytes (recordId b) (suc (recordSequence b)) (recordLink b) (blockPrevious b) (part after s (held b)) ∷ ws)
+
 -- T-05, overwrite: it "is refused as append is, 13 too; an offset or an end past the size is 14; such a block at sequence ffffffff is 16"; "16 comes
 -- before 15"; "all or none". Its records have no new ids: 5 isn't asked again
 abbrev pub overwriteRows : Bytes → List Descriptor → Bytes → Bytes → ℕ → Bytes → List Row
@@ -274,7 +287,8 @@ overwriteRows image ds base path offset text =
     × ((length (textOf byBytes bs) < offset) ⊎ (length (textOf byBytes bs) < offset + length text))))
     ∷ (16 given-when Leads o (λ f. (bs : List Bytes) × (fileBlocks byBytes v f ≡ some bs)
     × ((b : Bytes) × Touched bs offset (length text) b × (recordSequence b ≡ lastSequence))))
-    ∷ (15 given-when Leads o (λ f. NoRoomLeft (spaces image (fileAreas image ds)) (newVersions image ds f offset text)))
+    ∷ (15 given-when Leads o (λ f. (bs ws : List Bytes) × (fileBlocks byBytes v f ≡ some bs)
+    × NewRecords offset (offset + length text) (put (textOf byBytes bs) offset text) 0 bs ws × NoRoomLeft (spaces image (fileAreas image ds)) ws))
     ∷ [])
 
 -- the inode to which a walk leads is rewritten: 16 where its "sequence is ffffffff", then 15; "16 comes before 15"

@@ -1,4 +1,4 @@
--- The checks of an overwrite, 14 and 16, mean what their rows say.
+-- The checks of an overwrite, 14, 16 and 15, mean what their rows say.
 use Prim.Native.Nat.{ℕ, _+_, _-_, _≤_, _<_}
 use mathlib.Core.Path.{_≡_, refl, ap}
 use mathlib.Core.Logic.{_⊎_, inr, ⊎-elim}
@@ -14,13 +14,13 @@ use Rattle.format.specs.Record.{recordSequence}
 use Rattle.volume.specs.View.{byBytes}
 use Rattle.volume.specs.Contents.{textOf}
 use Rattle.volume_laws.specs.Tests.{true→T}
-use Rattle.calls.specs.Image.{part}
+use Rattle.calls.specs.Image.{put, part}
 use Rattle.calls.specs.Append.{isBroken}
 use Rattle.calls.specs.Storing.{isAmong}
-use Rattle.calls.specs.Overwrite.{holdsByte, Change, changesFrom, changes, blocksIn}
+use Rattle.calls.specs.Overwrite.{holdsByte, Change, changesFrom, changes, newVersion, textAfter, blocksIn}
 use Rattle.calls_laws.specs.Unused.{among, not-among}
-use Rattle.demand2_overwrite.specs.Blocks.{Holder, holds-false, change-holds}
-use Rattle.demand1.specs.Table.{Touched}
+use Rattle.demand2_overwrite.specs.Blocks.{held, changeAt, Holder, holds-true, holds-false, change-holds}
+use Rattle.demand1.specs.Table.{Touched, NewRecords, no-more, none-for, one-for}
 use Rattle.demand1.specs.Mounting.{Means}
 
 -- the blocks of a file that is not broken
@@ -80,6 +80,40 @@ module _ (from to : ℕ) (after : Bytes) where
       go true m = List·Memᴰ·tail m
       go false m = m
 
+  -- the changes that are made where the first block is changed, or is not
+  abbrev perhaps : Bool → ℕ → Bytes → List Bytes → List Change
+  perhaps x s b bs =
+      cond x (changeAt after s b ∷ changesFrom from to after (s + held b) bs) (changesFrom from to after (s + held b) bs)
+
+  -- the new versions are the records of the table
+  versions-are : (s : ℕ) (bs : List Bytes) → NewRecords from to after s bs (map newVersion (changesFrom from to after s bs))
+  unfolding changesFrom newVersion
+  versions-are s [] = no-more
+  versions-are s (b ∷ bs) = go (holdsByte from to s (held b)) refl (versions-are (s + held b) bs)
+    where
+      go : (x : Bool) → holdsByte from to s (held b) ≡ x
+          → NewRecords from to after (s + held b) bs (map newVersion (changesFrom from to after (s + held b) bs))
+          → NewRecords from to after s (b ∷ bs) (map newVersion (perhaps x s b bs))
+      go true e ih = one-for (holds-true from to s (held b) e) ih
+      go false e ih = none-for (holds-false from to s (held b) e) ih
+
+  -- and there are no others
+  versions-only : {s : ℕ} {bs ws : List Bytes} → NewRecords from to after s bs ws → ws ≡ map newVersion (changesFrom from to after s bs)
+  unfolding changesFrom newVersion
+  versions-only no-more = refl
+  versions-only {s} (none-for {b = b} {bs = bs} {ws = ws} h t) = go (holdsByte from to s (held b)) refl (versions-only t)
+    where
+      go : (x : Bool) → holdsByte from to s (held b) ≡ x → ws ≡ map newVersion (changesFrom from to after (s + held b) bs)
+          → ws ≡ map newVersion (perhaps x s b bs)
+      go true e ih = absurd (h (holds-true from to s (held b) e))
+      go false e ih = ih
+  versions-only {s} (one-for {b = b} {bs = bs} {ws = ws} h t) = go (holdsByte from to s (held b)) refl (versions-only t)
+    where
+      go : (x : Bool) → holdsByte from to s (held b) ≡ x → ws ≡ map newVersion (changesFrom from to after (s + held b) bs)
+          → newVersion (changeAt after s b) ∷ ws ≡ map newVersion (perhaps x s b bs)
+      go true e ih = ap (λ (l : List Bytes). newVersion (changeAt after s b) ∷ l) ih
+      go false e ih = absurd (holds-false from to s (held b) e h)
+
 -- 16: "such a block at sequence" q
 block-means : (bs : List Bytes) (offset : ℕ) (text : Bytes) (q : ℕ)
     → Means (isAmong q (sequencesOf (changes bs offset text))) ((b : Bytes) × Touched bs offset (length text) b × (recordSequence b ≡ q))
@@ -114,3 +148,15 @@ touched-means o offset text q w =
       (λ e. (blocksIn o, w, m .0 e)),
       (λ e p. m .1 e (rw (same-blocks o (p .0) (p .1)) (p .2))),
     )
+
+-- 15: the records of the table, where the new versions have a property
+pub versions-mean : (o : Option (List Bytes)) (offset : ℕ) (text : Bytes) (x : Bool) (P : List Bytes → Type 0) → o ≡ some (blocksIn o)
+    → Means x (P (map newVersion (changes (blocksIn o) offset text)))
+    → Means x ((bs ws : List Bytes) × (o ≡ some bs) × NewRecords offset (offset + length text) (put (textOf byBytes bs) offset text) 0 bs ws × P ws)
+unfolding changes
+versions-mean o offset text x P w m = (
+  (λ e. (blocksIn o, _, w, versions-are offset (offset + length text) (textAfter (blocksIn o) offset text) 0 (blocksIn o), m .0 e)),
+  (λ e p.
+      let q = versions-only offset (offset + length text) (put (textOf byBytes (p .0)) offset text) (p .3) in
+      m .1 e (rw (same-blocks o (p .0) (p .2), ← q) (p .4))),
+)
