@@ -1,4 +1,5 @@
 // Parts of an image compared.
+#![tactic(auto)]
 ghost use Rattle.std.specs.Prelude.{◌≡◌};
 ghost use Rattle.volume.specs.Lists.{same};
 

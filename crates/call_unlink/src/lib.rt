@@ -1,4 +1,5 @@
 // Unlink over a mounted volume: a deletion record for what a path leads to.
+#![tactic(auto)]
 ghost use Rattle.std.specs.Prelude.{◌≡◌, List};
 ghost use Rattle.calls.specs.Unlink.{unlink_of, image_unlinked};
 ghost use Rattle.calls.specs.declared.Descriptor.{Descriptor};

@@ -1,4 +1,5 @@
 // The limits, the numbers of refusal and the answers of the calls, as constants and types; what each call answers is defined in specs/.
+#![tactic(auto)]
 
 // The limits, of document 01 and by T-06: areas of a list, places of the tables, the shortest area, the largest image.
 pub const MOST_AREAS: usize = 16;

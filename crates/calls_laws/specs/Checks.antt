@@ -76,6 +76,7 @@ no_overlap a b t i u v = go (leb (area_end a) b.offset) refl t
 apart_in : (l : List Descriptor) → T (all_disjoint l) → (a b : Descriptor) → Memᴰ a l → Memᴰ b l
     → (i : ℕ) → InArea a i → InArea b i → a ≡ b
 unfolding all_disjoint
+apart_in mathlib.Core.List.[] t a b m _ i u v = elim m [ ]
 apart_in (d ∷ l) t a b (Memᴰ.head p) (Memᴰ.head q) i u v = p ∙ sym q
 apart_in (d ∷ l) t a b (Memᴰ.head p) (Memᴰ.tail n) i u v =
     let s = all_mem (disjoint d) l (and_T (all (disjoint d) l) (all_disjoint l) t).0 n in

@@ -43,6 +43,7 @@ unfolding records_in
 stored_mem image fs b s = go fs s.listed
   where
     go : (l : List Descriptor) → Memᴰ s.area l → Memᴰ b (records_in image l)
+    go [] m = elim m [ ]
     go (d ∷ l) (mathlib.Core.List.Memᴰ.head e) =
         let m : Memᴰ s.one (records_of image d) = rw e at s.taken_there in
         mathlib.Core.List.Memᴰ.append_left (records_in image l) (mathlib.Core.List.Memᴰ.cast (sym s.bytes_are) (mathlib.Core.List.Memᴰ.map (λ (p : Placed). p.bytes) m))

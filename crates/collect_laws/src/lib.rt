@@ -1,1 +1,2 @@
 // Theorems only, in specs/: what the code and the demands need of the copies of a collection.
+#![tactic(auto)]

@@ -151,6 +151,7 @@ fit_none n (u ∷ ss) e s m = go (leb (u.from + n) u.end) refl e (fit_none n ss)
 space_in : (image : Bytes) (fs : List Descriptor) (d : Descriptor) → Memᴰ d fs → area_clean record_size (area_bytes image d) ≡ true
     → Memᴰ (record { from = free_place image d; end = area_end d }) (spaces image fs)
 unfolding spaces
+space_in image [] d n c = elim n [ ]
 space_in image (e ∷ fs) d m c = go (area_clean record_size (area_bytes image e)) refl (space_in image fs d)
   where
     go : (b : Bool) → area_clean record_size (area_bytes image e) ≡ b

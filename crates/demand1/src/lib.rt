@@ -1,1 +1,2 @@
 // Theorems only, in specs/: by which numbers the calls answer, and which bytes they change.
+#![tactic(auto)]

@@ -144,6 +144,7 @@ blanked_other (l ∷ ls) image h d a =
 blanked_here : (ls : List Labelled) (image : Bytes) → ((l : Labelled) → Memᴰ l ls → InImage (length image) l) → Spread ls
     → (l : Labelled) → Memᴰ l ls → area_bytes (blanked image ls) l.area ≡ empty_area l.area.length 0 l.id
 unfolding blanked stamp
+blanked_here [] image h s l m = elim m [ ]
 blanked_here (m ∷ ls) image h s l k =
     ⊎_elim first (λ k. blanked_here ls (stamp image m) inside s.1 l k) (mathlib.Core.List.Memᴰ.cases_cons k)
   where

@@ -42,6 +42,7 @@ labelled_areas most n (d ∷ ds) = go (eqb d.length most) (labelled_areas most (
 -- the greatest length is that of some area, and no area is longer
 pub longest_bounds : (ds : List Descriptor) (d : Descriptor) → Memᴰ d ds → d.length ≤ longest_length ds
 unfolding longest_length
+longest_bounds [] d m = elim m [ ]
 longest_bounds (e ∷ ds) d (Memᴰ.head q) = rw q (omega arith)
 longest_bounds (e ∷ ds) d (Memᴰ.tail m) = let h = longest_bounds ds d m in omega arith
 

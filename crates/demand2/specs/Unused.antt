@@ -31,6 +31,7 @@ pub record Unused (v : Volume Bytes) (i : ℕ) : Type 0 where
 
 by_inodes : (rs : List Bytes) (r : Bytes) → Memᴰ r rs → Memᴰ (record_id r) (named_by_inodes rs) × Memᴰ (record_link r) (named_by_inodes rs)
 unfolding named_by_inodes
+by_inodes [] r m = elim m [ ]
 by_inodes (s ∷ rs) r (Memᴰ.head e) = (Memᴰ.head (ap record_id e), Memᴰ.tail (Memᴰ.head (ap record_link e)))
 by_inodes (s ∷ rs) r (Memᴰ.tail m) =
     let h = by_inodes rs r m in
@@ -39,6 +40,7 @@ by_inodes (s ∷ rs) r (Memᴰ.tail m) =
 by_blocks : (rs : List Bytes) (r : Bytes) → Memᴰ r rs
     → Memᴰ (record_id r) (named_by_blocks rs) × Memᴰ (record_link r) (named_by_blocks rs) × Memᴰ (block_previous r) (named_by_blocks rs)
 unfolding named_by_blocks
+by_blocks [] r m = elim m [ ]
 by_blocks (s ∷ rs) r (Memᴰ.head e) = (
   Memᴰ.head (ap record_id e),
   Memᴰ.tail (Memᴰ.head (ap record_link e)),

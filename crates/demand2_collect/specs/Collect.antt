@@ -70,6 +70,7 @@ once_long (x ∷ l) h =
 -- a list of areas of which no two have one label
 module _ (f : Descriptor → ℕ) where
   pub labels_differ : (fs : List Descriptor) → Nodup (map f fs) → (d e : Descriptor) → Memᴰ d fs → Memᴰ e fs → f d ≡ f e → d ≡ e
+  labels_differ [] n d e m _ z = elim m [ ]
   labels_differ (x ∷ fs) n d e (mathlib.Core.List.Memᴰ.head p) (mathlib.Core.List.Memᴰ.head q) z = p ∙ sym q
   labels_differ (x ∷ fs) n d e (mathlib.Core.List.Memᴰ.head p) (mathlib.Core.List.Memᴰ.tail k) z = absurd (n.0 (mathlib.Core.List.Memᴰ.cast (ap f (sym p) ∙ z) (mathlib.Core.List.Memᴰ.map f k)))
   labels_differ (x ∷ fs) n d e (mathlib.Core.List.Memᴰ.tail m) (mathlib.Core.List.Memᴰ.head q) z = absurd (n.0 (mathlib.Core.List.Memᴰ.cast (ap f (sym q) ∙ sym z) (mathlib.Core.List.Memᴰ.map f m)))

@@ -10,6 +10,7 @@ use Rattle.format_laws.specs.Crc.{Octets}
 use Rattle.format_laws.specs.Encoding.{octets_none, octets_cons}
 
 pub octet : (l : Bytes) → Octets l → {x : ℕ} → Memᴰ x l → x < 256
+octet [] o m = elim m [ ]
 octet (y ∷ l) o (Memᴰ.head e) = rw e (o.at 0 (omega arith))
 octet (y ∷ l) o (Memᴰ.tail m) = octet l (record { at = λ i h. o.at (suc i) (omega arith) }) m
 

@@ -1,1 +1,2 @@
 // Theorems only, in specs/: the cases that document 01 marks (P).
+#![tactic(auto)]

@@ -1,1 +1,2 @@
 // Theorems only, in specs/: what bytes put into an image make of it.
+#![tactic(auto)]

@@ -88,6 +88,7 @@ spaces_one zero m = Memᴰ.not-nil m
 spaces_one (suc n) m = ⊎_elim (λ e. omega (arith, e)) (spaces_one n) (Memᴰ.cases_cons m)
 
 printed_one : (l m : Bytes) → PrintedAs l m → OneLine m
+printed_one (_ ∷ _) [] m n = elim m [ ]
 printed_one [] [] nothing n = Memᴰ.not-nil n
 printed_one l (b ∷ m) (newline {l = k} p) n = ⊎_elim (λ e. omega (arith, e)) (printed_one k m p) (Memᴰ.cases_cons n)
 printed_one l (b ∷ m) (other {l = k} q p) n = ⊎_elim (λ e. q (sym e)) (printed_one k m p) (Memᴰ.cases_cons n)

@@ -1,1 +1,2 @@
 // Definitions only, in specs/: what the records of a volume mean.
+#![tactic(auto)]

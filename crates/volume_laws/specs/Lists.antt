@@ -82,6 +82,7 @@ module _ {A : Type 0} where
 
   pub mem_keep : (f : A → Bool) (l : List A) {a : A} → Memᴰ a l → T (f a) → Memᴰ a (keep f l)
   unfolding keep
+  mem_keep f [] {a = a} m t = elim m [ ]
   mem_keep f (b ∷ l) (Memᴰ.head e) t = rw (T→true {b = f b} (rw e at t)) (Memᴰ.head e)
   mem_keep f (b ∷ l) {a} (Memᴰ.tail m) t = go (f b) (mem_keep f l m t)
     where
@@ -146,6 +147,7 @@ module _ {A : Type 0} where
   -- `all` by members
   pub all_mem : (f : A → Bool) (l : List A) → T (all f l) → {a : A} → Memᴰ a l → T (f a)
   unfolding all
+  all_mem f [] t {a = a} m = elim m [ ]
   all_mem f (b ∷ l) t (Memᴰ.head e) = rw e (and_T (f b) (all f l) t).0
   all_mem f (b ∷ l) t (Memᴰ.tail m) = all_mem f l (and_T (f b) (all f l) t).1 m
 
@@ -184,6 +186,7 @@ module _ {A B : Type 0} (f : A → List B) where
 
   pub mem_joined : (l : List A) {a : A} {x : B} → Memᴰ a l → Memᴰ x (f a) → Memᴰ x (joined f l)
   unfolding joined
+  mem_joined [] {a = a} {x = x} m n = elim m [ ]
   mem_joined (b ∷ l) {a} {x} (Memᴰ.head e) n = let k : Memᴰ x (f b) = rw e at n in Memᴰ.append_left (joined f l) k
   mem_joined (b ∷ l) (Memᴰ.tail m) n = Memᴰ.append_right (f b) (mem_joined l m n)
 

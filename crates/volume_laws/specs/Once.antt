@@ -56,6 +56,7 @@ once_mem (y ∷ l) (Memᴰ.tail m) = Memᴰ.tail (once_mem l (keep_mem _ (once l
 
 pub mem_once : (l : List ℕ) (x : ℕ) → Memᴰ x l → Memᴰ x (once l)
 unfolding once
+mem_once [] x m = elim m [ ]
 mem_once (y ∷ l) x (Memᴰ.head e) = Memᴰ.head e
 mem_once (y ∷ l) x (Memᴰ.tail m) = go (eqb x y) refl (mem_once l x m)
   where
@@ -65,6 +66,7 @@ mem_once (y ∷ l) x (Memᴰ.tail m) = go (eqb x y) refl (mem_once l x m)
 
 one_less : (x : ℕ) (l : List ℕ) → Memᴰ x l → length (keep (λ y. not (eqb y x)) l) < length l
 unfolding keep
+one_less x [] m = elim m [ ]
 one_less x (y ∷ l) (Memᴰ.head e) =
     let q : eqb y x ≡ true = rw (sym e) (eqb_self x) in
     let s = keep_shorter (λ z. not (eqb z x)) l in

@@ -194,6 +194,7 @@ module _ {A : Type 0} (before : A → A → Bool) where
 
   pub mem_sort : (l : List A) {b : A} → Memᴰ b l → Memᴰ b (sort before l)
   unfolding sort
+  mem_sort [] {b = b} m = elim m [ ]
   mem_sort (a ∷ l) (Memᴰ.head e) = mem_insert a (sort before l) (Memᴰ.head e)
   mem_sort (a ∷ l) (Memᴰ.tail m) = mem_insert a (sort before l) (Memᴰ.tail (mem_sort l m))
 
