@@ -25,7 +25,7 @@ loop-again c =
     let s = l.before.before.args.s.now in
     let o : Octets s = record { at = λ i h. (l.before.shared-slice-known.given i).fits } in
     erased_sixty_four s o l.loop.i n.loop-test.true
-    (ap₂ ◌&&◌ (sym t.before.erased_thirty_two_lem.ensures) (sym t.erased-thirty-two2.ensures) ∙ c.if1.true) l.loop.invariant
+    (ap₂ ◌&&◌ (sym t.before.erased_thirty_two.ensures) (sym t.erased-thirty-two2.ensures) ∙ c.if1.true) l.loop.invariant
 
 pub erased_from_spec : {M : Type 1} → statement M
 erased_from_spec =

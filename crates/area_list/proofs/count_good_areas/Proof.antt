@@ -29,13 +29,13 @@ returns-4 : tie.Need-returns-4
 returns-4 c =
     let g = c.before in
     let e = g.before.before in
-    list_bad _ _ _ (counted g).count-areas.ensures e.before.if2.false e.if3.false (rw (front g) at (via g.good_areas_lem.ensures c.if4.false))
+    list_bad _ _ _ (counted g).count-areas.ensures e.before.if2.false e.if3.false (rw (front g) at (via g.good_areas.ensures c.if4.false))
 
 returns-5 : tie.Need-returns-5
 returns-5 c =
     let g = c.before in
     let e = g.before.before in
-    list_good _ _ _ (counted g).count-areas.ensures e.before.if2.false e.if3.false (rw (front g) at (via g.good_areas_lem.ensures c.if4.true))
+    list_good _ _ _ (counted g).count-areas.ensures e.before.if2.false e.if3.false (rw (front g) at (via g.good_areas.ensures c.if4.true))
     (counted g).before.if1.false
 
 pub count_good_areas_spec : {M : Type 1} → statement M

@@ -10,27 +10,27 @@ use Rattle.crc_laws.specs.Bytes.{four_steps}
 use Rattle.byte_crc16.proofs.four_a_turn.Statement.{statement}
 use Rattle.byte_crc16.proofs.four_a_turn.Tie as tie
 
-abbrev invariant-loop : tie.invariant-loop
+abbrev invariant-loop : tie.invariant-loop-i
 invariant-loop high low start s r₀ i₀ r i = (i ≤ length s) × (crc_over r (drop i s) ≡ crc_over start s)
 
-abbrev decreases-loop : tie.decreases-loop
+abbrev decreases-loop : tie.decreases-loop-i
 decreases-loop high low start s r₀ i₀ r i = length s - i
 
-loop-holds : tie.Need-loop-init invariant-loop decreases-loop
+loop-holds : tie.Need-loop-i-init invariant-loop decreases-loop
 loop-holds c = (omega arith, refl)
 
-loop-again : tie.Need-loop-preserved invariant-loop decreases-loop
+loop-again : tie.Need-loop-i-preserved invariant-loop decreases-loop
 loop-again c =
     let l = c.before.before.before.before.before.before in
     let s = l.before.before.before.before.args.s.now in
-    let more : l.loop.i + 3 < length s = c.before.before.before.before.before.loop-test.true in
-    (omega arith, rw c.four.ensures (sym (four_steps l.loop.r s l.loop.i more) ∙ l.loop.invariant.1))
+    let more : l.loop-i.i + 3 < length s = c.before.before.before.before.before.loop-i-test.true in
+    (omega arith, rw c.four-r.ensures (sym (four_steps l.loop-i.r s l.loop-i.i more) ∙ l.loop-i.invariant.1))
 
 returns : tie.Need-returns invariant-loop decreases-loop
 returns c =
     let l = c.before.before.before in
     let s = l.before.before.before.before.args.s.now in
-    c.two-a-turn.ensures ∙ ap (crc_over l.loop.r) (rest_part s l.loop.i) ∙ l.loop.invariant.1
+    c.two_a_turn.ensures ∙ ap (crc_over l.loop-i.r) (rest_part s l.loop-i.i) ∙ l.loop-i.invariant.1
 
 pub four_a_turn_spec : {M : Type 1} → statement M
 four_a_turn_spec =

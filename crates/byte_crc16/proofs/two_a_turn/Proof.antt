@@ -10,36 +10,36 @@ use Rattle.crc_laws.specs.Bytes.{two_steps}
 use Rattle.byte_crc16.proofs.two_a_turn.Statement.{statement}
 use Rattle.byte_crc16.proofs.two_a_turn.Tie as tie
 
-abbrev invariant-loop : tie.invariant-loop
+abbrev invariant-loop : tie.invariant-loop-i
 invariant-loop start s r₀ i₀ r i = (i ≤ length s) × (crc_over r (drop i s) ≡ crc_over start s)
 
-abbrev decreases-loop : tie.decreases-loop
+abbrev decreases-loop : tie.decreases-loop-i
 decreases-loop start s r₀ i₀ r i = length s - i
 
-loop-holds : tie.Need-loop-init invariant-loop decreases-loop
+loop-holds : tie.Need-loop-i-init invariant-loop decreases-loop
 loop-holds c = (omega arith, refl)
 
-loop-again : tie.Need-loop-preserved invariant-loop decreases-loop
+loop-again : tie.Need-loop-i-preserved invariant-loop decreases-loop
 loop-again c =
     let l = c.before.before.before.before in
     let s = l.before.before.args.s.now in
-    let more : l.loop.i + 1 < length s = c.before.before.before.loop-test.true in
-    (omega arith, rw c.two.ensures (sym (two_steps l.loop.r s l.loop.i more) ∙ l.loop.invariant.1))
+    let more : l.loop-i.i + 1 < length s = c.before.before.before.loop-i-test.true in
+    (omega arith, rw c.two-r.ensures (sym (two_steps l.loop-i.r s l.loop-i.i more) ∙ l.loop-i.invariant.1))
 
-returns : tie.Need-returns invariant-loop decreases-loop
+returns : tie.Need-returns-then-i-s invariant-loop decreases-loop
 returns c =
     let l = c.before.before.before.before in
     let s = l.before.before.args.s.now in
-    let last : l.loop.i < length s = search rules in
-    let none : length s ≤ l.loop.i + 1 = c.before.before.before.loop-test.false in
+    let last : l.loop-i.i < length s = search rules in
+    let none : length s ≤ l.loop-i.i + 1 = c.before.before.before.loop-i-test.false in
     rw c.one.ensures
-    (sym (crc_end _ s (l.loop.i + 1) none) ∙ sym (crc_step l.loop.r s l.loop.i last) ∙ l.loop.invariant.1)
+    (sym (crc_end _ s (l.loop-i.i + 1) none) ∙ sym (crc_step l.loop-i.r s l.loop-i.i last) ∙ l.loop-i.invariant.1)
 
-returns-2 : tie.Need-returns-2 invariant-loop decreases-loop
+returns-2 : tie.Need-returns invariant-loop decreases-loop
 returns-2 c =
     let l = c.before.before in
     let s = l.before.before.args.s.now in
-    sym (crc_end l.loop.r s l.loop.i c.if1.false) ∙ l.loop.invariant.1
+    sym (crc_end l.loop-i.r s l.loop-i.i c.if-i-s.false) ∙ l.loop-i.invariant.1
 
 pub two_a_turn_spec : {M : Type 1} → statement M
 two_a_turn_spec =

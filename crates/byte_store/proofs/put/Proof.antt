@@ -7,19 +7,19 @@ use Rattle.byte_store.specs.Storing.{Storing, storing_begins, storing_step, stor
 use Rattle.byte_store.proofs.put.Statement.{statement}
 use Rattle.byte_store.proofs.put.Tie as tie
 
-abbrev invariant-loop : tie.invariant-loop
+abbrev invariant-loop : tie.invariant-loop-i
 invariant-loop image₀ at b i₀ image i = Storing image₀ at b i image
 
-abbrev decreases-loop : tie.decreases-loop
+abbrev decreases-loop : tie.decreases-loop-i
 decreases-loop image₀ at b i₀ image i = length b - i
 
-loop-again : tie.Need-loop-preserved invariant-loop decreases-loop
+loop-again : tie.Need-loop-i-preserved invariant-loop decreases-loop
 loop-again c =
     let l = c.before.before in
-    storing_step _ _ _ _ _ l.loop.invariant l.before.requires _ c.before.loop-test.true refl
+    storing_step _ _ _ _ _ l.loop-i.invariant l.before.requires _ c.before.loop-i-test.true refl
 
 returns : tie.Need-returns invariant-loop decreases-loop
-returns c = storing_ends _ _ _ _ _ c.before.loop.invariant c.before.before.requires c.loop-test.false
+returns c = storing_ends _ _ _ _ _ c.before.loop-i.invariant c.before.before.requires c.loop-i-test.false
 
 pub put_spec : {M : Type 1} → statement M
 put_spec =
@@ -34,5 +34,5 @@ put_spec =
     (λ c. omega arith)
     (λ c. omega arith)
     loop-again
-    (λ c. c.before.loop.invariant.long)
+    (λ c. c.before.loop-i.invariant.long)
     returns)

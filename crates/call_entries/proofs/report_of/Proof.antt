@@ -13,7 +13,7 @@ abbrev start : tie.After-mount → tie.Start
 start m = m.before.before.before.before.before.before.before
 
 returns : tie.Need-returns
-returns c = let t = c.before in report_refused (at-mount t.before).mount.ensures t.if1.true c.refused_report_lem.result c.refused_report_lem.ensures
+returns c = let t = c.before in report_refused (at-mount t.before).mount.ensures t.if1.true c.refused_report.result c.refused_report.ensures
 
 report-mounted-requires : tie.Need-report-mounted-requires
 report-mounted-requires c κs = let e = c.before in (at-mount e.before).mount.ensures.safe e.if1.false

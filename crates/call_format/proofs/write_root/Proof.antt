@@ -14,17 +14,17 @@ start f = f.before.before.before.before
 
 -- the first file area is in the list, and has room for the root
 record Place (f : tie.After-first-file) : Type 0 where
-  within : f.first_file_lem.result * 2 < length (start f).args.pairs.now
-  few : f.first_file_lem.result ≤ 1
-  room : get_or (start f).args.pairs.now (f.first_file_lem.result * 2) 0 + shortest_area ≤ length (start f).args.image.now
+  within : f.first_file.result * 2 < length (start f).args.pairs.now
+  few : f.first_file.result ≤ 1
+  room : get_or (start f).args.pairs.now (f.first_file.result * 2) 0 + shortest_area ≤ length (start f).args.image.now
   small : length (start f).args.image.now ≤ largest_image
 
 place : (f : tie.After-first-file) → Place f
 place f =
     let s = start f in
-    let e = f.first_file_lem.ensures in
+    let e = f.first_file.ensures in
     let m = first_small (get_or s.args.pairs.now 1 0) s.args.most in
-    let k = lent_fits s.pre.0 f.first_file_lem.result (omega (arith, s.pre.1)) in
+    let k = lent_fits s.pre.0 f.first_file.result (omega (arith, s.pre.1)) in
     let a = k.long in
     let b = k.inside in
     record { within = omega (arith, s.pre.1); few = omega arith; room = omega arith; small = s.pre.0.small }
@@ -53,7 +53,7 @@ returns c =
     let f = w.before.before.before.before in
     let s = start f in
     w.write-inode.ensures
-    ∙ rw f.first_file_lem.ensures
+    ∙ rw f.first_file.ensures
     (root_put s.args.image.now s.args.pairs.now s.args.most s.pre.1)
 
 pub write_root_spec : {M : Type 1} → statement M

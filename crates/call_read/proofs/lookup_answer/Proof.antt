@@ -24,7 +24,7 @@ returns-2 c =
     let n = c.before in
     let k = n.before.before in
     c.looked-up2.ensures
-    ∙ lookup_found (meaning k.before.before.args.found) k.found.given.0.0 (ap meaning k.found.given.1) n.kind_number_lem.result (n.kind_number_lem.ensures ∙ ap (λ (d : Bool). cond d 0 1) (kind k))
+    ∙ lookup_found (meaning k.before.before.args.found) k.found.given.0.0 (ap meaning k.found.given.1) n.kind_number.result (n.kind_number.ensures ∙ ap (λ (d : Bool). cond d 0 1) (kind k))
 
 pub lookup_answer_spec : {M : Type 1} → statement M
 lookup_answer_spec =

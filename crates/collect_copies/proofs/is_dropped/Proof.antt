@@ -18,11 +18,11 @@ start d = d.before.before.before.before.before.before.before
 
 -- what was answered of the fate
 told : (d : tie.After-is-dead) → let a = (start d).args in
-    d.is_dead_lem.result ≡ is_dead (fate_by (by_place a.image.now) (length a.ids.now) a.ids.now a.spots.now (bearer a.image.now a.p))
+    d.is_dead.result ≡ is_dead (fate_by (by_place a.image.now) (length a.ids.now) a.ids.now a.spots.now (bearer a.image.now a.p))
 told d =
     let a = (start d).args in
     let f = d.before in
-    d.is_dead_lem.ensures
+    d.is_dead.ensures
     ∙ ap is_dead (f.fate-of.ensures ∙ ap (fate_by (by_place a.image.now) (length a.ids.now) a.ids.now a.spots.now) f.before.bearer.ensures)
 
 returns : tie.Need-returns

@@ -53,11 +53,11 @@ passes c = sym c.before.is-copied.ensures ∙ c.if1.true
 
 -- what was answered of its bytes
 asked : (w : tie.After-is-new invariant-loop decreases-loop) → let t = turn w.before.before.before.before in
-    w.is_new_lem.result ≡ none_same (start t.before).args.image.now (take t.before.loop.k t.before.loop.copies) (here t)
+    w.is_new.result ≡ none_same (start t.before).args.image.now (take t.before.loop.k t.before.loop.copies) (here t)
 asked w =
     let t = turn w.before.before.before.before in
     let l = t.before in
-    w.is_new_lem.ensures ∙ ap (λ (x : List ℕ). none_same (start l).args.image.now x (here t)) (lent_front l.loop.k l.loop.copies)
+    w.is_new.ensures ∙ ap (λ (x : List ℕ). none_same (start l).args.image.now x (here t)) (lent_front l.loop.k l.loop.copies)
 
 -- and is new
 is-first : (c : tie.Then2 invariant-loop decreases-loop) → let t = turn c.before.before.before.before.before in

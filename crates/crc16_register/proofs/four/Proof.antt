@@ -11,7 +11,7 @@ returns c =
       c.before.before.later.ensures,
       c.before.before.before.pair.ensures,
       c.remainder.ensures,
-      c.before.pair2.ensures,
+      c.before.pair-2.ensures,
       four_bytes a.r a.b a.c a.d a.e (search rules) (search rules) (search rules) (search rules) (search rules),
     )
 

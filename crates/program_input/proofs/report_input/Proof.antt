@@ -9,7 +9,7 @@ use Rattle.program_input.proofs.report_input.Tie as tie
 returns : tie.Need-returns
 returns c =
     let t = c.before in
-    c.refused_report_lem.ensures ∙ with_rest t.before.before.args.input.now t.if1.true
+    c.refused_report.ensures ∙ with_rest t.before.before.args.input.now t.if1.true
 
 returns-2 : tie.Need-returns-2
 returns-2 c =

@@ -15,9 +15,9 @@ octets : (k : tie.After-shared-slice-known3) → Octets k.before.before.before.a
 octets k = record { at = λ i h. (k.shared-slice-known3.given i).fits }
 
 -- the one place is among the four
-near : (s : tie.After-start-of) → s.start_of_lem.result < 4
+near : (s : tie.After-start-of) → s.start_of.result < 4
 unfolding in_magic
-near s = rw s.start_of_lem.ensures (ltb-true _ _ (via s.before.before.marked.ensures s.before.if1.true))
+near s = rw s.start_of.ensures (ltb-true _ _ (via s.before.before.marked.ensures s.before.if1.true))
 
 add-magic-at : tie.Need-overflow-add-magic-at
 add-magic-at c = let n = near c in let p = c.before.before.before.before.before.before.requires in omega (arith, n, p)
@@ -31,7 +31,7 @@ returns c =
     let k = i.before.before.before in
     let s = k.before.before.before in
     let n = near i in
-    (omega (arith, n), before_start s.args.area.now (octets k) s.args.at _ i.start_of_lem.ensures n)
+    (omega (arith, n), before_start s.args.area.now (octets k) s.args.at _ i.start_of.ensures n)
 
 returns-2 : tie.Need-returns-2
 returns-2 c =
@@ -39,7 +39,7 @@ returns-2 c =
     let k = i.before.before.before in
     let s = k.before.before.before in
     let m = via c.before.magic-at.ensures c.if2.false in
-    (omega arith, none_in_four s.args.area.now (octets k) s.args.at _ i.start_of_lem.ensures m)
+    (omega arith, none_in_four s.args.area.now (octets k) s.args.at _ i.start_of.ensures m)
 
 returns-3 : tie.Need-returns-3
 returns-3 c =

@@ -6,7 +6,7 @@ use borrow.Author.Rules.{rules}
 use Rattle.record_read.proofs.check_right.Statement.{statement}
 use Rattle.record_read.proofs.check_right.Tie as tie
 
-slice-aggregate-check-by : tie.Need-slice-aggregate-check-by
+slice-aggregate-check-by : tie.Need-slice_bounds-check_by-end
 slice-aggregate-check-by c = simp length-take (omega arith)
 
 returns : tie.Need-returns

@@ -9,20 +9,20 @@ use borrow.Author.Rules.{rules}
 use Rattle.record_read.proofs.inode_rules.Statement.{statement}
 use Rattle.record_read.proofs.inode_rules.Tie as tie
 
-returns : tie.Need-returns
+returns : tie.Need-returns-then-b-ne0
 unfolding inode_rules
-returns c = simp (ne_eqb _ _ c.if1.true)
+returns c = simp (ne_eqb _ _ c.if-b-ne0.true)
 
-returns-2 : tie.Need-returns-2
+returns-2 : tie.Need-returns-else-rule
 unfolding inode_rules
 returns-2 c =
     let r = c.before in
     let l = r.before in
     let z = l.before in
     let e = r.rule.ensures ∙ inode_rule_of l.load.result z.before.before.before.args.b.now l.load.ensures in
-    simp (eq-eqb _ _ z.if1.false, via e c.if2.false)
+    simp (eq-eqb _ _ z.if-b-ne0.false, via e c.if-rule.false)
 
-returns-3 : tie.Need-returns-3
+returns-3 : tie.Need-returns
 unfolding inode_rules
 returns-3 c =
     let t = c.before.before in
@@ -31,7 +31,7 @@ returns-3 c =
     let z = l.before in
     let b = z.before.before.before.args.b.now in
     let e = r.rule.ensures ∙ inode_rule_of l.load.result b l.load.ensures in
-    simp (eq-eqb _ _ z.if1.false, via e t.if2.true) (rw (rest_part b 20) at c.name_good_lem.ensures)
+    simp (eq-eqb _ _ z.if-b-ne0.false, via e t.if-rule.true) (rw (rest_part b 20) at c.name_good.ensures)
 
 pub inode_rules_spec : {M : Type 1} → statement M
 inode_rules_spec =

@@ -4,11 +4,11 @@ use Rattle.format.specs.Ids.{is_file_id}
 use Rattle.record_read.proofs.is_file_id.Statement.{statement}
 use Rattle.record_read.proofs.is_file_id.Tie as tie
 
-returns : tie.Need-returns
+returns : tie.Need-returns-then-id-ge-FIRST_FILE_ID
 unfolding is_file_id
 returns c = search tests
 
-returns-2 : tie.Need-returns-2
+returns-2 : tie.Need-returns-else-id-ge-FIRST_FILE_ID
 unfolding is_file_id
 returns-2 c = search tests
 

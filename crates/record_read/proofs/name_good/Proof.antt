@@ -9,38 +9,38 @@ use Rattle.format_laws.specs.Tests.{name_nul, name_slash, name_next, name_end}
 use Rattle.record_read.proofs.name_good.Statement.{statement}
 use Rattle.record_read.proofs.name_good.Tie as tie
 
-abbrev invariant-loop : tie.invariant-loop
+abbrev invariant-loop : tie.invariant-loop-i
 invariant-loop s i₀ i = (i ≤ length s) × (name_good (drop i s) ≡ name_good s)
 
-abbrev decreases-loop : tie.decreases-loop
+abbrev decreases-loop : tie.decreases-loop-i
 decreases-loop s i₀ i = length s - i
 
-loop-holds : tie.Need-loop-init invariant-loop decreases-loop
+loop-holds : tie.Need-loop-i-init invariant-loop decreases-loop
 loop-holds c = (omega arith, refl)
 
-returns : tie.Need-returns invariant-loop decreases-loop
+returns : tie.Need-returns-then-b-eq0 invariant-loop decreases-loop
 returns c =
     let l = c.before.before.before in
     let s = l.before.args.s.now in
-    sym (name_nul s l.loop.i c.before.before.loop-test.true c.if1.true) ∙ l.loop.invariant.1
+    sym (name_nul s l.loop-i.i c.before.before.loop-i-test.true c.if-b-eq0.true) ∙ l.loop-i.invariant.1
 
-returns-2 : tie.Need-returns-2 invariant-loop decreases-loop
+returns-2 : tie.Need-returns-then-b-eq47 invariant-loop decreases-loop
 returns-2 c =
     let l = c.before.before.before.before in
     let s = l.before.args.s.now in
-    sym (name_slash s l.loop.i c.before.before.before.loop-test.true c.if2.true) ∙ l.loop.invariant.1
+    sym (name_slash s l.loop-i.i c.before.before.before.loop-i-test.true c.if-b-eq47.true) ∙ l.loop-i.invariant.1
 
-loop-again : tie.Need-loop-preserved invariant-loop decreases-loop
+loop-again : tie.Need-loop-i-preserved invariant-loop decreases-loop
 loop-again c =
     let l = c.before.before.before.before in
     let s = l.before.args.s.now in
-    (omega arith, sym (name_next s l.loop.i c.before.before.before.loop-test.true c.before.if1.false c.if2.false) ∙ l.loop.invariant.1)
+    (omega arith, sym (name_next s l.loop-i.i c.before.before.before.loop-i-test.true c.before.if-b-eq0.false c.if-b-eq47.false) ∙ l.loop-i.invariant.1)
 
-returns-3 : tie.Need-returns-3 invariant-loop decreases-loop
+returns-3 : tie.Need-returns invariant-loop decreases-loop
 returns-3 c =
     let l = c.before in
     let s = l.before.args.s.now in
-    sym (name_end s l.loop.i c.loop-test.false) ∙ l.loop.invariant.1
+    sym (name_end s l.loop-i.i c.loop-i-test.false) ∙ l.loop-i.invariant.1
 
 pub name_good_spec : {M : Type 1} → statement M
 name_good_spec =

@@ -6,17 +6,17 @@ use borrow.Author.Rules.{rules}
 use Rattle.record_read.proofs.previous_rule.Statement.{statement}
 use Rattle.record_read.proofs.previous_rule.Tie as tie
 
-returns : tie.Need-returns
+returns : tie.Need-returns-then-previous-eq-NONE
 unfolding previous_rule
 returns c = search tests
 
-returns-2 : tie.Need-returns-2
+returns-2 : tie.Need-returns-then-previous-id
 unfolding previous_rule
 returns-2 c = search tests
 
-returns-3 : tie.Need-returns-3
+returns-3 : tie.Need-returns
 unfolding previous_rule
-returns-3 c = simp (ne_eqb _ _ c.before.before.if1.false, ne_eqb _ _ c.before.if2.false) c.is-block-id.ensures
+returns-3 c = simp (ne_eqb _ _ c.before.before.if-previous-eq-NONE.false, ne_eqb _ _ c.before.if-previous-id.false) c.is_block_id.ensures
 
 pub previous_rule_spec : {M : Type 1} → statement M
 previous_rule_spec = tie.close (tie.spec returns returns-2 (λ c κs. search rules) returns-3)

@@ -4,14 +4,14 @@ use Rattle.format_laws.specs.Tests.{via}
 use Rattle.record_read.proofs.right_size.Statement.{statement}
 use Rattle.record_read.proofs.right_size.Tie as tie
 
-returns : tie.Need-returns
-returns c = simp c.if1.false
+returns : tie.Need-returns-else-lawful
+returns c = simp c.if-lawful.false
 
-returns-2 : tie.Need-returns-2
-returns-2 c = simp (c.before.before.if1.true, via c.before.check-right.ensures c.if2.true)
+returns-2 : tie.Need-returns-then-check_right
+returns-2 c = simp (c.before.before.if-lawful.true, via c.before.check_right.ensures c.if-check_right.true)
 
-returns-3 : tie.Need-returns-3
-returns-3 c = simp (c.before.before.if1.true, via c.before.check-right.ensures c.if2.false)
+returns-3 : tie.Need-returns
+returns-3 c = simp (c.before.before.if-lawful.true, via c.before.check_right.ensures c.if-check_right.false)
 
 pub right_size_spec : {M : Type 1} → statement M
 right_size_spec = tie.close (tie.spec returns (λ c κs. search rules) returns-2 returns-3)

@@ -7,8 +7,8 @@ use Rattle.table_index.specs.Index.{slots}
 use Rattle.table_index.proofs.before.Statement.{statement}
 use Rattle.table_index.proofs.before.Tie as tie
 
-cast-result : tie.Need-overflow-cast-result
-cast-result c = omega (arith, c.shared-slice-known.given (slots + c.before.args.item - 1))
+cast-result : tie.Need-overflow_cast-result
+cast-result c = omega (arith, c.shared_slice_known-1.given (slots + c.before.args.item - 1))
 
 pub before_spec : {M : Type 1} → statement M
 before_spec = tie.close (tie.spec (λ c. search rules) (λ c. search rules) (λ c. search rules) (λ c. search rules) cast-result (λ c. refl))

@@ -8,7 +8,7 @@ use Rattle.table_index.specs.Index.{slots, newest_of}
 use Rattle.table_index.proofs.put.Statement.{statement}
 use Rattle.table_index.proofs.put.Tie as tie
 
-slice-write-index-2 : tie.Need-slice-write-index-2
+slice-write-index-2 : tie.Need-bounds-index-slot-2
 slice-write-index-2 c =
     let a = c.before.args in
     omega (arith, length-set a.index.now (slots + a.item - 1) (newest_of a.index.now a.slot))

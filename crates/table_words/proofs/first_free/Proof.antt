@@ -10,27 +10,27 @@ use Rattle.table_words.proofs.Steps.{word_free, word_full, words_end}
 use Rattle.table_words.proofs.first_free.Statement.{statement}
 use Rattle.table_words.proofs.first_free.Tie as tie
 
-abbrev invariant-loop : tie.invariant-loop
+abbrev invariant-loop : tie.invariant-loop-i
 invariant-loop words i₀ i = (i ≤ length words) × (first_zero (bits words) ≡ i * 64 + first_zero (bits (drop i words)))
 
-abbrev decreases-loop : tie.decreases-loop
+abbrev decreases-loop : tie.decreases-loop-i
 decreases-loop words i₀ i = length words - i
 
-returns : tie.Need-returns invariant-loop decreases-loop
+returns : tie.Need-returns-then-place-lt-BITS invariant-loop decreases-loop
 returns c =
     let at = c.before.before.before.before in
-    let e = word_free at.loop.i at.before.before.args.words.now (omega arith) (omega arith) in
+    let e = word_free at.loop-i.i at.before.before.args.words.now (omega arith) (omega arith) in
     (omega arith, omega arith)
 
-loop-again : tie.Need-loop-preserved invariant-loop decreases-loop
+loop-again : tie.Need-loop-i-preserved invariant-loop decreases-loop
 loop-again c =
     let at = c.before.before.before.before in
-    omega (arith, word_full at.loop.i at.before.before.args.words.now (omega arith) (omega arith))
+    omega (arith, word_full at.loop-i.i at.before.before.args.words.now (omega arith) (omega arith))
 
-returns-2 : tie.Need-returns-2 invariant-loop decreases-loop
+returns-2 : tie.Need-returns invariant-loop decreases-loop
 unfolding position_of
 returns-2 c =
-    let e = ap first_zero (words_end c.before.loop.i c.before.before.before.args.words.now (omega arith)) in
+    let e = ap first_zero (words_end c.before.loop-i.i c.before.before.before.args.words.now (omega arith)) in
     (omega arith, omega arith)
 
 pub first_free_spec : {M : Type 1} → statement M

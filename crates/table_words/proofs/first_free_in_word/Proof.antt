@@ -5,7 +5,7 @@ use Rattle.table_words.proofs.Word.{trailing_not, trailing_small}
 use Rattle.table_words.proofs.first_free_in_word.Statement.{statement}
 use Rattle.table_words.proofs.first_free_in_word.Tie as tie
 
-cast-result : tie.Need-overflow-cast-result
+cast-result : tie.Need-overflow_cast-result
 cast-result c = search (rules, trailing_small)
 
 returns : tie.Need-returns

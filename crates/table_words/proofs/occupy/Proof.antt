@@ -10,7 +10,7 @@ use Rattle.table_words.proofs.occupy.Tie as tie
 returns : tie.Need-returns
 returns c =
     let a = c.before.before.before.args in
-    rw div-add-mod' at (word_set (a.place / 64) (a.place % 64) c.with-place.result a.words.now (omega arith) (omega arith) c.with-place.ensures)
+    rw div-add-mod' at (word_set (a.place / 64) (a.place % 64) c.with_place.result a.words.now (omega arith) (omega arith) c.with_place.ensures)
 
 pub occupy_spec : {M : Type 1} → statement M
 occupy_spec =

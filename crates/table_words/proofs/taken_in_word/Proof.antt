@@ -5,7 +5,7 @@ use Rattle.table_words.proofs.Word.{ones_total}
 use Rattle.table_words.proofs.taken_in_word.Statement.{statement}
 use Rattle.table_words.proofs.taken_in_word.Tie as tie
 
-cast-result : tie.Need-overflow-cast-result
+cast-result : tie.Need-overflow_cast-result
 cast-result c = omega (arith, ones-le 64 c.args.word c.ranges.word.fits)
 
 returns : tie.Need-returns

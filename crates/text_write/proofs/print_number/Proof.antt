@@ -12,17 +12,17 @@ use Rattle.text_write.proofs.print_number.Statement.{statement}
 use Rattle.text_write.proofs.print_number.Tie as tie
 
 -- the digits that were spelt, as they are lent
-lent : (c : tie.After-spell) → let d = c.spell.new.1.0 in take (10 - c.spell.result) (drop c.spell.result d) ≡ decimal c.before.before.before.args.n
+lent : (c : tie.After-spell-first) → let d = c.spell-first.new.1.0 in take (10 - c.spell-first.result) (drop c.spell-first.result d) ≡ decimal c.before.before.before.args.n
 lent c =
-    let d : Bytes = c.spell.new.1.0 in
-    let k : ℕ = c.spell.result in
-    take_all (10 - k) (drop k d) (omega (arith, length-drop k d, c.spell.auto.1.0)) ∙ c.spell.ensures.1
+    let d : Bytes = c.spell-first.new.1.0 in
+    let k : ℕ = c.spell-first.result in
+    take_all (10 - k) (drop k d) (omega (arith, length-drop k d, c.spell-first.auto.1.0)) ∙ c.spell-first.ensures.1
 
 print-requires : tie.Need-print-requires
 print-requires c κs =
     let s = c.before.before.before.before in
-    let d : Bytes = s.spell.new.1.0 in
-    let k : ℕ = s.spell.result in
+    let d : Bytes = s.spell-first.new.1.0 in
+    let k : ℕ = s.spell-first.result in
     omega (arith, length-take (10 - k) (drop k d), s.before.before.before.requires)
 
 returns : tie.Need-returns
@@ -37,7 +37,7 @@ print_number_spec =
     (tie.spec
     (λ c. search rules)
     (λ c κs. search rules)
-    (λ c. c.before.before.spell.ensures.0)
+    (λ c. c.before.before.spell-first.ensures.0)
     (λ c. search rules)
     (λ c. search rules)
     print-requires

@@ -8,21 +8,21 @@ use Rattle.text_write.specs.Digits.{Spelling, spelling_begins, spelling_step, sp
 use Rattle.text_write.proofs.spell.Statement.{statement}
 use Rattle.text_write.proofs.spell.Tie as tie
 
-abbrev invariant-loop : tie.invariant-loop
+abbrev invariant-loop : tie.invariant-loop-rest
 invariant-loop n digits₀ rest₀ at₀ digits rest at = Spelling n at rest digits
 
-abbrev decreases-loop : tie.decreases-loop
+abbrev decreases-loop : tie.decreases-loop-rest
 decreases-loop n digits₀ rest₀ at₀ digits rest at = at
 
-loop-again : tie.Need-loop-preserved invariant-loop decreases-loop
-loop-again c = spelling_step _ _ _ _ c.before.loop.invariant c.loop-test.true
+loop-again : tie.Need-loop-rest-preserved invariant-loop decreases-loop
+loop-again c = spelling_step _ _ _ _ c.before.loop-rest.invariant c.loop-rest-test.true
 
 returns : tie.Need-returns invariant-loop decreases-loop
-returns c = let i = c.before.loop.invariant in (omega (arith, i.within), spelling_ends _ _ _ _ i c.loop-test.false)
+returns c = let i = c.before.loop-rest.invariant in (omega (arith, i.within), spelling_ends _ _ _ _ i c.loop-rest-test.false)
 
 -- a digit is stored within the digits, and is a byte
-place : (c : tie.At-loop invariant-loop decreases-loop) → c.loop.at < length c.loop.digits
-place c = omega (arith, c.loop.invariant.within, c.loop.invariant.long)
+place : (c : tie.At-loop-rest invariant-loop decreases-loop) → c.loop-rest.at < length c.loop-rest.digits
+place c = omega (arith, c.loop-rest.invariant.within, c.loop-rest.invariant.long)
 
 last-digit : (n : ℕ) → n % 10 < 10
 last-digit n = mod-lt n (omega arith)
@@ -35,14 +35,14 @@ spell_spec =
     decreases-loop
     (λ c. omega arith)
     (λ c. spelling_begins _ _ (omega (arith, c.ranges.n.fits)) c.requires)
-    (λ c. record { fits = omega (arith, last-digit c.before.loop.rest) })
-    (λ c. record { fits = omega (arith, last-digit c.before.loop.rest) })
+    (λ c. record { fits = omega (arith, last-digit c.before.loop-rest.rest) })
+    (λ c. record { fits = omega (arith, last-digit c.before.loop-rest.rest) })
     (λ c. place c.before)
-    (λ c. spelling_room _ _ _ _ c.before.loop.invariant c.loop-test.true)
-    (λ c. let r = spelling_room _ _ _ _ c.before.loop.invariant c.loop-test.true in omega arith)
+    (λ c. spelling_room _ _ _ _ c.before.loop-rest.invariant c.loop-rest-test.true)
+    (λ c. let r = spelling_room _ _ _ _ c.before.loop-rest.invariant c.loop-rest-test.true in omega arith)
     loop-again
-    (λ c. record { fits = omega (arith, c.loop-test.false) })
-    (λ c. record { fits = omega (arith, c.loop-test.false) })
+    (λ c. record { fits = omega (arith, c.loop-rest-test.false) })
+    (λ c. record { fits = omega (arith, c.loop-rest-test.false) })
     (λ c. place c.before)
-    (λ c. length-set c.before.loop.digits c.before.loop.at (48 + c.before.loop.rest) ∙ c.before.loop.invariant.long ∙ sym c.before.before.requires)
+    (λ c. length-set c.before.loop-rest.digits c.before.loop-rest.at (48 + c.before.loop-rest.rest) ∙ c.before.loop-rest.invariant.long ∙ sym c.before.before.requires)
     returns)

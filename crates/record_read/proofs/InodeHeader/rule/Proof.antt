@@ -5,27 +5,27 @@ use Rattle.format.specs.Record.{inode_rule}
 use Rattle.record_read.proofs.InodeHeader.rule.Statement.{statement}
 use Rattle.record_read.proofs.InodeHeader.rule.Tie as tie
 
-returns : tie.Need-returns
+returns : tie.Need-returns-then-self-ge-FIRST_BLOCK_ID
 unfolding inode_rule is_inode_id is_directory_id
 returns c = search tests
 
-returns-2 : tie.Need-returns-2
+returns-2 : tie.Need-returns-then-self-eq-NONE
 unfolding inode_rule is_inode_id is_directory_id
 returns-2 c = search tests
 
-returns-3 : tie.Need-returns-3
+returns-3 : tie.Need-returns-else-self-eq-NONE
 unfolding inode_rule is_inode_id is_directory_id
 returns-3 c = search tests
 
-returns-4 : tie.Need-returns-4
+returns-4 : tie.Need-returns-then-self-eq-NONE-2
 unfolding inode_rule is_inode_id is_directory_id
 returns-4 c = search tests
 
-returns-5 : tie.Need-returns-5
+returns-5 : tie.Need-returns-then-self-lt-FIRST_FILE_ID
 unfolding inode_rule is_inode_id is_directory_id
 returns-5 c = search tests
 
-returns-6 : tie.Need-returns-6
+returns-6 : tie.Need-returns-else-self-lt-FIRST_FILE_ID
 unfolding inode_rule is_inode_id is_directory_id
 returns-6 c = search tests
 
