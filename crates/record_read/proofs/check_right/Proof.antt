@@ -11,8 +11,8 @@ slice-aggregate-check-by c = simp length-take (omega arith)
 
 returns : tie.Need-returns
 returns c =
-    let b = c.before.before.before.before.before.before.before.args.b.now in
-    cc (rest_part b c.before.before.before.before.before.before.before.args.size)
+    let b = c.args.b.now in
+    cc (rest_part b c.args.size)
 
 pub check_right_spec : {M : Type 1} → statement M
 check_right_spec =

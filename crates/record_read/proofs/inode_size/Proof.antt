@@ -10,20 +10,16 @@ use Rattle.record_read.proofs.inode_size.Tie as tie
 
 returns : tie.Need-returns-then-t-end
 returns c =
-    let s = start c.before in
-    no_room inode inode_lawful s.args.t.now _ s.requires.in_bounds.1 (omega arith) (only_inode s.args.t.now s.requires.in_bounds.1) c.if-t-end.true
+    no_room inode inode_lawful c.args.t.now _ c.requires.1.1 (omega arith) (only_inode c.args.t.now c.requires.1.1) c.if-t-end.true
 
 right-size-requires : tie.Need-right_size-requires
-right-size-requires c κs = ((start c.before.before.before.before).requires.0, simp length-take (omega arith))
+right-size-requires c κs = (c.requires.0, simp length-take (omega arith))
 
 returns-2 : tie.Need-returns
 unfolding check_right
 returns-2 c =
-    let r = c.before.before in
-    let x = r.before.before in
-    let s = start x.before in
-    size_decided inode inode_lawful s.args.t.now _ s.requires.in_bounds.1 (omega arith) (only_inode s.args.t.now s.requires.in_bounds.1) x.if-t-end.false
-    r.inode_rules.result r.inode_rules.ensures _ c.right_size.ensures
+    size_decided inode inode_lawful c.args.t.now _ c.requires.1.1 (omega arith) (only_inode c.args.t.now c.requires.1.1) c.if-t-end.false
+    c.inode_rules-lawful.result c.inode_rules-lawful.ensures _ c.right_size.ensures
 
 pub inode_size_spec : {M : Type 1} → statement M
 inode_size_spec =

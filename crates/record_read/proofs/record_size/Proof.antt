@@ -9,20 +9,16 @@ use Rattle.record_read.proofs.record_size.Statement.{statement}
 use Rattle.record_read.proofs.record_size.Tie as tie
 
 returns : tie.Need-returns-then-t-lt-SIZE
-returns c = sym (too_short c.before.before.before.before.args.t.now c.if-t-lt-SIZE.true)
+returns c = sym (too_short c.args.t.now c.if-t-lt-SIZE.true)
 
 returns-3 : tie.Need-returns-then-magic-ne-MAGIC
 returns-3 c =
-    let e = c.before in
-    let l = e.before in
-    sym (no_magic l.before.before.before.before.before.args.t.now (λ m. e.if-magic.false (l.load32-magic.ensures ∙ m)) (λ m. c.if-magic-ne-MAGIC.true (l.load32-magic.ensures ∙ m)))
+    sym (no_magic c.args.t.now (λ m. c.if-magic.false (c.load32-magic.ensures ∙ m)) (λ m. c.if-magic-ne-MAGIC.true (c.load32-magic.ensures ∙ m)))
 
 returns-4 : tie.Need-returns-then-t-lt-SIZE-2
 returns-4 c =
-    let e = c.before in
-    let l = e.before.before in
-    let t = l.before.before.before.before.before.args.t.now in
-    let m = via l.load32-magic.ensures e.if-magic-ne-MAGIC.false in
+    let t = c.args.t.now in
+    let m = via c.load32-magic.ensures c.if-magic-ne-MAGIC.false in
     sym (only_block t m ∙ rw (kind_short block t (omega arith)))
 
 pub record_size_spec : {M : Type 1} → statement M

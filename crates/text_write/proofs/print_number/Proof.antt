@@ -12,24 +12,21 @@ use Rattle.text_write.proofs.print_number.Statement.{statement}
 use Rattle.text_write.proofs.print_number.Tie as tie
 
 -- the digits that were spelt, as they are lent
-lent : (c : tie.After-spell-first) → let d = c.spell-first.new.1.0 in take (10 - c.spell-first.result) (drop c.spell-first.result d) ≡ decimal c.before.before.before.args.n
+lent : (c : tie.After-spell-first) → let d = c.spell-first.new.digits in take (10 - c.spell-first.result) (drop c.spell-first.result d) ≡ decimal c.args.n
 lent c =
-    let d : Bytes = c.spell-first.new.1.0 in
+    let d : Bytes = c.spell-first.new.digits in
     let k : ℕ = c.spell-first.result in
-    take_all (10 - k) (drop k d) (omega (arith, length-drop k d, c.spell-first.auto.1.0)) ∙ c.spell-first.ensures.1
+    take_all (10 - k) (drop k d) (omega (arith, length-drop k d, c.spell-first.auto.digits)) ∙ c.spell-first.ensures.1
 
 print-requires : tie.Need-print-requires
 print-requires c κs =
-    let s = c.before.before.before.before in
-    let d : Bytes = s.spell-first.new.1.0 in
-    let k : ℕ = s.spell-first.result in
-    omega (arith, length-take (10 - k) (drop k d), s.before.before.before.requires)
+    let d : Bytes = c.spell-first.new.digits in
+    let k : ℕ = c.spell-first.result in
+    omega (arith, length-take (10 - k) (drop k d), c.requires)
 
 returns : tie.Need-returns
 returns c =
-    let p = c.before.before in
-    let s = p.before.before.before.before.before in
-    rw (ap printed (lent s) ∙ printed_decimal s.before.before.before.args.n) at p.print.ensures
+    rw (ap printed (lent c.before.before.before.before.before.before) ∙ printed_decimal c.args.n) at c.print.ensures
 
 pub print_number_spec : {M : Type 1} → statement M
 print_number_spec =
@@ -37,9 +34,9 @@ print_number_spec =
     (tie.spec
     (λ c. search rules)
     (λ c κs. search rules)
-    (λ c. c.before.before.spell-first.ensures.0)
+    (λ c. c.spell-first.ensures.0)
     (λ c. search rules)
     (λ c. search rules)
     print-requires
-    (λ c. c.before.before.print.auto.0)
+    (λ c. c.print.auto.text)
     returns)
