@@ -4,7 +4,7 @@ ghost use Rattle.std.specs.Prelude.{◌≡◌, [], ℕ};
 ghost use Rattle.area_damage.specs.Damage.{damage_of, with_stretch, joined_with, Fewer, Summable};
 
 // Damage: how many stretches, their bytes, and offset and length of one of the stretches, both 0 where there are not so many.
-#[derive(Drop)]
+#[derive(Clone, Copy)]
 pub struct Damage {
     pub stretches: u32,
     pub skipped: u32,

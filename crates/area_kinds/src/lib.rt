@@ -17,21 +17,21 @@ use area_read::{AreaKind, area_id, area_kind};
 use calls::{BAD_AREAS, Descriptor, NO_FILE_OR_SCRATCH, SAME_AREA_ID, SHORT_SCRATCH};
 
 // The scratch areas found: how many, and the last of them.
-#[derive(Drop)]
+#[derive(Clone, Copy)]
 pub struct LastScratch {
     pub count: usize,
     pub area: Descriptor,
 }
 
 // The areas by their kinds: the number of file areas, and the scratch areas.
-#[derive(Drop)]
+#[derive(Clone, Copy)]
 pub struct Kinds {
     pub files: usize,
     pub scratch: LastScratch,
 }
 
 // The answer of checks 1 to 4: the number of refusal, or 0 with the number of file areas and the scratch area.
-#[derive(Drop)]
+#[derive(Clone, Copy)]
 pub struct CheckedAreas {
     pub number: u32,
     pub files: usize,

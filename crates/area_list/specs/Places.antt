@@ -44,6 +44,7 @@ split_first d l t =
     ((λ e m. disjoint_clear d e (all_mem (disjoint d) l p.0 m)), p.1)
 
 members : (l : List Descriptor) → T (all_disjoint l) → (d e : Descriptor) → Memᴰ d l → Memᴰ e l → d ≢ e → Clear d e
+members [] t d e m _ n = elim m [ ]
 members (a ∷ l) t d e (Memᴰ.head p) (Memᴰ.head q) n = absurd (n (p ∙ sym q))
 members (a ∷ l) t d e (Memᴰ.head p) (Memᴰ.tail k) n = rw p ((split_first a l t).0 e k)
 members (a ∷ l) t d e (Memᴰ.tail m) (Memᴰ.head q) n = clear_sym e d (rw q ((split_first a l t).0 d m))

@@ -10,7 +10,7 @@ const LONGEST_NAME: usize = 255;
 const LONGEST_PATH: usize = 1024;
 
 // How far a path is walked: the next name starts at `at`, in the base or in the path.
-#[derive(Drop)]
+#[derive(Clone, Copy)]
 pub struct Walk {
     // in the base
     pub based: bool,

@@ -26,9 +26,9 @@ once_snoc x (y ∷ l) = go (eqb y x) refl (is_new x l) refl (once_snoc x l)
   where
     go : (a : Bool) → eqb y x ≡ a → (b : Bool) → is_new x l ≡ b → once (l ++ (x ∷ [])) ≡ cond (is_new x l) (once l ++ (x ∷ [])) (once l)
         → once ((y ∷ l) ++ (x ∷ [])) ≡ cond (is_new x (y ∷ l)) (once (y ∷ l) ++ (x ∷ [])) (once (y ∷ l))
-    go true e true f ih = rw (once, all, ih, f, e, keep_append, keep, eq-eqb x y (sym (eqb-true y x e)), append-nil)
+    go true e true f ih = rw (once, all, ih, f, e, keep_append (λ z. not (eqb z y)) (once l) (x ∷ []), keep, eq-eqb x y (sym (eqb-true y x e)), append-nil)
     go true e false f ih = rw (once, all, ih, f, e)
-    go false e true f ih = rw (once, all, ih, f, e, keep_append, keep, ne_eqb x y (λ q. eqb-false y x e (sym q)))
+    go false e true f ih = rw (once, all, ih, f, e, keep_append (λ z. not (eqb z y)) (once l) (x ∷ []), keep, ne_eqb x y (λ q. eqb-false y x e (sym q)))
     go false e false f ih = rw (once, all, ih, f, e)
 
 -- ---- records

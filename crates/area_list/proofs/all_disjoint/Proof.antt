@@ -14,40 +14,40 @@ use borrow.Author.Rules.{rules}
 use Rattle.area_list.proofs.all_disjoint.Statement.{statement}
 use Rattle.area_list.proofs.all_disjoint.Tie as tie
 
-abbrev invariant-loop : tie.invariant-loop
+abbrev invariant-loop : tie.invariant-loop-i
 invariant-loop pairs i₀ i = all_disjoint (paired (drop (i * 2) pairs)) ≡ all_disjoint (paired pairs)
 
-abbrev decreases-loop : tie.decreases-loop
+abbrev decreases-loop : tie.decreases-loop-i
 decreases-loop pairs i₀ i = length pairs - i
 
-loop-holds : tie.Need-loop-init invariant-loop decreases-loop
+loop-holds : tie.Need-loop-i-init invariant-loop decreases-loop
 loop-holds c = refl
 
 -- the turn of the loop
-abbrev turn : tie.After-disjoint-from invariant-loop decreases-loop → tie.At-loop invariant-loop decreases-loop
+abbrev turn : tie.After-disjoint_from invariant-loop decreases-loop → tie.At-loop-i invariant-loop decreases-loop
 turn g = g.before.before.before.before.before
 
-returns : tie.Need-returns invariant-loop decreases-loop
+returns : tie.Need-returns-else-disjoint_from invariant-loop decreases-loop
 returns c =
     let g = c.before in
     let l = turn g in
     let s = l.before.before in
-    let e = rw (rest_part s.args.pairs.now ((l.loop.i + 1) * 2)) at g.disjoint-from.ensures in
-    ask_fails disjoint_asks l.loop.inv (pair_step s.args.pairs.now l.loop.i (omega arith)) (via e c.if1.false)
+    let e = rw (rest_part s.args.pairs.now ((l.loop-i.i + 1) * 2)) at g.disjoint_from.ensures in
+    ask_fails disjoint_asks l.loop-i.invariant (pair_step s.args.pairs.now l.loop-i.i (omega arith)) (via e c.if-disjoint_from.false)
 
-loop-again : tie.Need-loop-preserved invariant-loop decreases-loop
+loop-again : tie.Need-loop-i-preserved invariant-loop decreases-loop
 loop-again c =
     let g = c.before in
     let l = turn g in
     let s = l.before.before in
-    let e = rw (rest_part s.args.pairs.now ((l.loop.i + 1) * 2)) at g.disjoint-from.ensures in
-    ask_passes disjoint_asks l.loop.inv (pair_step s.args.pairs.now l.loop.i (omega arith)) (via e c.if1.true)
+    let e = rw (rest_part s.args.pairs.now ((l.loop-i.i + 1) * 2)) at g.disjoint_from.ensures in
+    ask_passes disjoint_asks l.loop-i.invariant (pair_step s.args.pairs.now l.loop-i.i (omega arith)) (via e c.if-disjoint_from.true)
 
-returns-2 : tie.Need-returns-2 invariant-loop decreases-loop
+returns-2 : tie.Need-returns invariant-loop decreases-loop
 returns-2 c =
     let l = c.before in
     let s = l.before.before in
-    ask_ends disjoint_asks l.loop.invariant (paired_end s.args.pairs.now (l.loop.i * 2) (omega arith))
+    ask_ends disjoint_asks l.loop-i.invariant (paired_end s.args.pairs.now (l.loop-i.i * 2) (omega arith))
 
 pub all_disjoint_spec : {M : Type 1} → statement M
 all_disjoint_spec =

@@ -8,35 +8,35 @@ use borrow.Author.Rules.{rules}
 use Rattle.area_list.proofs.count_good_areas.Statement.{statement}
 use Rattle.area_list.proofs.count_good_areas.Tie as tie
 
-returns : tie.Need-returns
-returns c = not_good _ _ (bad_size _ _ c.if1.true)
+returns : tie.Need-returns-then-image-gt-LARGEST_IMAGE
+returns c = not_good _ _ (bad_size _ _ c.if-image-gt-LARGEST_IMAGE.true)
 
-returns-2 : tie.Need-returns-2
-returns-2 c = list_empty _ _ _ c.before.count-areas.ensures c.if2.true
+returns-2 : tie.Need-returns-then-n-eq0
+returns-2 c = list_empty _ _ _ c.before.count_areas-n.ensures c.if-n-eq0.true
 
-returns-3 : tie.Need-returns-3
-returns-3 c = list_long _ _ _ c.before.before.count-areas.ensures c.if3.true
+returns-3 : tie.Need-returns-then-n-gt-MOST_AREAS
+returns-3 c = list_long _ _ _ c.before.before.count_areas-n.ensures c.if-n-gt-MOST_AREAS.true
 
 -- the entries were counted, before their areas were tested
-abbrev counted : tie.After-good-areas → tie.After-count-areas
+abbrev counted : tie.After-good_areas → tie.After-count_areas-n
 counted g = g.before.before.before.before
 
 -- the pairs that were lent
-front : (g : tie.After-good-areas) → (counted g).count-areas.result * 2 - 0 ≡ (counted g).count-areas.result * 2
+front : (g : tie.After-good_areas) → (counted g).count_areas-n.result * 2 - 0 ≡ (counted g).count_areas-n.result * 2
 front g = omega arith
 
-returns-4 : tie.Need-returns-4
+returns-4 : tie.Need-returns-else-good_areas
 returns-4 c =
     let g = c.before in
     let e = g.before.before in
-    list_bad _ _ _ (counted g).count-areas.ensures e.before.if2.false e.if3.false (rw (front g) at (via g.good_areas.ensures c.if4.false))
+    list_bad _ _ _ (counted g).count_areas-n.ensures e.before.if-n-eq0.false e.if-n-gt-MOST_AREAS.false (rw (front g) at (via g.good_areas.ensures c.if-good_areas.false))
 
-returns-5 : tie.Need-returns-5
+returns-5 : tie.Need-returns
 returns-5 c =
     let g = c.before in
     let e = g.before.before in
-    list_good _ _ _ (counted g).count-areas.ensures e.before.if2.false e.if3.false (rw (front g) at (via g.good_areas.ensures c.if4.true))
-    (counted g).before.if1.false
+    list_good _ _ _ (counted g).count_areas-n.ensures e.before.if-n-eq0.false e.if-n-gt-MOST_AREAS.false (rw (front g) at (via g.good_areas.ensures c.if-good_areas.true))
+    (counted g).before.if-image-gt-LARGEST_IMAGE.false
 
 pub count_good_areas_spec : {M : Type 1} → statement M
 count_good_areas_spec =

@@ -14,34 +14,34 @@ use borrow.Author.Rules.{rules}
 use Rattle.area_list.proofs.disjoint_from.Statement.{statement}
 use Rattle.area_list.proofs.disjoint_from.Tie as tie
 
-abbrev invariant-loop : tie.invariant-loop
+abbrev invariant-loop : tie.invariant-loop-i
 invariant-loop offset span pairs i₀ i = all (disjoint (area_of offset span)) (paired (drop (i * 2) pairs)) ≡ all (disjoint (area_of offset span)) (paired pairs)
 
-abbrev decreases-loop : tie.decreases-loop
+abbrev decreases-loop : tie.decreases-loop-i
 decreases-loop offset span pairs i₀ i = length pairs - i
 
-loop-holds : tie.Need-loop-init invariant-loop decreases-loop
+loop-holds : tie.Need-loop-i-init invariant-loop decreases-loop
 loop-holds c = refl
 
-returns : tie.Need-returns invariant-loop decreases-loop
+returns : tie.Need-returns-else-disjoint invariant-loop decreases-loop
 returns c =
     let g = c.before in
     let l = g.before.before.before.before in
     let s = l.before.before in
-    ask_fails (all_asks _) l.loop.invariant (pair_step s.args.pairs.now l.loop.i (omega arith)) (via g.disjoint.ensures c.if1.false)
+    ask_fails (all_asks _) l.loop-i.invariant (pair_step s.args.pairs.now l.loop-i.i (omega arith)) (via g.disjoint.ensures c.if-disjoint.false)
 
-loop-again : tie.Need-loop-preserved invariant-loop decreases-loop
+loop-again : tie.Need-loop-i-preserved invariant-loop decreases-loop
 loop-again c =
     let g = c.before in
     let l = g.before.before.before.before in
     let s = l.before.before in
-    ask_passes (all_asks _) l.loop.invariant (pair_step s.args.pairs.now l.loop.i (omega arith)) (via g.disjoint.ensures c.if1.true)
+    ask_passes (all_asks _) l.loop-i.invariant (pair_step s.args.pairs.now l.loop-i.i (omega arith)) (via g.disjoint.ensures c.if-disjoint.true)
 
-returns-2 : tie.Need-returns-2 invariant-loop decreases-loop
+returns-2 : tie.Need-returns invariant-loop decreases-loop
 returns-2 c =
     let l = c.before in
     let s = l.before.before in
-    ask_ends (all_asks _) l.loop.invariant (paired_end s.args.pairs.now (l.loop.i * 2) (omega arith))
+    ask_ends (all_asks _) l.loop-i.invariant (paired_end s.args.pairs.now (l.loop-i.i * 2) (omega arith))
 
 pub disjoint_from_spec : {M : Type 1} → statement M
 disjoint_from_spec =

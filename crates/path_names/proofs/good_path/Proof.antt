@@ -5,27 +5,27 @@ use Rattle.volume.specs.Path.{good_path}
 use Rattle.path_names.proofs.good_path.Statement.{statement}
 use Rattle.path_names.proofs.good_path.Tie as tie
 
-returns : tie.Need-returns
+returns : tie.Need-returns-then-is_absolute
 unfolding good_path
 returns c =
     let t = c.before in
-    simp (via t.before.is-absolute.ensures t.if1.true) c.good-absolute.ensures
+    simp (via t.before.is_absolute.ensures t.if-is_absolute.true) c.good_absolute.ensures
 
-returns-2 : tie.Need-returns-2
+returns-2 : tie.Need-returns-then-base_good
 unfolding good_path
 returns-2 c =
     let p = c.before in
     let b = p.before in
     let e = b.before in
-    simp (via e.before.is-absolute.ensures e.if1.false, via b.good-absolute2.ensures c.if2.true)
-    p.good-relative.ensures
+    simp (via e.before.is_absolute.ensures e.if-is_absolute.false, via b.good_absolute-base_good.ensures c.if-base_good.true)
+    p.good_relative-path_good.ensures
 
-returns-3 : tie.Need-returns-3
+returns-3 : tie.Need-returns-else-base_good
 unfolding good_path
 returns-3 c =
     let b = c.before.before in
     let e = b.before in
-    simp (via e.before.is-absolute.ensures e.if1.false, via b.good-absolute2.ensures c.if2.false) c.if2.false
+    simp (via e.before.is_absolute.ensures e.if-is_absolute.false, via b.good_absolute-base_good.ensures c.if-base_good.false) c.if-base_good.false
 
 pub good_path_spec : {M : Type 1} → statement M
 good_path_spec =

@@ -4,15 +4,15 @@ use Rattle.path_names.specs.Walking.{base_any, path_any}
 use Rattle.path_names.proofs.has_name.Statement.{statement}
 use Rattle.path_names.proofs.has_name.Tie as tie
 
-returns : tie.Need-returns
+returns : tie.Need-returns-then-w
 returns c =
     let s = c.before in
-    sym (base_any s.args.base.now s.args.path.now s.args.w s.requires c.if1.true)
+    sym (base_any s.args.base.now s.args.path.now s.args.w s.requires c.if-w.true)
 
-returns-2 : tie.Need-returns-2
+returns-2 : tie.Need-returns
 returns-2 c =
     let s = c.before.before in
-    sym (path_any s.args.base.now s.args.path.now s.args.w s.requires c.before.if1.false)
+    sym (path_any s.args.base.now s.args.path.now s.args.w s.requires c.before.if-w.false)
 
 pub has_name_spec : {M : Type 1} → statement M
 has_name_spec = tie.close (tie.spec returns returns-2)

@@ -9,19 +9,19 @@ use Rattle.record_magics.specs.Magic.{magic_at}
 use Rattle.record_magics.proofs.magic_at.Statement.{statement}
 use Rattle.record_magics.proofs.magic_at.Tie as tie
 
-returns : tie.Need-returns
+returns : tie.Need-returns-then-magic
 unfolding magic_at
 returns c =
     let l = c.before in
     let s = l.before.before in
-    rw (eq-eqb (le32 s.args.area.now s.args.at) inode.magic (via l.load32.ensures c.if1.true)) refl
+    rw (eq-eqb (le32 s.args.area.now s.args.at) inode.magic (via l.load32-magic.ensures c.if-magic.true)) refl
 
-returns-2 : tie.Need-returns-2
+returns-2 : tie.Need-returns
 unfolding magic_at
 returns-2 c =
     let l = c.before in
     let s = l.before.before in
-    rw (ne_eqb (le32 s.args.area.now s.args.at) inode.magic (λ e. c.if1.false (l.load32.ensures ∙ e)), l.load32.ensures) refl
+    rw (ne_eqb (le32 s.args.area.now s.args.at) inode.magic (λ e. c.if-magic.false (l.load32-magic.ensures ∙ e)), l.load32-magic.ensures) refl
 
 pub magic_at_spec : {M : Type 1} → statement M
 magic_at_spec = tie.close (tie.spec (λ c κs. search rules) returns returns-2)

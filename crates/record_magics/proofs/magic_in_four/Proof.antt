@@ -11,41 +11,33 @@ use Rattle.record_magics.proofs.magic_in_four.Statement.{statement}
 use Rattle.record_magics.proofs.magic_in_four.Tie as tie
 
 -- the bytes of the area
-octets : (k : tie.After-shared-slice-known3) → Octets k.before.before.before.args.area.now
-octets k = record { at = λ i h. (k.shared-slice-known3.given i).fits }
+octets : (k : tie.After-shared_slice_known-3-1) → Octets k.args.area.now
+octets k = record { at = λ i h. (k.shared_slice_known-3-1.given i).fits }
 
 -- the one place is among the four
-near : (s : tie.After-start-of) → s.start_of.result < 4
+near : (s : tie.After-start_of-i) → s.start_of-i.result < 4
 unfolding in_magic
-near s = rw s.start_of.ensures (ltb-true _ _ (via s.before.before.marked.ensures s.before.if1.true))
+near s = rw s.start_of-i.ensures (ltb-true _ _ (via s.marked.ensures s.if-marked.true))
 
-add-magic-at : tie.Need-overflow-add-magic-at
-add-magic-at c = let n = near c in let p = c.before.before.before.before.before.before.requires in omega (arith, n, p)
+add-magic-at : tie.Need-overflow_add-at
+add-magic-at c = let n = near c in let p = c.requires in omega (arith, n, p)
 
-magic-at-requires : tie.Need-magic-at-requires
-magic-at-requires c κs = let n = near c in let p = c.before.before.before.before.before.before.requires in omega (arith, n, p)
+magic-at-requires : tie.Need-magic_at-requires
+magic-at-requires c κs = let n = near c in let p = c.requires in omega (arith, n, p)
 
-returns : tie.Need-returns
+returns : tie.Need-returns-then-magic_at
 returns c =
-    let i = c.before.before in
-    let k = i.before.before.before in
-    let s = k.before.before.before in
-    let n = near i in
-    (omega (arith, n), before_start s.args.area.now (octets k) s.args.at _ i.start_of.ensures n)
+    let n = near c.before.before in
+    (omega (arith, n), before_start c.args.area.now (octets c.before.before.before.before.before) c.args.at _ c.start_of-i.ensures n)
 
-returns-2 : tie.Need-returns-2
+returns-2 : tie.Need-returns-else-magic_at
 returns-2 c =
-    let i = c.before.before in
-    let k = i.before.before.before in
-    let s = k.before.before.before in
-    let m = via c.before.magic-at.ensures c.if2.false in
-    (omega arith, none_in_four s.args.area.now (octets k) s.args.at _ i.start_of.ensures m)
+    let m = via c.magic_at.ensures c.if-magic_at.false in
+    (omega arith, none_in_four c.args.area.now (octets c.before.before.before.before.before) c.args.at _ c.start_of-i.ensures m)
 
-returns-3 : tie.Need-returns-3
+returns-3 : tie.Need-returns-else-marked
 returns-3 c =
-    let k = c.before.before in
-    let s = k.before.before.before in
-    (omega arith, four_passed s.args.area.now (octets k) s.args.at (via c.before.marked.ensures c.if1.false))
+    (omega arith, four_passed c.args.area.now (octets c.before.before) c.args.at (via c.marked.ensures c.if-marked.false))
 
 pub magic_in_four_spec : {M : Type 1} → statement M
 magic_in_four_spec =

@@ -5,7 +5,7 @@ use Rattle.record_magics.specs.Laws.{bit_told}
 use Rattle.record_magics.proofs.marked.Statement.{statement}
 use Rattle.record_magics.proofs.marked.Tie as tie
 
-shared-slice-read-result : tie.Need-shared-slice-read-result
+shared-slice-read-result : tie.Need-bounds-marks-place
 shared-slice-read-result c = let s = c.before in omega (arith, s.requires.size, s.ranges.b.fits)
 
 returns : tie.Need-returns

@@ -6,27 +6,27 @@ use Rattle.record_magics.specs.Magic.{start_of}
 use Rattle.record_magics.proofs.start_of.Statement.{statement}
 use Rattle.record_magics.proofs.start_of.Tie as tie
 
-returns : tie.Need-returns
+returns : tie.Need-returns-in-192
 unfolding start_of
-returns c = ⊎_elim (λ e. rw e refl) (λ e. rw e refl) c.match.keys1
+returns c = ⊎_elim (λ e. rw e refl) (λ e. rw e refl) c.in-192.is
 
-returns-2 : tie.Need-returns-2
+returns-2 : tie.Need-returns-in-139
 unfolding start_of
-returns-2 c = ⊎_elim (λ e. rw e refl) (λ e. rw e refl) c.match.keys2
+returns-2 c = ⊎_elim (λ e. rw e refl) (λ e. rw e refl) c.in-139.is
 
-returns-3 : tie.Need-returns-3
+returns-3 : tie.Need-returns-in-95
 unfolding start_of
-returns-3 c = ⊎_elim (λ e. rw e refl) (λ e. rw e refl) c.match.keys3
+returns-3 c = ⊎_elim (λ e. rw e refl) (λ e. rw e refl) c.in-95.is
 
-returns-4 : tie.Need-returns-4
+returns-4 : tie.Need-returns-in-146
 unfolding start_of
-returns-4 c = ⊎_elim (λ e. rw e refl) (λ e. rw e refl) c.match.keys4
+returns-4 c = ⊎_elim (λ e. rw e refl) (λ e. rw e refl) c.in-146.is
 
-returns-5 : tie.Need-returns-5
+returns-5 : tie.Need-returns-in_default
 unfolding start_of
 returns-5 c =
-    let b = c.before.args.b in
-    let none = c.match.rest in
+    let b = c.args.b in
+    let none = c.in_default.in_default-own.rest in
     rw (
       ne_eqb b 0xc0 (λ e. none.0.0.0.1 (inr e)),
       ne_eqb b 0xb9 (λ e. none.0.0.0.1 (inl e)),

@@ -4,10 +4,10 @@ use borrow.Author.Rules.{rules}
 use Rattle.record_magics.proofs.starts.Statement.{statement}
 use Rattle.record_magics.proofs.starts.Tie as tie
 
-returns : tie.Need-returns
+returns : tie.Need-returns-then-len-lt-SIZE
 returns c = omega arith
 
-returns-2 : tie.Need-returns-2
+returns-2 : tie.Need-returns
 returns-2 c = omega arith
 
 pub starts_spec : {M : Type 1} → statement M

@@ -17,18 +17,18 @@ parts : (image : Bytes) (p q m n : ℕ) → m ≡ size_at image p → n ≡ size
 unfolding bytes_at
 parts image p q m n e f = rw (add-sub_cancel_left p m, add-sub_cancel_left q n, e, f)
 
-returns : tie.Need-returns
+returns : tie.Need-returns-then-id_at
 returns c =
     let i = c.before in
     let s = i.before.before.before in
-    sym (ids_apart s.args.image.now s.args.p s.args.q (λ e. c.if1.true (i.before.id-at.ensures ∙ e ∙ sym i.id-at2.ensures)))
+    sym (ids_apart s.args.image.now s.args.p s.args.q (λ e. c.if-id_at.true (i.before.id_at.ensures ∙ e ∙ sym i.id_at-2.ensures)))
 
-returns-2 : tie.Need-returns-2
+returns-2 : tie.Need-returns
 returns-2 c =
     let z = c.before.before.before in
     let s = z.before.before.before.before.before.before in
     c.equal.ensures
-    ∙ parts s.args.image.now s.args.p s.args.q z.before.size-at.result z.size-at2.result z.before.size-at.ensures z.size-at2.ensures
+    ∙ parts s.args.image.now s.args.p s.args.q z.before.size_at.result z.size_at-2.result z.before.size_at.ensures z.size_at-2.ensures
 
 pub same_bytes_spec : {M : Type 1} → statement M
 same_bytes_spec =

@@ -5,7 +5,7 @@ use borrow.Author.Rules.{rules}
 use Rattle.record_places.proofs.word_at.Statement.{statement}
 use Rattle.record_places.proofs.word_at.Tie as tie
 
-add-load32 : tie.Need-overflow-add-load32
+add-load32 : tie.Need-overflow_add-p
 add-load32 c = search rules
 
 load32-requires : tie.Need-load32-requires

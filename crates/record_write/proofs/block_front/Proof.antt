@@ -10,7 +10,7 @@ returns c =
     let length-stored = c.before in
     let previous = length-stored.before.before.before in
     let common = previous.before.before.before in
-    rw (length-stored.store16.ensures, previous.store32.ensures, common.store-common.ensures)
+    rw (length-stored.store16.ensures, previous.store32.ensures, common.store_common.ensures)
 
 pub block_front_spec : {M : Type 1} → statement M
 block_front_spec =

@@ -7,20 +7,15 @@ use borrow.Author.Rules.{rules}
 use Rattle.record_write.proofs.changed_check.Statement.{statement}
 use Rattle.record_write.proofs.changed_check.Tie as tie
 
-slice-aggregate-over : tie.Need-slice-aggregate-over
+slice-aggregate-over : tie.Need-slice_bounds-over-end
 slice-aggregate-over c =
-    let s = c.before.before.before.before.before in
-    sym (length-take-le s.args.begin s.args.old.now (omega (arith, s.requires)))
+    sym (length-take-le c.args.begin c.args.old.now (omega (arith, c.requires)))
 
 returns : tie.Need-returns
 returns c =
-    let text = c.before.before in
-    let before = text.before in
-    let front = before.before.before in
-    let s = front.before.before.before.before in
-    c.over4.ensures
-    ∙ rw (text.over3.ensures, before.over2.ensures, front.over.ensures)
-    (changed_check s.args.front.now s.args.old.now s.args.begin s.args.text.now)
+    c.over-3.ensures
+    ∙ rw (c.over-2.ensures, c.over-before.ensures, c.over.ensures)
+    (changed_check c.args.front.now c.args.old.now c.args.begin c.args.text.now)
 
 pub changed_check_spec : {M : Type 1} → statement M
 changed_check_spec =

@@ -12,7 +12,7 @@ returns c =
     let s = before.before.before.before.before in
     let g = s.args in
     λ a. copied_changed g.image.now g.from g.to g.n g.begin g.text.now s.requires a _ _ _
-    before.copy.ensures text.put.ensures after.copy2.ensures
+    before.copy.ensures text.put.ensures after.copy-2.ensures
 
 pub copy_changed_spec : {M : Type 1} → statement M
 copy_changed_spec =

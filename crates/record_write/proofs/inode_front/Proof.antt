@@ -6,7 +6,7 @@ use Rattle.record_write.proofs.inode_front.Tie as tie
 
 returns : tie.Need-returns
 unfolding inode_front
-returns c = rw c.before.before.store-common.ensures
+returns c = rw c.before.before.store_common.ensures
 
 pub inode_front_spec : {M : Type 1} → statement M
 inode_front_spec =

@@ -10,7 +10,7 @@ returns c =
     let sequence = link.before.before.before.before in
     let id = sequence.before.before.before.before in
     let magic = id.before.before.before.before in
-    link.store324.ensures ∙ rw (sequence.store323.ensures, id.store322.ensures, magic.store32.ensures)
+    link.store32-4.ensures ∙ rw (sequence.store32-3.ensures, id.store32-2.ensures, magic.store32.ensures)
 
 pub store_common_spec : {M : Type 1} → statement M
 store_common_spec =

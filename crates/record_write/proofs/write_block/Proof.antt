@@ -10,7 +10,7 @@ returns c =
     let w = c.before.before in
     let front = w.before.before.before in
     let s = front.before.before.before in
-    rw (front.block-front.ensures, s.requires.1.0) at w.write-sealed.ensures
+    rw (front.block_front-front.ensures, s.requires.1.0) at w.write_sealed.ensures
 
 pub write_block_spec : {M : Type 1} → statement M
 write_block_spec =

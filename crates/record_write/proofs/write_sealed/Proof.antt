@@ -13,8 +13,8 @@ returns c =
     let v = front.before.before.before in
     let s = v.before.before.before.before.before.before in
     let g = s.args in
-    body.put3.ensures
-    ∙ rw (field.put2.ensures, front.put.ensures, v.store16.ensures)
+    body.put-3.ensures
+    ∙ rw (field.put-2.ensures, front.put.ensures, v.store16.ensures)
     (sealed_parts g.image.now g.at g.front.now g.body.now _ s.requires v.before.check.ensures)
 
 pub write_sealed_spec : {M : Type 1} → statement M

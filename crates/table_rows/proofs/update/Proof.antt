@@ -13,112 +13,82 @@ use borrow.Author.Rules.{rules}
 use Rattle.table_rows.proofs.update.Statement.{statement}
 use Rattle.table_rows.proofs.update.Tie as tie
 
--- the lowest free row, the record's id, and the arguments, from where the row was found
-abbrev free : tie.After-row-of → tie.After-first-free
-free r = r.before.before.before
-
-abbrev start : tie.After-first-free → tie.Start
-start f = f.before.before.before.before.before.before.before
-
-abbrev with-id : tie.After-first-free → tie.After-id-at
-with-id f = f.before.before
-
 -- the lowest free row is the number of taken rows
-number : (f : tie.After-first-free) → f.first-free.result ≡ taken (start f).args.words.now
-number f = f.first-free.ensures.0 ∙ low_first _ (start f).requires.0.good.low
+number : (f : tie.After-first_free-n) → f.first_free-n.result ≡ taken f.args.words.now
+number f = f.first_free-n.ensures.0 ∙ low_first _ f.requires.0.good.low
 
 -- the row that was found
-row : (r : tie.After-row-of) → let s = start (free r) in
-    r.row_of.result ≡ position_of ((by_place s.args.image.now).id s.args.p) (take (taken s.args.words.now) s.args.rows.now)
-row r = let n = number (free r) in let i = (with-id (free r)).id-at.ensures in cc
+row : (r : tie.After-row_of-k) → r.row_of-k.result ≡ position_of ((by_place r.args.image.now).id r.args.p) (take (taken r.args.words.now) r.args.rows.now)
+row r = let n = number r.before in let i = r.id_at-id.ensures in cc
 
-there : (c : tie.Then1) → c.before.row_of.result < taken (start (free c.before)).args.words.now
-there c = omega (arith, c.if1.true, number (free c.before))
+there : (c : tie.Then-k-n) → c.row_of-k.result < taken c.args.words.now
+there c = omega (arith, c.if-k-n.true, number c.before.before)
 
 -- no row was found
-absent : (c : tie.Else1) → taken (start (free c.before)).args.words.now ≤ c.before.row_of.result
-absent c = omega (arith, c.if1.false, number (free c.before))
+absent : (c : tie.Else-k-n) → taken c.args.words.now ≤ c.row_of-k.result
+absent c = omega (arith, c.if-k-n.false, number c.before.before)
 
-row-of-requires : tie.Need-row-of-requires
+row-of-requires : tie.Need-row_of-k-requires
 row-of-requires c κs =
-    let f = c.before.before in
-    let s = start f in
-    (omega (arith, number f, taken_in s.pre.0), rw (number f) s.pre.1.0.rows)
+    (omega (arith, number c, taken_in c.requires.0), rw (number c) c.requires.1.0.rows)
 
-slice-read-sequence-at : tie.Need-slice-read-sequence-at
-slice-read-sequence-at c = let t = c.before in let s = start (free t.before) in omega (arith, there t, part_long s.pre.0, taken_few s.pre.0)
+slice-read-sequence-at : tie.Need-bounds-rows-most
+slice-read-sequence-at c = omega (arith, there c.before, part_long c.requires.0, taken_few c.requires.0)
 
-sequence-at-requires : tie.Need-sequence-at-requires
-sequence-at-requires c κs = let t = c.before in spot_lies (start (free t.before)).requires.0 t.before.row_of.result (there t)
+sequence-at-requires : tie.Need-sequence_at-requires
+sequence-at-requires c κs = spot_lies c.requires.0 c.row_of-k.result (there c.before)
 
-slice-write-rows : tie.Need-slice-write-rows
+slice-write-rows : tie.Need-bounds-rows-most-then-sequence_at
 slice-write-rows c =
-    let t = c.before.before.before.before in
-    let s = start (free t.before) in
-    omega (arith, there t, part_long s.pre.0, taken_few s.pre.0)
+    omega (arith, there c.before.before.before.before, part_long c.requires.0, taken_few c.requires.0)
 
-returns : tie.Need-returns
+returns : tie.Need-returns-then-sequence_at
 returns c =
-    let t = c.before.before.before.before in
-    let r = t.before in
-    let s = start (free r) in (
-      over s.pre.0 s.args.p r.row_of.result (row r) (there t)
-          (omega (arith, c.before.before.sequence-at.ensures, c.before.sequence-at2.ensures)),
-      indexed_over s.pre.0 s.args.p r.row_of.result (row r) s.pre.1.0,
+    (
+      over c.requires.0 c.args.p c.row_of-k.result (row c.before.before.before.before.before) (there c.before.before.before.before)
+          (omega (arith, c.sequence_at.ensures, c.sequence_at-then-k-n.ensures)),
+      indexed_over c.requires.0 c.args.p c.row_of-k.result (row c.before.before.before.before.before) c.requires.1.0,
     )
 
-returns-2 : tie.Need-returns-2
+returns-2 : tie.Need-returns-then-k-n
 returns-2 c =
-    let t = c.before.before.before.before in
-    let r = t.before in
-    let s = start (free r) in (
-      under s.pre.0 s.args.p r.row_of.result (row r) (there t)
-          (omega (arith, c.before.before.sequence-at.ensures, c.before.sequence-at2.ensures)),
-      s.pre.1.0,
+    (
+      under c.requires.0 c.args.p c.row_of-k.result (row c.before.before.before.before.before) (there c.before.before.before.before)
+          (omega (arith, c.sequence_at.ensures, c.sequence_at-then-k-n.ensures)),
+      c.requires.1.0,
     )
 
-slice-write-rows-2 : tie.Need-slice-write-rows-2
-slice-write-rows-2 c = let s = start (free c.before.before) in omega (arith, c.if3.true, part_long s.pre.0)
+slice-write-rows-2 : tie.Need-bounds-rows-n
+slice-write-rows-2 c = omega (arith, c.if-n-most.true, part_long c.requires.0)
 
-slice-write-rows-3 : tie.Need-slice-write-rows-3
+slice-write-rows-3 : tie.Need-bounds-rows-most-then-n-most
 slice-write-rows-3 c =
-    let f = free c.before.before in
-    let s = start f in
-    omega (arith, c.if3.true, part_long s.pre.0, length-set s.args.rows.now f.first-free.result (with-id f).id-at.result)
+    omega (arith, c.if-n-most.true, part_long c.requires.0, length-set c.args.rows.now c.first_free-n.result c.id_at-id.result)
 
 occupy-requires : tie.Need-occupy-requires
 occupy-requires c κs =
-    let n = c.before in
-    omega (arith, n.if3.true, (start (free n.before.before)).requires.0.room)
+    omega (arith, c.if-n-most.true, c.requires.0.room)
 
 put-requires : tie.Need-put-requires
 put-requires c κs =
-    let n = c.before.before.before.before.before.before in
-    let x = (start (free n.before.before)).requires.1.0 in
-    (rw c.slot_of.ensures (slot_within _), ((omega arith, omega (arith, n.if3.true, x.long)), omega (arith, n.if3.true, x.small)))
+    let x = c.requires.1.0 in
+    (rw c.slot_of.ensures (slot_within _), ((omega arith, omega (arith, c.if-n-most.true, x.long)), omega (arith, c.if-n-most.true, x.small)))
 
-returns-3 : tie.Need-returns-3
+returns-3 : tie.Need-returns-then-n-most
 returns-3 c =
-    let u = c.before.before in
-    let o = u.before.before.before.before.before in
-    let n = o.before.before in
-    let r = n.before.before in
-    let f = free r in
-    let s = start f in (
-      new s.pre.0 s.args.p r.row_of.result (row r) (absent n.before) (with-id f).id-at.result f.first-free.result
-          o.occupy.new.0 (with-id f).id-at.ensures f.first-free.ensures.0 n.if3.true o.occupy.ensures,
-      rw (u.put.ensures, u.before.slot_of.ensures)
-          (indexed_new s.pre.0 s.args.p r.row_of.result (row r) s.pre.1.0 (absent n.before) (with-id f).id-at.result f.first-free.result
-          o.occupy.new.0 (with-id f).id-at.ensures f.first-free.ensures.0 n.if3.true o.occupy.ensures),
+    (
+      new c.requires.0 c.args.p c.row_of-k.result (row c.before.before.before.before.before.before.before.before.before.before.before) (absent c.before.before.before.before.before.before.before.before.before.before) c.id_at-id.result c.first_free-n.result
+          c.occupy.new.words c.id_at-id.ensures c.first_free-n.ensures.0 c.if-n-most.true c.occupy.ensures,
+      rw (c.put.ensures, c.slot_of.ensures)
+          (indexed_new c.requires.0 c.args.p c.row_of-k.result (row c.before.before.before.before.before.before.before.before.before.before.before) c.requires.1.0 (absent c.before.before.before.before.before.before.before.before.before.before) c.id_at-id.result c.first_free-n.result
+          c.occupy.new.words c.id_at-id.ensures c.first_free-n.ensures.0 c.if-n-most.true c.occupy.ensures),
     )
 
-returns-4 : tie.Need-returns-4
+returns-4 : tie.Need-returns
 returns-4 c =
-    let r = c.before.before in
-    let f = free r in
-    let s = start f in (
-      full s.pre.0 s.args.p r.row_of.result (row r) (absent c.before) f.first-free.result f.first-free.ensures.0 c.if3.false,
-      s.pre.1.0,
+    (
+      full c.requires.0 c.args.p c.row_of-k.result (row c.before.before) (absent c.before) c.first_free-n.result c.first_free-n.ensures.0 c.if-n-most.false,
+      c.requires.1.0,
     )
 
 pub update_spec : {M : Type 1} → statement M
