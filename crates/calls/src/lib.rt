@@ -70,7 +70,7 @@ pub const AREA_SCRATCH: u32 = 2;
 
 // An area descriptor: where an area of flash starts and how long it is.
 #[repr(C)]
-#[derive(Drop)]
+#[derive(Clone, Copy)]
 pub struct Descriptor {
     pub offset: u32,
     pub length: u32,
@@ -78,7 +78,7 @@ pub struct Descriptor {
 
 // An open file: the id of its inode, and where the next read begins.
 #[repr(C)]
-#[derive(Drop)]
+#[derive(Clone, Copy)]
 pub struct Handle {
     pub id: u32,
     pub position: u32,
@@ -86,7 +86,7 @@ pub struct Handle {
 
 // The state of a volume: distinct inode ids, live ones, damage stretches and their bytes, and where the first stretch lies in the image.
 #[repr(C)]
-#[derive(Drop)]
+#[derive(Clone, Copy)]
 pub struct Report {
     pub number: u32,
     pub inodes: u32,
@@ -100,7 +100,7 @@ pub struct Report {
 // One area: its kind, id and collection count by its header; records, damage stretches and their bytes, and bytes of free space by its reading;
 // and where one of the stretches lies, from the area's start.
 #[repr(C)]
-#[derive(Drop)]
+#[derive(Clone, Copy)]
 pub struct AreaReport {
     pub number: u32,
     pub kind: u32,
@@ -116,7 +116,7 @@ pub struct AreaReport {
 
 // What a path leads to; kind 0 is a directory and 1 a file.
 #[repr(C)]
-#[derive(Drop)]
+#[derive(Clone, Copy)]
 pub struct Lookup {
     pub number: u32,
     pub id: u32,
@@ -125,7 +125,7 @@ pub struct Lookup {
 
 // An opened file: its handle.
 #[repr(C)]
-#[derive(Drop)]
+#[derive(Clone, Copy)]
 pub struct Opened {
     pub number: u32,
     pub id: u32,
@@ -134,7 +134,7 @@ pub struct Opened {
 
 // How many bytes a read gave, and how many block headers it followed.
 #[repr(C)]
-#[derive(Drop)]
+#[derive(Clone, Copy)]
 pub struct ReadAnswer {
     pub number: u32,
     pub given: u32,
@@ -143,7 +143,7 @@ pub struct ReadAnswer {
 
 // How long the text of the tree is, all of it.
 #[repr(C)]
-#[derive(Drop)]
+#[derive(Clone, Copy)]
 pub struct TreeAnswer {
     pub number: u32,
     pub length: u32,
@@ -151,7 +151,7 @@ pub struct TreeAnswer {
 
 // A created inode.
 #[repr(C)]
-#[derive(Drop)]
+#[derive(Clone, Copy)]
 pub struct Created {
     pub number: u32,
     pub id: u32,

@@ -7,8 +7,7 @@ use Rattle.area_erased.proofs.erased_eight.Tie as tie
 
 returns : tie.Need-returns
 returns c =
-    let v = c.before in
-    word_pair v.load32.result c.load322.result v.load32.type-inv c.load322.type-inv ∙ rw (v.load32.ensures, c.load322.ensures)
+    word_pair c.load32.result c.load32-2.result c.load32.type_inv c.load32-2.type_inv ∙ rw (c.load32.ensures, c.load32-2.ensures)
 
 pub erased_eight_spec : {M : Type 1} → statement M
 erased_eight_spec =

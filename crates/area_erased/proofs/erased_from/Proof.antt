@@ -8,24 +8,21 @@ use Rattle.area_erased.specs.Erased.{ErasedFrom, erased_begins, erased_sixty_fou
 use Rattle.area_erased.proofs.erased_from.Statement.{statement}
 use Rattle.area_erased.proofs.erased_from.Tie as tie
 
-abbrev invariant-loop : tie.invariant-loop
+abbrev invariant-loop : tie.invariant-loop-i
 invariant-loop s i₀ i = ErasedFrom s i
 
-abbrev decreases-loop : tie.decreases-loop
+abbrev decreases-loop : tie.decreases-loop-i
 decreases-loop s i₀ i = i
 
-loop-holds : tie.Need-loop-init invariant-loop decreases-loop
-loop-holds c = erased_begins c.before.args.s.now
+loop-holds : tie.Need-loop-i-init invariant-loop decreases-loop
+loop-holds c = erased_begins c.args.s.now
 
-loop-again : tie.Need-loop-preserved invariant-loop decreases-loop
+loop-again : tie.Need-loop-i-preserved invariant-loop decreases-loop
 loop-again c =
-    let t = c.before in
-    let n = t.before.before in
-    let l = n.before in
-    let s = l.before.before.args.s.now in
-    let o : Octets s = record { at = λ i h. (l.before.shared-slice-known.given i).fits } in
-    erased_sixty_four s o l.loop.i n.loop-test.true
-    (ap₂ ◌&&◌ (sym t.before.erased_thirty_two.ensures) (sym t.erased-thirty-two2.ensures) ∙ c.if1.true) l.loop.invariant
+    let s = c.args.s.now in
+    let o : Octets s = record { at = λ i h. (c.shared_slice_known-1.given i).fits } in
+    erased_sixty_four s o c.loop-i.i c.loop-i-test.true
+    (ap₂ ◌&&◌ (sym c.erased_thirty_two.ensures) (sym c.erased_thirty_two-in-loop-i.ensures) ∙ c.if-erased_thirty_two.true) c.loop-i.invariant
 
 pub erased_from_spec : {M : Type 1} → statement M
 erased_from_spec =
@@ -34,10 +31,10 @@ erased_from_spec =
     invariant-loop
     decreases-loop
     loop-holds
-    (λ c κs. let w = c.before.loop.invariant.within in omega arith)
+    (λ c κs. let w = c.loop-i.invariant.within in omega arith)
     (λ c. search rules)
-    (λ c κs. let w = c.before.before.loop.invariant.within in omega arith)
-    (λ c. c.before.before.before.before.loop.invariant)
+    (λ c κs. let w = c.loop-i.invariant.within in omega arith)
+    (λ c. c.loop-i.invariant)
     (λ c. search rules)
     loop-again
-    (λ c. c.before.loop.invariant))
+    (λ c. c.loop-i.invariant))

@@ -9,9 +9,7 @@ use Rattle.area_erased.proofs.erased_thirty_two.Tie as tie
 returns : tie.Need-returns
 unfolding erased_thirty_two
 returns c =
-    let t = c.before in
-    let s = t.before in
-    ap₂ ◌&&◌ (ap₂ ◌&&◌ (ap₂ ◌&&◌ s.before.erased_eight.ensures s.erased-eight2.ensures) t.erased-eight3.ensures) c.erased-eight4.ensures
+    ap₂ ◌&&◌ (ap₂ ◌&&◌ (ap₂ ◌&&◌ c.erased_eight.ensures c.erased_eight-2.ensures) c.erased_eight-3.ensures) c.erased_eight-4.ensures
 
 pub erased_thirty_two_spec : {M : Type 1} → statement M
 erased_thirty_two_spec =

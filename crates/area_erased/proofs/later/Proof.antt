@@ -4,4 +4,4 @@ use Rattle.area_erased.proofs.later.Statement.{statement}
 use Rattle.area_erased.proofs.later.Tie as tie
 
 pub later_spec : {M : Type 1} → statement M
-later_spec = tie.close (tie.spec (λ c. rw (lt-ltb _ _ c.if1.true)) (λ c. rw (le-ltb _ _ c.if1.false)))
+later_spec = tie.close (tie.spec (λ c. rw (lt-ltb _ _ c.if-a-b.true)) (λ c. rw (le-ltb _ _ c.if-a-b.false)))

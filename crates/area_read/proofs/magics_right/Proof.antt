@@ -8,31 +8,31 @@ use borrow.Author.Rules.{rules}
 use Rattle.area_read.proofs.magics_right.Statement.{statement}
 use Rattle.area_read.proofs.magics_right.Tie as tie
 
-returns : tie.Need-returns
+returns : tie.Need-returns-then-load32-ne-MAGIC1
 unfolding magics_right
 returns c =
     let l1 = c.before in
     let area = l1.before.before.args.area.now in
-    simp (ne_eqb (le32 area 0) area_magic1 (λ e. c.if1.true (l1.load32.ensures ∙ e)))
+    simp (ne_eqb (le32 area 0) area_magic1 (λ e. c.if-load32-ne-MAGIC1.true (l1.load32.ensures ∙ e)))
 
-returns-2 : tie.Need-returns-2
+returns-2 : tie.Need-returns-then-load32-ne-MAGIC2
 unfolding magics_right
 returns-2 c =
     let l2 = c.before in
     let l1 = l2.before.before in
     let area = l1.before.before.args.area.now in
-    simp (via l1.load32.ensures l2.before.if1.false, ne_eqb (le32 area 4) area_magic2 (λ e. c.if2.true (l2.load322.ensures ∙ e)))
+    simp (via l1.load32.ensures l2.before.if-load32-ne-MAGIC1.false, ne_eqb (le32 area 4) area_magic2 (λ e. c.if-load32-ne-MAGIC2.true (l2.load32-2.ensures ∙ e)))
 
-returns-3 : tie.Need-returns-3
+returns-3 : tie.Need-returns-then-load32-ne-MAGIC3
 unfolding magics_right
 returns-3 c =
     let l3 = c.before in
     let l2 = l3.before.before in
     let l1 = l2.before.before in
     let area = l1.before.before.args.area.now in
-    simp (via l1.load32.ensures l2.before.if1.false, via l2.load322.ensures l3.before.if2.false, ne_eqb (le32 area 8) area_magic3 (λ e. c.if3.true (l3.load323.ensures ∙ e)))
+    simp (via l1.load32.ensures l2.before.if-load32-ne-MAGIC1.false, via l2.load32-2.ensures l3.before.if-load32-ne-MAGIC2.false, ne_eqb (le32 area 8) area_magic3 (λ e. c.if-load32-ne-MAGIC3.true (l3.load32-3.ensures ∙ e)))
 
-returns-4 : tie.Need-returns-4
+returns-4 : tie.Need-returns
 unfolding magics_right
 returns-4 c =
     let l4 = c in
@@ -40,7 +40,7 @@ returns-4 c =
     let l2 = l3.before.before in
     let l1 = l2.before.before in
     let area = l1.before.before.args.area.now in
-    simp (via l1.load32.ensures l2.before.if1.false, via l2.load322.ensures l3.before.if2.false, via l3.load323.ensures l4.before.if3.false, sym l4.load324.ensures)
+    simp (via l1.load32.ensures l2.before.if-load32-ne-MAGIC1.false, via l2.load32-2.ensures l3.before.if-load32-ne-MAGIC2.false, via l3.load32-3.ensures l4.before.if-load32-ne-MAGIC3.false, sym l4.load32-4.ensures)
 
 pub magics_right_spec : {M : Type 1} → statement M
 magics_right_spec =

@@ -9,13 +9,13 @@ use borrow.Author.Rules.{rules}
 use Rattle.area_read.proofs.valid_area.Statement.{statement}
 use Rattle.area_read.proofs.valid_area.Tie as tie
 
-part-valid-header-end : tie.Need-slice-bounds-valid-header-end
+part-valid-header-end : tie.Need-slice_bounds-valid_header-end
 part-valid-header-end c =
     let s = c.before.before in
     let f = fits (length s.args.image.now) (area_of s.args.offset s.args.span) s.requires in
     omega arith
 
-valid-header-requires : tie.Need-valid-header-requires
+valid-header-requires : tie.Need-valid_header-requires
 valid-header-requires c κs =
     let s = c.before.before.before in
     let f = fits (length s.args.image.now) (area_of s.args.offset s.args.span) s.requires in
@@ -24,8 +24,8 @@ valid-header-requires c κs =
 returns : tie.Need-returns
 returns c =
     let s = c.before.before.before.before in
-    let e : c.before.before.area-end.result - s.args.offset ≡ s.args.span = omega arith in
-    rw e at c.valid-header.ensures
+    let e : c.before.before.area_end-end.result - s.args.offset ≡ s.args.span = omega arith in
+    rw e at c.valid_header.ensures
 
 pub valid_area_spec : {M : Type 1} → statement M
 valid_area_spec =

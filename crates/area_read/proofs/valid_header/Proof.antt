@@ -8,22 +8,22 @@ use borrow.Author.Rules.{rules}
 use Rattle.area_read.proofs.valid_header.Statement.{statement}
 use Rattle.area_read.proofs.valid_header.Tie as tie
 
-returns : tie.Need-returns
+returns : tie.Need-returns-else-magics_right
 unfolding valid_header
-returns c = simp (via c.before.magics-right.ensures c.if1.false)
+returns c = simp (via c.before.magics_right.ensures c.if-magics_right.false)
 
-returns-2 : tie.Need-returns-2
+returns-2 : tie.Need-returns-then-load32-described
 unfolding valid_header
 returns-2 c =
     let l = c.before in
     let m = l.before.before in
     let start = m.before.before in
     simp (
-      via m.magics-right.ensures l.before.if1.true,
-      ne_eqb (le32 start.args.area.now 16) start.args.described (λ e. c.if2.true (l.load32.ensures ∙ e)),
+      via m.magics_right.ensures l.before.if-magics_right.true,
+      ne_eqb (le32 start.args.area.now 16) start.args.described (λ e. c.if-load32-described.true (l.load32.ensures ∙ e)),
     )
 
-returns-3 : tie.Need-returns-3
+returns-3 : tie.Need-returns-then-area-ne0
 unfolding valid_header
 returns-3 c =
     let x = c.before.before in
@@ -31,12 +31,12 @@ returns-3 c =
     let m = l.before.before in
     let start = m.before.before in
     rw (
-      via m.magics-right.ensures l.before.if1.true,
-      eq-eqb (le32 start.args.area.now 16) start.args.described (via l.load32.ensures x.if2.false),
-      ne_eqb _ _ c.if3.true,
+      via m.magics_right.ensures l.before.if-magics_right.true,
+      eq-eqb (le32 start.args.area.now 16) start.args.described (via l.load32.ensures x.if-load32-described.false),
+      ne_eqb _ _ c.if-area-ne0.true,
     )
 
-returns-4 : tie.Need-returns-4
+returns-4 : tie.Need-returns
 unfolding valid_header
 returns-4 c =
     let z = c.before in
@@ -45,9 +45,9 @@ returns-4 c =
     let m = l.before.before in
     let start = m.before.before in
     rw (
-      via m.magics-right.ensures l.before.if1.true,
-      eq-eqb (le32 start.args.area.now 16) start.args.described (via l.load32.ensures x.if2.false),
-      eq-eqb _ _ z.if3.false,
+      via m.magics_right.ensures l.before.if-magics_right.true,
+      eq-eqb (le32 start.args.area.now 16) start.args.described (via l.load32.ensures x.if-load32-described.false),
+      eq-eqb _ _ z.if-area-ne0.false,
     )
 
 pub valid_header_spec : {M : Type 1} → statement M

@@ -12,7 +12,7 @@ returns c =
     let magic3 = magic4.before.before.before in
     let magic2 = magic3.before.before.before in
     let magic1 = magic2.before.before.before in
-    rw (size.store325.ensures, magic4.store324.ensures, magic3.store323.ensures, magic2.store322.ensures, magic1.store32.ensures)
+    rw (size.store32-5.ensures, magic4.store32-4.ensures, magic3.store32-3.ensures, magic2.store32-2.ensures, magic1.store32.ensures)
 
 pub area_header_spec : {M : Type 1} → statement M
 area_header_spec =

@@ -10,7 +10,7 @@ returns c =
     let w = c.before.before in
     let e = w.before.before.before.before in
     let s = e.before.before.before in
-    rw e.erase.ensures at w.write-area-header.ensures ∙ headed _ _ _ _ _ s.requires.0 s.requires.1
+    rw e.erase.ensures at w.write_area_header.ensures ∙ headed _ _ _ _ _ s.requires.0 s.requires.1
 
 pub write_area_spec : {M : Type 1} → statement M
 write_area_spec =

@@ -6,7 +6,7 @@ use Rattle.area_write.proofs.write_area_header.Tie as tie
 returns : tie.Need-returns
 returns c =
     let p = c.before.before in
-    rw p.before.before.before.area-header.ensures at p.put.ensures
+    rw p.before.before.before.area_header-header.ensures at p.put.ensures
 
 pub write_area_header_spec : {M : Type 1} → statement M
 write_area_header_spec =

@@ -6,14 +6,14 @@ use borrow.Author.Rules.{rules}
 use Rattle.table_fill.proofs.are_twins.Statement.{statement}
 use Rattle.table_fill.proofs.are_twins.Tie as tie
 
-returns : tie.Need-returns
-returns c = rw (ne_eqb _ _ (λ e. c.if1.true (c.before.before.id-at.ensures ∙ e ∙ sym c.before.id-at2.ensures)))
+returns : tie.Need-returns-then-id_at
+returns c = rw (ne_eqb _ _ (λ e. c.if-id_at.true (c.before.before.id_at.ensures ∙ e ∙ sym c.before.id_at-2.ensures)))
 
-returns-2 : tie.Need-returns-2
+returns-2 : tie.Need-returns
 returns-2 c =
     let i = c.before.before in
-    rw (eq-eqb _ _ (sym i.before.before.id-at.ensures ∙ i.if1.false ∙ i.before.id-at2.ensures))
-    (ap₂ eqb c.before.sequence-at.ensures c.sequence-at2.ensures)
+    rw (eq-eqb _ _ (sym i.before.before.id_at.ensures ∙ i.if-id_at.false ∙ i.before.id_at-2.ensures))
+    (ap₂ eqb c.before.sequence_at.ensures c.sequence_at-2.ensures)
 
 pub are_twins_spec : {M : Type 1} → statement M
 are_twins_spec =

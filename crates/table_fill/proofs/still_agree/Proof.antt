@@ -14,101 +14,78 @@ use Rattle.table_fill.specs.Twins.{TwinWalk, walk_twins, walk_on, no_twin_agrees
 use Rattle.table_fill.proofs.still_agree.Statement.{statement}
 use Rattle.table_fill.proofs.still_agree.Tie as tie
 
-abbrev invariant-loop : tie.invariant-loop
+abbrev invariant-loop : tie.invariant-loop-k
 invariant-loop image places twins n p agreed k₀ k = TwinWalk image places p n k
 
-abbrev decreases-loop : tie.decreases-loop
+abbrev decreases-loop : tie.decreases-loop-k
 decreases-loop image places twins n p agreed k₀ k = k
 
--- the arguments, from the head of the loop, and that those before agree
-abbrev start : tie.At-loop invariant-loop decreases-loop → tie.Start invariant-loop decreases-loop
-start l = l.before.before.before.before.before.before.before
+agreeing : (l : tie.At-loop-k invariant-loop decreases-loop) → all_agree (by_place l.args.image.now) (take l.args.n l.args.places.now) ≡ true
+agreeing l = sym l.requires.1.1.1.1 ∙ l.if-agreed.true
 
-agreeing : (l : tie.At-loop invariant-loop decreases-loop) → let s = start l in all_agree (by_place s.args.image.now) (take s.args.n s.args.places.now) ≡ true
-agreeing l = sym (start l).requires.1.1.1.1 ∙ l.before.before.before.if1.true
-
-returns : tie.Need-returns invariant-loop decreases-loop
+returns : tie.Need-returns-else-agreed invariant-loop decreases-loop
 returns c =
-    let s = c.before.before.before.before in
-    let image = s.args.image.now in
-    sym (disagree_more (by_place image) (places_equivalent image) (take s.args.n s.args.places.now) s.args.p (sym s.requires.1.1.1.1 ∙ c.if1.false))
+    let image = c.args.image.now in
+    sym (disagree_more (by_place image) (places_equivalent image) (take c.args.n c.args.places.now) c.args.p (sym c.requires.1.1.1.1 ∙ c.if-agreed.false))
 
-twin-slot-requires : tie.Need-twin-slot-requires invariant-loop decreases-loop
-twin-slot-requires c κs = c.before.before.before.before.requires.1.1.1.0
+twin-slot-requires : tie.Need-twin_slot-requires invariant-loop decreases-loop
+twin-slot-requires c κs = c.requires.1.1.1.0
 
-newest-requires : tie.Need-newest-requires invariant-loop decreases-loop
+newest-requires : tie.Need-newest-k-requires invariant-loop decreases-loop
 newest-requires c κs =
-    let s = c.before.before.before.before.before in
-    (rw c.twin-slot.ensures (slot_within _), omega (arith, s.requires.1.1.0.room))
+    (rw c.twin_slot.ensures (slot_within _), omega (arith, c.requires.1.1.0.room))
 
-loop-holds : tie.Need-loop-init invariant-loop decreases-loop
+loop-holds : tie.Need-loop-k-init invariant-loop decreases-loop
 loop-holds c =
-    let s = c.before.before.before.before.before.before in
-    rw (c.newest.ensures, c.before.twin-slot.ensures)
-    (walk_twins s.args.image.now s.args.places.now s.args.twins.now s.args.n s.requires.1.1.0 s.args.p)
+    rw (c.newest-k.ensures, c.twin_slot.ensures)
+    (walk_twins c.args.image.now c.args.places.now c.args.twins.now c.args.n c.requires.1.1.0 c.args.p)
 
-shared-slice-read-q : tie.Need-shared-slice-read-q invariant-loop decreases-loop
+shared-slice-read-q : tie.Need-bounds-places-k invariant-loop decreases-loop
 shared-slice-read-q c =
-    let l = c.before.before in
-    omega (arith, l.loop.invariant.within, (start l).requires.0, c.before.loop-test.true)
+    omega (arith, c.loop-k.invariant.within, c.requires.0, c.loop-k-test.true)
 
-cast-q : tie.Need-overflow-cast-q invariant-loop decreases-loop
-cast-q c = omega (arith, c.shared-slice-known4.given (c.before.before.loop.k - 1))
+cast-q : tie.Need-overflow_cast-q invariant-loop decreases-loop
+cast-q c = omega (arith, c.shared_slice_known-in-loop-k-1.given (c.loop-k.k - 1))
 
 -- the record that is met lies in the image
-met : (n : tie.In-loop invariant-loop decreases-loop) → let l = n.before in let s = start l in
-    Lies s.args.image.now (get_or s.args.places.now (l.loop.k - 1) 0)
-met n = let l = n.before in (start l).requires.1.0 (l.loop.k - 1) (omega (arith, l.loop.invariant.within, n.loop-test.true))
+met : (n : tie.In-loop-k invariant-loop decreases-loop) → Lies n.args.image.now (get_or n.args.places.now (n.loop-k.k - 1) 0)
+met n = n.requires.1.0 (n.loop-k.k - 1) (omega (arith, n.loop-k.invariant.within, n.loop-k-test.true))
 
-are-twins-requires : tie.Need-are-twins-requires invariant-loop decreases-loop
-are-twins-requires c κs = let n = c.before in ((start n.before).pre.1.1.1.0, met n)
+are-twins-requires : tie.Need-are_twins-requires invariant-loop decreases-loop
+are-twins-requires c κs = (c.requires.1.1.1.0, met c.before)
 
-same-bytes-requires : tie.Need-same-bytes-requires invariant-loop decreases-loop
-same-bytes-requires c κs = let n = c.before.before.before in ((start n.before).pre.1.1.1.0, met n)
+same-bytes-requires : tie.Need-same_bytes-requires invariant-loop decreases-loop
+same-bytes-requires c κs = (c.requires.1.1.1.0, met c.before.before.before)
 
-returns-2 : tie.Need-returns-2 invariant-loop decreases-loop
+returns-2 : tie.Need-returns-then-are_twins invariant-loop decreases-loop
 returns-2 c =
-    let t = c.before in
-    let n = t.before.before.before in
-    let l = n.before in
-    let s = start l in
-    let image = s.args.image.now in
+    let image = c.args.image.now in
     c.same_bytes.ensures
-    ∙ sym (twin_decides (by_place image) (places_equivalent image) (take s.args.n s.args.places.now) s.args.p (get_or s.args.places.now (l.loop.k - 1) 0)
-    (agreeing l)
-    (get_d_in s.args.n s.args.places.now (l.loop.k - 1) (omega (arith, l.loop.invariant.within, n.loop-test.true)) s.pre.0)
-    (sym t.before.are_twins.ensures ∙ t.if2.true))
+    ∙ sym (twin_decides (by_place image) (places_equivalent image) (take c.args.n c.args.places.now) c.args.p (get_or c.args.places.now (c.loop-k.k - 1) 0)
+    (agreeing c.before.before.before.before.before)
+    (get_d_in c.args.n c.args.places.now (c.loop-k.k - 1) (omega (arith, c.loop-k.invariant.within, c.loop-k-test.true)) c.requires.0)
+    (sym c.are_twins.ensures ∙ c.if-are_twins.true))
 
-before-requires : tie.Need-before-requires invariant-loop decreases-loop
+before-requires : tie.Need-before-k-requires invariant-loop decreases-loop
 before-requires c κs =
-    let n = c.before.before.before in
-    let l = n.before in
-    (n.loop-test.true, omega (arith, l.loop.invariant.within, (start l).requires.1.1.0.room))
+    (c.loop-k-test.true, omega (arith, c.loop-k.invariant.within, c.requires.1.1.0.room))
 
-loop-less : tie.Need-loop-smaller invariant-loop decreases-loop
+loop-less : tie.Need-loop-k-smaller invariant-loop decreases-loop
 loop-less c =
-    let n = c.before.before.before.before in
-    let l = n.before in
-    omega (arith, c.before2.ensures, n.loop-test.true, ((start l).requires.1.1.0.indexes.before l.loop.k n.loop-test.true l.loop.invariant.within).within)
+    omega (arith, c.before-k.ensures, c.loop-k-test.true, (c.requires.1.1.0.indexes.before c.loop-k.k c.loop-k-test.true c.loop-k.invariant.within).within)
 
-loop-again : tie.Need-loop-preserved invariant-loop decreases-loop
+loop-again : tie.Need-loop-k-preserved invariant-loop decreases-loop
 loop-again c =
-    let e = c.before in
-    let n = e.before.before.before in
-    let l = n.before in
-    let s = start l in
-    rw c.before2.ensures
-    (walk_on s.args.image.now s.args.places.now s.args.twins.now s.args.n s.pre.1.1.0 s.args.p l.loop.k
-    n.loop-test.true (sym e.before.are_twins.ensures ∙ e.if2.false) l.loop.invariant)
+    rw c.before-k.ensures
+    (walk_on c.args.image.now c.args.places.now c.args.twins.now c.args.n c.requires.1.1.0 c.args.p c.loop-k.k
+    c.loop-k-test.true (sym c.are_twins.ensures ∙ c.if-are_twins.false) c.loop-k.invariant)
 
-returns-3 : tie.Need-returns-3 invariant-loop decreases-loop
+returns-3 : tie.Need-returns invariant-loop decreases-loop
 returns-3 c =
-    let l = c.before in
-    let s = start l in
-    let image = s.args.image.now in
-    let z : l.loop.k ≡ 0 = omega (arith, c.loop-test.false) in
-    sym (agree_more (by_place image) (places_equivalent image) (take s.args.n s.args.places.now) s.args.p (agreeing l)
-    ∙ no_twin_agrees image s.args.places.now s.args.n s.args.p s.pre.0 (rw z at l.loop.invariant))
+    let image = c.args.image.now in
+    let z : c.loop-k.k ≡ 0 = omega (arith, c.loop-k-test.false) in
+    sym (agree_more (by_place image) (places_equivalent image) (take c.args.n c.args.places.now) c.args.p (agreeing c.before)
+    ∙ no_twin_agrees image c.args.places.now c.args.n c.args.p c.requires.0 (rw z at c.loop-k.invariant))
 
 pub still_agree_spec : {M : Type 1} → statement M
 still_agree_spec =

@@ -7,40 +7,30 @@ use borrow.Author.Rules.{rules}
 use Rattle.table_fill.proofs.tabulate.Statement.{statement}
 use Rattle.table_fill.proofs.tabulate.Tie as tie
 
--- the arguments, from where the kind is known
-abbrev start : tie.After-is-block-at → tie.Start
-start c = c.before.before.before.before.before.before
-
 update-requires : tie.Need-update-requires
 update-requires c κs =
-    let s = start c.before.before.before.before in
-    (block_part_lem s.pre.1.0 s.pre.0, (s.pre.1.1.0.blocks, s.pre.1.1.1))
+    (block_part_lem c.requires.1.0 c.requires.0, (c.requires.1.1.0.blocks, c.requires.1.1.1))
 
-returns : tie.Need-returns
+returns : tie.Need-returns-then-is_block_at
 returns c =
-    let k = c.before.before.before.before.before.before in
-    let i = k.before.before.before.before in
-    let s = start i.before in (
-      shown_block s.pre.1.0 s.pre.0 s.args.p k.update.result k.update.new.1.1.1.0 k.update.auto.1.1.1.0
-          (sym i.before.is-block-at.ensures ∙ i.if1.true) k.update.new.1.0 k.update.ensures.0,
-      indexed_block s.pre.1.0 s.pre.1.1.0 k.update.new.1.1.0 k.update.new.1.1.1.0 k.update.new.1.0
-          k.update.ensures.1.long (k.update.auto.1.1.1.0 ∙ part_long inode_rows block_rows s.args.rows.now (omega (arith, s.pre.1.0.both))) k.update.ensures.1,
+    (
+      shown_block c.requires.1.0 c.requires.0 c.args.p c.update.result c.update.new.rows c.update.auto.rows
+          (sym c.is_block_at.ensures ∙ c.if-is_block_at.true) c.update.new.words c.update.ensures.0,
+      indexed_block c.requires.1.0 c.requires.1.1.0 c.update.new.index c.update.new.rows c.update.new.words
+          c.update.ensures.1.long (c.update.auto.rows ∙ part_long inode_rows block_rows c.args.rows.now (omega (arith, c.requires.1.0.both))) c.update.ensures.1,
     )
 
 update-requires-2 : tie.Need-update-requires-2
 update-requires-2 c κs =
-    let s = start c.before.before.before.before in
-    (inode_part_lem s.pre.1.0 s.pre.0, (s.pre.1.1.0.inodes, s.pre.1.1.1))
+    (inode_part_lem c.requires.1.0 c.requires.0, (c.requires.1.1.0.inodes, c.requires.1.1.1))
 
-returns-2 : tie.Need-returns-2
+returns-2 : tie.Need-returns
 returns-2 c =
-    let k = c.before.before.before.before.before.before in
-    let i = k.before.before.before.before in
-    let s = start i.before in (
-      shown_inode s.pre.1.0 s.pre.0 s.args.p k.update2.result k.update2.new.1.1.1.0 k.update2.auto.1.1.1.0
-          (sym i.before.is-block-at.ensures ∙ i.if1.false) k.update2.new.1.0 k.update2.ensures.0,
-      indexed_inode s.pre.1.0 s.pre.1.1.0 k.update2.new.1.1.0 k.update2.new.1.1.1.0 k.update2.new.1.0
-          k.update2.ensures.1.long (k.update2.auto.1.1.1.0 ∙ part_long 0 inode_rows s.args.rows.now (omega (arith, s.pre.1.0.both))) k.update2.ensures.1,
+    (
+      shown_inode c.requires.1.0 c.requires.0 c.args.p c.update-2.result c.update-2.new.rows c.update-2.auto.rows
+          (sym c.is_block_at.ensures ∙ c.if-is_block_at.false) c.update-2.new.words c.update-2.ensures.0,
+      indexed_inode c.requires.1.0 c.requires.1.1.0 c.update-2.new.index c.update-2.new.rows c.update-2.new.words
+          c.update-2.ensures.1.long (c.update-2.auto.rows ∙ part_long 0 inode_rows c.args.rows.now (omega (arith, c.requires.1.0.both))) c.update-2.ensures.1,
     )
 
 pub tabulate_spec : {M : Type 1} → statement M
