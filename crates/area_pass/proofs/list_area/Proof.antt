@@ -25,30 +25,22 @@ record Both (area : List ℕ) (base : ℕ) (places₀ : List ℕ) (n stretch : �
   listing : Listing area base places₀ n places k at
   reading : Read area stretch at damage
 
-abbrev invariant-loop : tie.invariant-loop
+abbrev invariant-loop : tie.invariant-loop-next
 invariant-loop high low area base places₀ n stretch written k₀ at₀ damage₀ places k at damage = Both area base places₀ n stretch places k at damage
 
-abbrev decreases-loop : tie.decreases-loop
+abbrev decreases-loop : tie.decreases-loop-next
 decreases-loop high low area base places₀ n stretch written k₀ at₀ damage₀ places k at damage = length area - at
 
--- the arguments, from the head of the loop
-abbrev start : tie.At-loop invariant-loop decreases-loop → tie.Start invariant-loop decreases-loop
-start l = l.before.before.before.before.before.before.before.before
-
 -- what the next record tells
-next : (c : tie.After-next-record invariant-loop decreases-loop) → Nexts (start c.before).args.area.now c.before.loop.at c.next-record.result
+next : (c : tie.After-next_record-next invariant-loop decreases-loop) → Nexts c.args.area.now c.loop-next.at c.next_record-next.result
 next c =
-    let l = c.before in
-    next_law (start l).args.area.now l.loop.at c.next-record.result l.loop.invariant.listing.within c.next-record.ensures
+    next_law c.args.area.now c.loop-next.at c.next_record-next.result c.loop-next.invariant.listing.within c.next_record-next.ensures
 
 -- there is a place for it
-room : (c : tie.Else1 invariant-loop decreases-loop) → let l = c.before.before.before in l.loop.k < length l.loop.places
+room : (c : tie.Else-next-eq0 invariant-loop decreases-loop) → c.loop-next.k < length c.loop-next.places
 room c =
-    let n = c.before.before in
-    let l = n.before in
-    let s = start l in
-    has_room s.args.area.now s.args.base s.args.places.now s.args.n l.loop.places l.loop.k l.loop.at s.pre.1 l.loop.invariant.listing
-    n.next-record.result (next n) c.if1.false
+    has_room c.args.area.now c.args.base c.args.places.now c.args.n c.loop-next.places c.loop-next.k c.loop-next.at c.requires.1 c.loop-next.invariant.listing
+    c.next_record-next.result (next c.before.before) c.if-next-eq0.false
 
 -- the numbers of a turn that has found a record
 record Turn (at f size length k most base : ℕ) : Type 0 where
@@ -58,98 +50,77 @@ record Turn (at f size length k most base : ℕ) : Type 0 where
   room : k < most
   end : base + length ≤ largest_image
 
-turn : (c : tie.Else1 invariant-loop decreases-loop) → let n = c.before.before in let l = n.before in
-    Turn l.loop.at n.next-record.result.at n.next-record.result.size (length (start l).args.area.now) l.loop.k (length l.loop.places) (start l).args.base
+turn : (c : tie.Else-next-eq0 invariant-loop decreases-loop) → Turn c.loop-next.at c.next_record-next.result.at c.next_record-next.result.size (length c.args.area.now) c.loop-next.k (length c.loop-next.places) c.args.base
 turn c =
-    let n = c.before.before in
-    let l = n.before in
     record {
-      after = (next n).after;
-      inside = (next n).room;
-      least = (next n).least c.if1.false;
+      after = (next c.before.before).after;
+      inside = (next c.before.before).room;
+      least = (next c.before.before).least c.if-next-eq0.false;
       room = room c;
-      end = (start l).requires.1.inside;
+      end = c.requires.1.inside;
     }
 
-erased-inside : tie.Need-overflow-sub-written invariant-loop decreases-loop
+erased-inside : tie.Need-overflow_sub-written invariant-loop decreases-loop
 erased-inside c =
-    let area = c.before.before.before.before.before.before.args.area.now in
-    omega (arith, rw (rest_part area area_header_size) at c.erased-end.ensures, erased_end_le (drop area_header_size area), length-drop area_header_size area)
+    let area = c.args.area.now in
+    omega (arith, rw (rest_part area area_header_size) at c.erased_end.ensures, erased_end_le (drop area_header_size area), length-drop area_header_size area)
 
-loop-holds : tie.Need-loop-init invariant-loop decreases-loop
+loop-holds : tie.Need-loop-next-init invariant-loop decreases-loop
 loop-holds c =
-    let s = c.before.before.before.before.before.before.before in
     record {
-      listing = listing_begins s.args.area.now s.args.base s.args.places.now s.args.n s.requires.1;
-      reading = read_begins s.args.area.now s.args.stretch c.no_damage.result s.requires.1.header (c.no_damage.ensures s.args.stretch);
+      listing = listing_begins c.args.area.now c.args.base c.args.places.now c.args.n c.requires.1;
+      reading = read_begins c.args.area.now c.args.stretch c.no_damage-damage.result c.requires.1.header (c.no_damage-damage.ensures c.args.stretch);
     }
 
 -- what is written of the area ends, from where the loop has come to, where it was found before it
-written : (l : tie.At-loop invariant-loop decreases-loop) → Ended (start l).args.area.now l.loop.at (length (start l).args.area.now - l.before.before.erased-end.result)
+written : (l : tie.At-loop-next invariant-loop decreases-loop) → Ended l.args.area.now l.loop-next.at (length l.args.area.now - l.erased_end.result)
 written l =
-    let s = start l in
-    ended s.args.area.now area_header_size l.loop.at l.before.before.erased-end.result l.loop.invariant.reading.started l.loop.invariant.reading.within
-    (rw (rest_part s.args.area.now area_header_size) at l.before.before.erased-end.ensures)
+    ended l.args.area.now area_header_size l.loop-next.at l.erased_end.result l.loop-next.invariant.reading.started l.loop-next.invariant.reading.within
+    (rw (rest_part l.args.area.now area_header_size) at l.erased_end.ensures)
 
-next-record-requires : tie.Need-next-record-requires invariant-loop decreases-loop
-next-record-requires c κs = ((start c).requires.0, (written c).written_to)
+next-record-requires : tie.Need-next_record-next-requires invariant-loop decreases-loop
+next-record-requires c κs = (c.requires.0, (written c).written_to)
 
 -- where free space starts: not before the place the loop has come to, and in the area
-free : (c : tie.After-later invariant-loop decreases-loop) → let l = c.before.before.before.before in
-    (l.loop.at ≤ c.later.result) × (c.later.result ≤ length (start l).args.area.now)
-    × (erased_end (drop l.loop.at (start l).args.area.now) ≡ length (start l).args.area.now - c.later.result)
+free : (c : tie.After-later-free invariant-loop decreases-loop) → (c.loop-next.at ≤ c.later-free.result) × (c.later-free.result ≤ length c.args.area.now)
+    × (erased_end (drop c.loop-next.at c.args.area.now) ≡ length c.args.area.now - c.later-free.result)
 free c =
-    let l = c.before.before.before.before in
-    let w = written l in
-    let n = length (start l).args.area.now - l.before.before.erased-end.result in
-    let b = later_between l.loop.at n (length (start l).args.area.now) w.written_to.within (omega arith) in
-    rw c.later.ensures (b.0, b.1, w.ends)
+    let w = written c.before.before.before.before in
+    let n = length c.args.area.now - c.erased_end.result in
+    let b = later_between c.loop-next.at n (length c.args.area.now) w.written_to.within (omega arith) in
+    rw c.later-free.ensures (b.0, b.1, w.ends)
 
-sub-with-stretch : tie.Need-overflow-sub-with-stretch invariant-loop decreases-loop
+sub-with-stretch : tie.Need-overflow_sub-free invariant-loop decreases-loop
 sub-with-stretch c = (free c).0
 
-with-stretch-requires : tie.Need-with-stretch-requires invariant-loop decreases-loop
+with-stretch-requires : tie.Need-with_stretch-requires invariant-loop decreases-loop
 with-stretch-requires c κs =
-    let l = c.before.before.before.before in
-    let s = start l in
     let f = free c in
-    fewer s.args.area.now s.args.stretch l.loop.at l.loop.damage l.loop.invariant.reading (omega (arith, s.pre.1.inside)) _ _
-    (omega (arith, f.0, f.1, s.pre.1.inside))
+    fewer c.args.area.now c.args.stretch c.loop-next.at c.loop-next.damage c.loop-next.invariant.reading (omega (arith, c.requires.1.inside)) _ _
+    (omega (arith, f.0, f.1, c.requires.1.inside))
 
-returns : tie.Need-returns invariant-loop decreases-loop
+returns : tie.Need-returns-then-next-eq0 invariant-loop decreases-loop
 returns c =
-    let e = c.before in
-    let t = e.before in
-    let n = t.before.before in
-    let l = n.before in
-    let s = start l in
-    let f = free e in (
-      listing-ends s.args.area.now s.args.base s.args.places.now s.args.n l.loop.places l.loop.k l.loop.at s.pre.1 l.loop.invariant.listing
-          n.next-record.result (next n) t.if1.true,
-      read_ends s.args.area.now s.args.stretch l.loop.at l.loop.damage l.loop.invariant.reading
-          n.next-record.result n.next-record.ensures t.if1.true e.later.result f.0 f.1 f.2
-          c.with-stretch.result (λ m q. stretch_behind _ _ _ _ m q _ c.with-stretch.ensures),
+    let f = free c.before in (
+      listing-ends c.args.area.now c.args.base c.args.places.now c.args.n c.loop-next.places c.loop-next.k c.loop-next.at c.requires.1 c.loop-next.invariant.listing
+          c.next_record-next.result (next c.before.before.before.before) c.if-next-eq0.true,
+      read_ends c.args.area.now c.args.stretch c.loop-next.at c.loop-next.damage c.loop-next.invariant.reading
+          c.next_record-next.result c.next_record-next.ensures c.if-next-eq0.true c.later-free.result f.0 f.1 f.2
+          c.with_stretch.result (λ m q. stretch_behind _ _ _ _ m q _ c.with_stretch.ensures),
     )
 
-with-stretch-requires-2 : tie.Need-with-stretch-requires-2 invariant-loop decreases-loop
+with-stretch-requires-2 : tie.Need-with_stretch-damage-requires invariant-loop decreases-loop
 with-stretch-requires-2 c κs =
     let t = turn c in
-    let l = c.before.before.before in
-    let s = start l in
-    fewer s.args.area.now s.args.stretch l.loop.at l.loop.damage l.loop.invariant.reading (omega arith) _ _ (omega arith)
+    fewer c.args.area.now c.args.stretch c.loop-next.at c.loop-next.damage c.loop-next.invariant.reading (omega arith) _ _ (omega arith)
 
-loop-again : tie.Need-loop-preserved invariant-loop decreases-loop
+loop-again : tie.Need-loop-next-preserved invariant-loop decreases-loop
 loop-again c =
-    let o = c.before in
-    let e = o.before in
-    let n = e.before.before in
-    let l = n.before in
-    let s = start l in
     record {
-      listing = listing_on s.args.area.now s.args.base s.args.places.now s.args.n l.loop.places l.loop.k l.loop.at s.pre.1 l.loop.invariant.listing
-          n.next-record.result (next n) e.if1.false;
-      reading = read_on s.args.area.now s.args.stretch l.loop.at l.loop.damage l.loop.invariant.reading
-          n.next-record.result n.next-record.ensures e.if1.false o.with-stretch2.result (λ m q. stretch_behind _ _ _ _ m q _ o.with-stretch2.ensures);
+      listing = listing_on c.args.area.now c.args.base c.args.places.now c.args.n c.loop-next.places c.loop-next.k c.loop-next.at c.requires.1 c.loop-next.invariant.listing
+          c.next_record-next.result (next c.before.before.before.before) c.if-next-eq0.false;
+      reading = read_on c.args.area.now c.args.stretch c.loop-next.at c.loop-next.damage c.loop-next.invariant.reading
+          c.next_record-next.result c.next_record-next.ensures c.if-next-eq0.false c.with_stretch-damage.result (λ m q. stretch_behind _ _ _ _ m q _ c.with_stretch-damage.ensures);
     }
 
 pub list_area_spec : {M : Type 1} → statement M
@@ -169,15 +140,15 @@ list_area_spec =
     (λ c κs. search rules)
     sub-with-stretch
     with-stretch-requires
-    (λ c. c.before.before.before.before.before.loop.invariant.listing.long)
+    (λ c. c.loop-next.invariant.listing.long)
     returns
     (λ c. omega (arith, (turn c).after))
     with-stretch-requires-2
     (λ c. let t = turn c.before in omega arith)
     (λ c. let t = turn c.before in omega arith)
-    (λ c. let t = turn c.before in let s = start c.before.before.before.before in omega arith)
+    (λ c. let t = turn c.before in omega arith)
     (λ c. (turn c.before).room)
-    (λ c. let t = turn c.before in let s = start c.before.before.before.before in omega arith)
+    (λ c. let t = turn c.before in omega arith)
     (λ c. let t = turn c.before.before in omega arith)
     (λ c. let t = turn c.before.before in omega arith)
     loop-again)

@@ -65,10 +65,10 @@ use Rattle.calls.specs.contracts.Descriptor as D
 use Rattle.calls.proofs.Descriptor.TheLaws as D'
 use Rattle.area_structs.specs.contracts.Areas as R
 use Rattle.area_structs.proofs.Areas.TheLaws as R'
-use Rattle.area_structs.specs.contracts.step as step
-use Rattle.area_structs.proofs.step.Symbol as step-def
-use Rattle.area_structs.proofs.step.Symbol.{name as #descriptor-list·step}
-use Rattle.area_structs.proofs.step.Met as step_thm
+use Rattle.area_structs.specs.contracts.step-i as step
+use Rattle.area_structs.proofs.step-i.Symbol as step-def
+use Rattle.area_structs.proofs.step-i.Symbol.{name as #descriptor-list·step}
+use Rattle.area_structs.proofs.step-i.Met as step_thm
 use Rattle.area_structs.specs.contracts.areas_of.Key.{name as #descriptor-list·areas-of}
 use Rattle.area_structs.specs.contracts.areas_of as f
 use Rattle.area_structs.proofs.areas_of.Statement as stated
@@ -171,7 +171,7 @@ module _ {M : Type 1} {𝓤 : Ura M} (𝓛 : Logic 𝓤) (mem : Memory → SProp
   abbrev to : ℕ → ℕ → GName → List ℕ → ℕ → Descriptor → (Step 𝓛 mem run).Ghost
   to l ν δ xs i d = (((ν ∷ [], tt), (full_share, tt), tt, (lent l δ xs, (i, (n, (d, tt)))), (vptr l 0 ∷ [], (vint w64 i ∷ [], (vint w64 n ∷ [], (entry d ∷ [], tt))))), tt)
 
-  asked : (l ν : ℕ) (δ : GName) (xs : List ℕ) (i : ℕ) (d : Descriptor) → i < n → Is D.the_row d (entry d ∷ []) → ent 𝓤 (sep 𝓤 (A.lft (ν ∷ []) full_share) (sem 𝓛 (Lent l ν δ xs))) ((Step 𝓛 mem run).pre (to l ν δ xs i d))
+  asked : (l ν : ℕ) (δ : GName) (xs : List ℕ) (i : ℕ) (d : Descriptor) → i < n → Is D.the_row d (entry d ∷ []) → ent 𝓤 (sep 𝓤 (A.lft (ν ∷ []) full_share) (sem 𝓛 (Lent l ν δ xs))) ((Step 𝓛 mem run).requires (to l ν δ xs i d))
   asked l ν δ xs i d less g =
       qed 𝓛 (‵ (flft (ν ∷ []) full_share) ∷ ‵ (Lent l ν δ xs) ∷ []) ∵ says ! less $ nothing ! $ move ! (1 ∷ 0 ∷ []) $ join ! $ frame ! $ frame ! $
       nothing ! $ owned ! D.the_row (Is D.the_row) ((LL.makes D.the_type D'.the_plain) 𝓛) d _ g $ fjoin ! $ owned ! usize (Is usize) (uint_Makes 𝓛 w64) n _ (refl, room.0) $ fjoin ! $
@@ -246,7 +246,7 @@ module _ {M : Type 1} {𝓤 : Ura M} (𝓛 : Logic 𝓤) (mem : Memory → SProp
         lft_new ! tt (λ ν. move ! (3 ∷ []) $
         use1 𝓛 (later (some (λ (δ : GName). ‵ (Lent l₃ ν δ s.xs) ⊛ ‵ (flent (ν ∷ []) (Body (in_memory N) l₃ 0 δ))))) (lends_ref 𝓛 N (named 0) (ν ∷ []) s.xs l₃ 0) $ await ! tt $ pick ! (λ δ. split ! $
         -- [the reference; the lender's part; ν's token; the token; the fractured borrow; room for _10; …]
-        move ! (2 ∷ 0 ∷ []) $ use2 𝓛 (raw ((Step 𝓛 mem run).pre (to l₃ ν δ s.xs s.i d))) (asked l₃ ν δ s.xs s.i d less g) $
+        move ! (2 ∷ 0 ∷ []) $ use2 𝓛 (raw ((Step 𝓛 mem run).requires (to l₃ ν δ s.xs s.i d))) (asked l₃ ν δ s.xs s.i d less g) $
         calls_at_last ! (fm_of 𝓤 H 𝓛.laws 𝓣) (Step 𝓛 mem run) known (to l₃ ν δ s.xs s.i d) (and_then ! (load ! (from ! (stop !)) (look ! 12 refl)) (and_then ! (load ! (from ! (stop !)) (look ! 16 refl)) (and_then ! (load ! (from ! (stop !)) (look ! 19 refl)) (and_then ! (load ! (from ! (stop !)) (look ! 6 refl)) (no_more !))))) (λ w.
         use1 𝓛 (later (some (λ (r : ℕ). ((‵ (flft (ν ∷ []) full_share) ⊛ ‵ ftrue) ⊛ ‵ (usize.own_val r (w ∷ []))) ⊛ some (λ (ws : Lasts step.ended (ν ∷ [], tt) (lent l₃ δ s.xs, (s.i, (n, (d, tt))))). ‵ (lasts step.ended (ν ∷ [], tt) (lent l₃ δ s.xs, (s.i, (n, (d, tt)))) ws) ⊛ raw (fact 𝓤 (Went r ws.0)))))) (id⊢ 𝓤 _) $ await ! tt $ pick ! (λ r.
         split ! $ move ! (1 ∷ []) $ pick ! (λ ws. split ! $ move ! (1 ∷ []) $ heard ! (Went r ws.0) (λ e. fsplit ! $ move ! (1 ∷ []) $ drop-it ! $ move ! (1 ∷ []) $ split ! $ split ! $ move ! (1 ∷ []) $ drop-it ! $

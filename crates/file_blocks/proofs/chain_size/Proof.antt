@@ -13,89 +13,73 @@ use borrow.Author.Rules.{rules}
 use Rattle.file_blocks.proofs.chain_size.Statement.{statement}
 use Rattle.file_blocks.proofs.chain_size.Tie as tie
 
-abbrev invariant-loop : tie.invariant-loop
+abbrev invariant-loop : tie.invariant-loop-left
 invariant-loop image ids spots file start count id₀ left₀ size₀ id left size =
     (left ≤ count)
     × (size + left * 65535 ≤ count * 65535)
     × (text_size (by_place image) (chain_back (by_place image) (found (length ids) ids spots) file count start)
     ≡ size_with (by_place image) size (chain_back (by_place image) (found (length ids) ids spots) file left id))
 
-abbrev decreases-loop : tie.decreases-loop
+abbrev decreases-loop : tie.decreases-loop-left
 decreases-loop image ids spots file start count id₀ left₀ size₀ id left size = left
 
--- the arguments, from the loop
-abbrev start : tie.At-loop invariant-loop decreases-loop → tie.Start invariant-loop decreases-loop
-start l = l.before.before.before.before
-
-abbrev at-loop : tie.After-known-told invariant-loop decreases-loop → tie.At-loop invariant-loop decreases-loop
-at-loop k = k.before.before.before.before.before
-
 -- the block that was found
-there : (k : tie.After-known-told invariant-loop decreases-loop)
-    → some k.before.p.given.0.0
-    ≡ block_for (by_place (start (at-loop k)).args.image.now) (start (at-loop k)).args.file
-    (found (length (start (at-loop k)).args.ids.now) (start (at-loop k)).args.ids.now (start (at-loop k)).args.spots.now) (at-loop k).loop.id
-there k = sym (ap spot_of k.before.p.given.1) ∙ k.before.before.before.own_block.ensures
+there : (k : tie.In-At invariant-loop decreases-loop)
+    → some k.in-At.p
+    ≡ block_for (by_place k.args.image.now) k.args.file
+    (found (length k.args.ids.now) k.args.ids.now k.args.spots.now) k.loop-left.id
+there k = sym (ap spot_of k.in-At.is) ∙ k.own_block.ensures
 
-loop-holds : tie.Need-loop-init invariant-loop decreases-loop
+loop-holds : tie.Need-loop-left-init invariant-loop decreases-loop
 loop-holds c = (omega arith, omega arith, sym (size_begins _ _))
 
-returns : tie.Need-returns invariant-loop decreases-loop
+returns : tie.Need-returns-in_default invariant-loop decreases-loop
 returns c =
-    let o = c.before.before in
-    let l = o.before.before in
-    let a = (start l).args in (
+    let a = c.args in (
       omega arith,
-      sym (l.loop.invariant.2
-          ∙ size_broken (by_place a.image.now) a.file (found (length a.ids.now) a.ids.now a.spots.now) l.loop.size l.loop.left l.loop.id
-          (omega (arith, o.before.loop-test.true)) (sym (ap spot_of c.enum_told.given.1) ∙ o.own_block.ensures)),
+      sym (c.loop-left.invariant.2
+          ∙ size_broken (by_place a.image.now) a.file (found (length a.ids.now) a.ids.now a.spots.now) c.loop-left.size c.loop-left.left c.loop-left.id
+          (omega (arith, c.loop-left-test.true)) (sym (ap spot_of c.in_default.is) ∙ c.own_block.ensures)),
     )
 
-data-length-requires : tie.Need-data-length-requires invariant-loop decreases-loop
+data-length-requires : tie.Need-data_length-size-requires invariant-loop decreases-loop
 data-length-requires c κs =
-    let s = start (at-loop c) in (
-      own_lies s.pre.0 s.args.file (at-loop c).loop.id _ (there c),
-      own_block s.pre.0 s.args.file (at-loop c).loop.id _ (there c),
+    (
+      own_lies c.requires.0 c.args.file c.loop-left.id _ (there c),
+      own_block c.requires.0 c.args.file c.loop-left.id _ (there c),
     )
 
-previous-at-requires : tie.Need-previous-at-requires invariant-loop decreases-loop
+previous-at-requires : tie.Need-previous_at-id-requires invariant-loop decreases-loop
 previous-at-requires c κs =
-    let k = c.before in
-    let s = start (at-loop k) in
-    own_lies s.pre.0 s.args.file (at-loop k).loop.id _ (there k)
+    own_lies c.requires.0 c.args.file c.loop-left.id _ (there c.before)
 
-loop-again : tie.Need-loop-preserved invariant-loop decreases-loop
+loop-again : tie.Need-loop-left-preserved invariant-loop decreases-loop
 loop-again c =
-    let d = c.before in
-    let k = d.before in
-    let l = at-loop k in
-    let a = (start l).args in (
+    let a = c.args in (
       omega arith,
-      omega (arith, l.loop.inv.1, d.data-length.ensures.1.1),
-      l.loop.inv.2
-          ∙ size_step (by_place a.image.now) a.file (found (length a.ids.now) a.ids.now a.spots.now) l.loop.size l.loop.left l.loop.id
-          k.before.p.given.0.0 d.data-length.result c.previous-at.result
-          (omega (arith, k.before.before.before.before.loop-test.true)) (there k) d.data-length.ensures.0 c.previous-at.ensures,
+      omega (arith, c.loop-left.invariant.1, c.data_length-size.ensures.1.1),
+      c.loop-left.invariant.2
+          ∙ size_step (by_place a.image.now) a.file (found (length a.ids.now) a.ids.now a.spots.now) c.loop-left.size c.loop-left.left c.loop-left.id
+          c.in-At.p c.data_length-size.result c.previous_at-id.result
+          (omega (arith, c.loop-left-test.true)) (there c.before.before) c.data_length-size.ensures.0 c.previous_at-id.ensures,
     )
 
-returns-2 : tie.Need-returns-2 invariant-loop decreases-loop
+returns-2 : tie.Need-returns-then-id invariant-loop decreases-loop
 returns-2 c =
-    let l = c.before.before in
-    let a = (start l).args in (
-      omega (arith, l.loop.invariant.1),
-      sym (l.loop.invariant.2
-          ∙ size_ends (by_place a.image.now) a.file (found (length a.ids.now) a.ids.now a.spots.now) l.loop.size l.loop.left l.loop.id
-          (omega (arith, c.before.loop-test.false)) c.if1.true),
+    let a = c.args in (
+      omega (arith, c.loop-left.invariant.1),
+      sym (c.loop-left.invariant.2
+          ∙ size_ends (by_place a.image.now) a.file (found (length a.ids.now) a.ids.now a.spots.now) c.loop-left.size c.loop-left.left c.loop-left.id
+          (omega (arith, c.loop-left-test.false)) c.if-id.true),
     )
 
-returns-3 : tie.Need-returns-3 invariant-loop decreases-loop
+returns-3 : tie.Need-returns invariant-loop decreases-loop
 returns-3 c =
-    let l = c.before.before in
-    let a = (start l).args in (
+    let a = c.args in (
       omega arith,
-      sym (l.loop.invariant.2
-          ∙ size_more (by_place a.image.now) a.file (found (length a.ids.now) a.ids.now a.spots.now) l.loop.size l.loop.left l.loop.id
-          (omega (arith, c.before.loop-test.false)) c.if1.false),
+      sym (c.loop-left.invariant.2
+          ∙ size_more (by_place a.image.now) a.file (found (length a.ids.now) a.ids.now a.spots.now) c.loop-left.size c.loop-left.left c.loop-left.id
+          (omega (arith, c.loop-left-test.false)) c.if-id.false),
     )
 
 pub chain_size_spec : {M : Type 1} → statement M

@@ -4,15 +4,15 @@ use borrow.Author.Rules.{rules}
 use Rattle.file_blocks.proofs.is_end.Statement.{statement}
 use Rattle.file_blocks.proofs.is_end.Tie as tie
 
-returns : tie.Need-returns
+returns : tie.Need-returns-then-is_mine
 unfolding is_end
 returns c =
     let t = c.before.before in
-    rw (← t.before.is-mine.ensures, t.if1.true, ← c.before.id-at.ensures) c.is_free.ensures
+    rw (← t.before.is_mine.ensures, t.if-is_mine.true, ← c.before.id_at.ensures) c.is_free.ensures
 
-returns-2 : tie.Need-returns-2
+returns-2 : tie.Need-returns
 unfolding is_end
-returns-2 c = rw (← c.before.is-mine.ensures, c.if1.false)
+returns-2 c = rw (← c.before.is_mine.ensures, c.if-is_mine.false)
 
 pub is_end_spec : {M : Type 1} → statement M
 is_end_spec =

@@ -10,41 +10,33 @@ use borrow.Author.Rules.{rules}
 use Rattle.file_blocks.proofs.own_block.Statement.{statement}
 use Rattle.file_blocks.proofs.own_block.Tie as tie
 
--- the arguments, from where the table was searched
-abbrev start : tie.After-find → tie.Start
-start c = c.before.before.before.before
-
 -- what was found
-there : (c : tie.After-known-told)
-    → some c.before.p.given.0.0
-    ≡ found (length (start c.before.before.before).args.ids.now) (start c.before.before.before).args.ids.now (start c.before.before.before).args.spots.now (start c.before.before.before).args.id
-there c = let f = c.before.before.before in sym (ap spot_of c.before.p.given.1) ∙ f.find.ensures
+there : (c : tie.In-At)
+    → some c.in-At.p
+    ≡ found (length c.args.ids.now) c.args.ids.now c.args.spots.now c.args.id
+there c = sym (ap spot_of c.in-At.is) ∙ c.find.ensures
 
-returns : tie.Need-returns
+returns : tie.Need-returns-in_default
 returns c =
-    let f = c.before.before in
-    let a = (start f).args in
+    let a = c.args in
     block_absent (by_place a.image.now) a.file (found (length a.ids.now) a.ids.now a.spots.now) a.id
-    (sym (ap spot_of c.enum_told.given.1) ∙ f.find.ensures)
+    (sym (ap spot_of c.in_default.is) ∙ c.find.ensures)
 
-is-mine-requires : tie.Need-is-mine-requires
+is-mine-requires : tie.Need-is_mine-requires
 is-mine-requires c κs =
-    let s = start c.before.before.before in
-    found_in s.pre s.args.id c.before.p.given.0.0 (sym (there c))
+    found_in c.requires c.args.id c.in-At.p (sym (there c))
 
-returns-2 : tie.Need-returns-2
+returns-2 : tie.Need-returns-then-is_mine
 returns-2 c =
-    let k = c.before.before in
-    let a = (start k.before.before.before).args in
+    let a = c.args in
     block_mine (by_place a.image.now) a.file (found (length a.ids.now) a.ids.now a.spots.now) a.id
-    k.before.p.given.0.0 (there k) (sym c.before.is-mine.ensures ∙ c.if1.true)
+    c.in-At.p (there c.before.before) (sym c.is_mine.ensures ∙ c.if-is_mine.true)
 
-returns-3 : tie.Need-returns-3
+returns-3 : tie.Need-returns
 returns-3 c =
-    let k = c.before.before in
-    let a = (start k.before.before.before).args in
+    let a = c.args in
     block_other (by_place a.image.now) a.file (found (length a.ids.now) a.ids.now a.spots.now) a.id
-    k.before.p.given.0.0 (there k) (sym c.before.is-mine.ensures ∙ c.if1.false)
+    c.in-At.p (there c.before.before) (sym c.is_mine.ensures ∙ c.if-is_mine.false)
 
 pub own_block_spec : {M : Type 1} → statement M
 own_block_spec =

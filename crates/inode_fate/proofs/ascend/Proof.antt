@@ -10,41 +10,32 @@ use Rattle.inode_fate.specs.Laws.{step_missing, step_root, step_deleted, step_ab
 use Rattle.inode_fate.proofs.ascend.Statement.{statement}
 use Rattle.inode_fate.proofs.ascend.Tie as tie
 
--- the arguments, from where the row was sought
-abbrev start : tie.After-find → tie.Start
-start f = f.before.before.before.before
-
 -- the record that was found
-there : (k : tie.After-known-told) → let s = start k.before.before.before in
-    found (length s.args.ids.now) s.args.ids.now s.args.spots.now s.args.id ≡ some k.before.p.given.0.0
-there k = sym k.before.before.before.find.ensures ∙ ap spot_of k.before.p.given.1
+there : (k : tie.In-At) → found (length k.args.ids.now) k.args.ids.now k.args.spots.now k.args.id ≡ some k.in-At.p
+there k = sym k.find.ensures ∙ ap spot_of k.in-At.is
 
 -- it lies in the image
-lies : (k : tie.After-known-told) → Lies (start k.before.before.before).args.image.now k.before.p.given.0.0
-lies k = let s = start k.before.before.before in found_in s.pre s.args.id k.before.p.given.0.0 (there k)
+lies : (k : tie.In-At) → Lies k.args.image.now k.in-At.p
+lies k = found_in k.requires k.args.id k.in-At.p (there k)
 
-returns : tie.Need-returns
+returns : tie.Need-returns-in_default
 returns c =
-    let f = c.before.before in
-    step_missing (by_place (start f).args.image.now) _ (sym f.find.ensures ∙ ap spot_of c.enum_told.given.1)
+    step_missing (by_place c.args.image.now) _ (sym c.find.ensures ∙ ap spot_of c.in_default.is)
 
-returns-2 : tie.Need-returns-2
+returns-2 : tie.Need-returns-then-id_at-eq-ROOT
 returns-2 c =
-    let k = c.before.before in
-    step_root (by_place (start k.before.before.before).args.image.now) _ k.before.p.given.0.0 (there k) (sym c.before.id-at.ensures ∙ c.if1.true)
+    step_root (by_place c.args.image.now) _ c.in-At.p (there c.before.before) (sym c.id_at.ensures ∙ c.if-id_at-eq-ROOT.true)
 
-returns-3 : tie.Need-returns-3
+returns-3 : tie.Need-returns-then-parent
 returns-3 c =
-    let k = c.before.before.before.before in
-    step_deleted (by_place (start k.before.before.before).args.image.now) _ k.before.p.given.0.0 (there k)
-    (λ e. c.before.before.if1.false (c.before.before.before.id-at.ensures ∙ e)) (sym c.before.link_at.ensures ∙ c.if2.true)
+    step_deleted (by_place c.args.image.now) _ c.in-At.p (there c.before.before.before.before)
+    (λ e. c.if-id_at-eq-ROOT.false (c.id_at.ensures ∙ e)) (sym c.link_at-parent.ensures ∙ c.if-parent.true)
 
-returns-4 : tie.Need-returns-4
+returns-4 : tie.Need-returns
 returns-4 c =
-    let k = c.before.before.before.before in
-    rw c.before.link_at.ensures
-    (step_above (by_place (start k.before.before.before).args.image.now) _ k.before.p.given.0.0 (there k)
-    (λ e. c.before.before.if1.false (c.before.before.before.id-at.ensures ∙ e)) (λ e. c.if2.false (c.before.link_at.ensures ∙ e)))
+    rw c.link_at-parent.ensures
+    (step_above (by_place c.args.image.now) _ c.in-At.p (there c.before.before.before.before)
+    (λ e. c.if-id_at-eq-ROOT.false (c.id_at.ensures ∙ e)) (λ e. c.if-parent.false (c.link_at-parent.ensures ∙ e)))
 
 pub ascend_spec : {M : Type 1} → statement M
 ascend_spec =

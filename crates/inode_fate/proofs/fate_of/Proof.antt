@@ -11,49 +11,36 @@ use Rattle.inode_fate.specs.Laws.{up_loops, up_ends, up_on}
 use Rattle.inode_fate.proofs.fate_of.Statement.{statement}
 use Rattle.inode_fate.proofs.fate_of.Tie as tie
 
-abbrev invariant-loop : tie.invariant-loop
+abbrev invariant-loop : tie.invariant-loop-left
 invariant-loop image ids spots id left₀ at₀ left at =
     fate_within (by_place image) (found (length ids) ids spots) left at ≡ fate_by (by_place image) (length ids) ids spots id
 
-abbrev decreases-loop : tie.decreases-loop
+abbrev decreases-loop : tie.decreases-loop-left
 decreases-loop image ids spots id left₀ at₀ left at = left
 
--- the arguments, from the head of the loop
-abbrev start : tie.At-loop invariant-loop decreases-loop → tie.Start invariant-loop decreases-loop
-start l = l.before.before.before.before
-
--- the loop, from one step up
-abbrev at-loop : tie.After-ascend invariant-loop decreases-loop → tie.At-loop invariant-loop decreases-loop
-at-loop u = u.before.before
-
-returns : tie.Need-returns invariant-loop decreases-loop
+returns : tie.Need-returns-in-Ends invariant-loop decreases-loop
 returns c =
-    let u = c.before.before.before in
-    let l = at-loop u in
-    let a = (start l).args in
-    sym (up_ends (by_place a.image.now) (λ f. f) (λ r f. f) (found (length a.ids.now) a.ids.now a.spots.now) l.loop.left l.loop.at
-    u.before.loop-test.true (meaning c.before.step.given.0.0) (sym (ap step_of c.before.step.given.1) ∙ u.ascend.ensures)) ∙ l.loop.inv
+    let a = c.args in
+    sym (up_ends (by_place a.image.now) (λ f. f) (λ r f. f) (found (length a.ids.now) a.ids.now a.spots.now) c.loop-left.left c.loop-left.at
+    c.loop-left-test.true (meaning c.in-Ends.fate) (sym (ap step_of c.in-Ends.is) ∙ c.ascend-step.ensures)) ∙ c.loop-left.invariant
 
-sub-left : tie.Need-overflow-sub-left invariant-loop decreases-loop
-sub-left c = omega (arith, c.before.before.before.before.loop-test.true)
+sub-left : tie.Need-overflow_sub-left invariant-loop decreases-loop
+sub-left c = omega (arith, c.loop-left-test.true)
 
-loop-less : tie.Need-loop-smaller invariant-loop decreases-loop
-loop-less c = omega (arith, c.before.before.before.before.loop-test.true)
+loop-less : tie.Need-loop-left-smaller invariant-loop decreases-loop
+loop-less c = omega (arith, c.loop-left-test.true)
 
-loop-again : tie.Need-loop-preserved invariant-loop decreases-loop
+loop-again : tie.Need-loop-left-preserved invariant-loop decreases-loop
 loop-again c =
-    let u = c.before.before.before in
-    let l = at-loop u in
-    let a = (start l).args in
-    let on = up_on (by_place a.image.now) (λ f. f) (λ r f. f) (found (length a.ids.now) a.ids.now a.spots.now) l.loop.left l.loop.at
-    u.before.loop-test.true c.before.step2.given.0.0 (sym (ap step_of c.before.step2.given.1) ∙ u.ascend.ensures) in
-    sym on.2 ∙ l.loop.inv
+    let a = c.args in
+    let on = up_on (by_place a.image.now) (λ f. f) (λ r f. f) (found (length a.ids.now) a.ids.now a.spots.now) c.loop-left.left c.loop-left.at
+    c.loop-left-test.true c.in-Above.parent (sym (ap step_of c.in-Above.is) ∙ c.ascend-step.ensures) in
+    sym on.2 ∙ c.loop-left.invariant
 
-returns-2 : tie.Need-returns-2 invariant-loop decreases-loop
+returns-2 : tie.Need-returns invariant-loop decreases-loop
 returns-2 c =
-    let l = c.before in
-    let a = (start l).args in
-    sym (up_loops (by_place a.image.now) (λ f. f) (λ r f. f) (found (length a.ids.now) a.ids.now a.spots.now) l.loop.left l.loop.at c.loop-test.false) ∙ l.loop.invariant
+    let a = c.args in
+    sym (up_loops (by_place a.image.now) (λ f. f) (λ r f. f) (found (length a.ids.now) a.ids.now a.spots.now) c.loop-left.left c.loop-left.at c.loop-left-test.false) ∙ c.loop-left.invariant
 
 pub fate_of_spec : {M : Type 1} → statement M
 fate_of_spec =
@@ -62,7 +49,7 @@ fate_of_spec =
     invariant-loop
     decreases-loop
     (λ c. refl)
-    (λ c κs. (start c.before).pre)
+    (λ c κs. c.requires)
     (λ c. search rules)
     returns
     (λ c. search rules)

@@ -11,70 +11,61 @@ use Rattle.inode_fate.specs.Laws.{Counted, count_starts, count_one, count_none, 
 use Rattle.inode_fate.proofs.live_count.Statement.{statement}
 use Rattle.inode_fate.proofs.live_count.Tie as tie
 
-abbrev invariant-loop : tie.invariant-loop
+abbrev invariant-loop : tie.invariant-loop-i
 invariant-loop image ids spots n live₀ i₀ live i = Counted (live_by (by_place image) (length ids) ids spots) (length ids) ids live i
 
-abbrev decreases-loop : tie.decreases-loop
+abbrev decreases-loop : tie.decreases-loop-i
 decreases-loop image ids spots n live₀ i₀ live i = length ids - i
 
--- the arguments, from the head of the loop
-abbrev start : tie.At-loop invariant-loop decreases-loop → tie.Start invariant-loop decreases-loop
-start l = l.before.before.before.before
-
 -- the row i is taken
-below : (c : tie.In-loop invariant-loop decreases-loop) → c.before.loop.i < length (start c.before).args.ids.now
-below c = c.loop-test.true
+below : (c : tie.In-loop-i invariant-loop decreases-loop) → c.loop-i.i < length c.args.ids.now
+below c = c.loop-i-test.true
 
-loop-holds : tie.Need-loop-init invariant-loop decreases-loop
-loop-holds c = let a = c.before.before.before.args in count_starts (live_by (by_place a.image.now) (length a.ids.now) a.ids.now a.spots.now) (length a.ids.now) a.ids.now
+loop-holds : tie.Need-loop-i-init invariant-loop decreases-loop
+loop-holds c = let a = c.args in count_starts (live_by (by_place a.image.now) (length a.ids.now) a.ids.now a.spots.now) (length a.ids.now) a.ids.now
 
-mul-fate-of : tie.Need-overflow-mul-fate-of invariant-loop decreases-loop
+mul-fate-of : tie.Need-offset_bounds-ids-i invariant-loop decreases-loop
 mul-fate-of c = omega (arith, below c)
 
-shared-slice-read-fate-of : tie.Need-shared-slice-read-fate-of invariant-loop decreases-loop
+shared-slice-read-fate-of : tie.Need-bounds-ids-i invariant-loop decreases-loop
 shared-slice-read-fate-of c = omega (arith, below c.before)
 
-fate-of-requires : tie.Need-fate-of-requires invariant-loop decreases-loop
-fate-of-requires c κs = (start c.before.before).pre
+fate-of-requires : tie.Need-fate_of-f-requires invariant-loop decreases-loop
+fate-of-requires c κs = c.requires
 
-add-live : tie.Need-overflow-add-live invariant-loop decreases-loop
-add-live c = let n = c.before.before.before.before in omega (arith, below n, n.before.loop.invariant.few)
+add-live : tie.Need-overflow_add-live invariant-loop decreases-loop
+add-live c = omega (arith, below c.before.before.before.before, c.loop-i.invariant.few)
 
-add-i : tie.Need-overflow-add-i invariant-loop decreases-loop
-add-i c = let n = c.before.before.before.before in omega (arith, below n, n.before.loop.invariant.few)
+add-i : tie.Need-overflow_add-i invariant-loop decreases-loop
+add-i c = omega (arith, below c.before.before.before.before, c.loop-i.invariant.few)
 
-loop-less : tie.Need-loop-smaller invariant-loop decreases-loop
+loop-less : tie.Need-loop-i-smaller-then-lives invariant-loop decreases-loop
 loop-less c = omega (arith, below c.before.before.before.before)
 
-loop-again : tie.Need-loop-preserved invariant-loop decreases-loop
+loop-again : tie.Need-loop-i-preserved-then-lives invariant-loop decreases-loop
 loop-again c =
-    let n = c.before.before.before.before in
-    let l = n.before in
-    let a = (start l).args in
+    let a = c.args in
     count_one (live_by (by_place a.image.now) (length a.ids.now) a.ids.now a.spots.now) (length a.ids.now) a.ids.now (omega arith)
-    l.loop.live l.loop.i l.loop.invariant (below n) (ap is_live (sym c.before.before.fate-of.ensures) ∙ sym c.before.lives.ensures ∙ c.if1.true)
+    c.loop-i.live c.loop-i.i c.loop-i.invariant (below c.before.before.before.before) (ap is_live (sym c.fate_of-f.ensures) ∙ sym c.lives.ensures ∙ c.if-lives.true)
 
-add-i-2 : tie.Need-overflow-add-i-2 invariant-loop decreases-loop
-add-i-2 c = let n = c.before.before.before.before in omega (arith, below n, n.before.loop.invariant.few)
+add-i-2 : tie.Need-overflow_add-i-else-lives invariant-loop decreases-loop
+add-i-2 c = omega (arith, below c.before.before.before.before, c.loop-i.invariant.few)
 
-loop-less-2 : tie.Need-loop-smaller-2 invariant-loop decreases-loop
+loop-less-2 : tie.Need-loop-i-smaller invariant-loop decreases-loop
 loop-less-2 c = omega (arith, below c.before.before.before.before)
 
-loop-again-2 : tie.Need-loop-preserved-2 invariant-loop decreases-loop
+loop-again-2 : tie.Need-loop-i-preserved invariant-loop decreases-loop
 loop-again-2 c =
-    let n = c.before.before.before.before in
-    let l = n.before in
-    let a = (start l).args in
+    let a = c.args in
     count_none (live_by (by_place a.image.now) (length a.ids.now) a.ids.now a.spots.now) (length a.ids.now) a.ids.now (omega arith)
-    l.loop.live l.loop.i l.loop.invariant (below n) (ap is_live (sym c.before.before.fate-of.ensures) ∙ sym c.before.lives.ensures ∙ c.if1.false)
+    c.loop-i.live c.loop-i.i c.loop-i.invariant (below c.before.before.before.before) (ap is_live (sym c.fate_of-f.ensures) ∙ sym c.lives.ensures ∙ c.if-lives.false)
 
 returns : tie.Need-returns invariant-loop decreases-loop
 unfolding live_rows
 returns c =
-    let l = c.before in
-    let a = (start l).args in
+    let a = c.args in
     count_ends (live_by (by_place a.image.now) (length a.ids.now) a.ids.now a.spots.now) (length a.ids.now) a.ids.now (omega arith)
-    l.loop.live l.loop.i l.loop.invariant (omega (arith, c.loop-test.false))
+    c.loop-i.live c.loop-i.i c.loop-i.invariant (omega (arith, c.loop-i-test.false))
 
 pub live_count_spec : {M : Type 1} → statement M
 live_count_spec =

@@ -12,54 +12,40 @@ use Rattle.inode_lineage.specs.Lineage.{lineage_by, chain_here, chain_loops, cha
 use Rattle.inode_lineage.proofs.in_lineage.Statement.{statement}
 use Rattle.inode_lineage.proofs.in_lineage.Tie as tie
 
-abbrev invariant-loop : tie.invariant-loop
+abbrev invariant-loop : tie.invariant-loop-left
 invariant-loop image ids spots id sought left₀ at₀ left at =
     is_among sought (chain_within (by_place image) (found (length ids) ids spots) left at) ≡ is_among sought (lineage_by (by_place image) (length ids) ids spots id)
 
-abbrev decreases-loop : tie.decreases-loop
+abbrev decreases-loop : tie.decreases-loop-left
 decreases-loop image ids spots id sought left₀ at₀ left at = left
 
--- the arguments, from the head of the loop
-abbrev start : tie.At-loop invariant-loop decreases-loop → tie.Start invariant-loop decreases-loop
-start l = l.before.before.before.before
-
--- the loop, from one step up
-abbrev at-loop : tie.After-ascend invariant-loop decreases-loop → tie.At-loop invariant-loop decreases-loop
-at-loop u = u.before.before.before
-
-returns : tie.Need-returns invariant-loop decreases-loop
+returns : tie.Need-returns-then-at-sought invariant-loop decreases-loop
 returns c =
-    let l = c.before.before in
-    let a = (start l).args in
-    sym (chain_here (by_place a.image.now) (found (length a.ids.now) a.ids.now a.spots.now) l.loop.left l.loop.at a.sought c.if1.true) ∙ l.loop.invariant
+    let a = c.args in
+    sym (chain_here (by_place a.image.now) (found (length a.ids.now) a.ids.now a.spots.now) c.loop-left.left c.loop-left.at a.sought c.if-at-sought.true) ∙ c.loop-left.invariant
 
-returns-2 : tie.Need-returns-2 invariant-loop decreases-loop
+returns-2 : tie.Need-returns-in_default invariant-loop decreases-loop
 returns-2 c =
-    let u = c.before.before in
-    let l = at-loop u in
-    let a = (start l).args in
-    sym (chain_ends (by_place a.image.now) (found (length a.ids.now) a.ids.now a.spots.now) l.loop.left l.loop.at a.sought u.before.if1.false
-    u.before.before.loop-test.true (meaning c.enum_told.given.0.0) (sym (ap step_of c.enum_told.given.1) ∙ u.ascend.ensures)) ∙ l.loop.inv
+    let a = c.args in
+    sym (chain_ends (by_place a.image.now) (found (length a.ids.now) a.ids.now a.spots.now) c.loop-left.left c.loop-left.at a.sought c.if-at-sought.false
+    c.loop-left-test.true (meaning c.in_default.field-0) (sym (ap step_of c.in_default.is) ∙ c.ascend-step.ensures)) ∙ c.loop-left.invariant
 
-sub-left : tie.Need-overflow-sub-left invariant-loop decreases-loop
-sub-left c = omega (arith, c.before.before.before.before.before.loop-test.true)
+sub-left : tie.Need-overflow_sub-left invariant-loop decreases-loop
+sub-left c = omega (arith, c.loop-left-test.true)
 
-loop-less : tie.Need-loop-smaller invariant-loop decreases-loop
-loop-less c = omega (arith, c.before.before.before.before.before.loop-test.true)
+loop-less : tie.Need-loop-left-smaller invariant-loop decreases-loop
+loop-less c = omega (arith, c.loop-left-test.true)
 
-loop-again : tie.Need-loop-preserved invariant-loop decreases-loop
+loop-again : tie.Need-loop-left-preserved invariant-loop decreases-loop
 loop-again c =
-    let u = c.before.before.before in
-    let l = at-loop u in
-    let a = (start l).args in
-    sym (chain_on (by_place a.image.now) (found (length a.ids.now) a.ids.now a.spots.now) l.loop.left l.loop.at a.sought u.before.if1.false
-    u.before.before.loop-test.true c.before.step.given.0.0 (sym (ap step_of c.before.step.given.1) ∙ u.ascend.ensures)) ∙ l.loop.inv
+    let a = c.args in
+    sym (chain_on (by_place a.image.now) (found (length a.ids.now) a.ids.now a.spots.now) c.loop-left.left c.loop-left.at a.sought c.if-at-sought.false
+    c.loop-left-test.true c.in-Above.parent (sym (ap step_of c.in-Above.is) ∙ c.ascend-step.ensures)) ∙ c.loop-left.invariant
 
-returns-3 : tie.Need-returns-3 invariant-loop decreases-loop
+returns-3 : tie.Need-returns invariant-loop decreases-loop
 returns-3 c =
-    let l = c.before in
-    let a = (start l).args in
-    sym (chain_loops (by_place a.image.now) (found (length a.ids.now) a.ids.now a.spots.now) l.loop.left l.loop.at a.sought c.loop-test.false) ∙ l.loop.invariant
+    let a = c.args in
+    sym (chain_loops (by_place a.image.now) (found (length a.ids.now) a.ids.now a.spots.now) c.loop-left.left c.loop-left.at a.sought c.loop-left-test.false) ∙ c.loop-left.invariant
 
 pub in_lineage_spec : {M : Type 1} → statement M
 in_lineage_spec =
@@ -69,7 +55,7 @@ in_lineage_spec =
     decreases-loop
     (λ c. refl)
     returns
-    (λ c κs. (start c.before.before).pre)
+    (λ c κs. c.requires)
     (λ c. search rules)
     (λ c. search rules)
     returns-2

@@ -8,42 +8,31 @@ use Rattle.inode_order.specs.declared.Compared.TheVariants.{Before, Same, After}
 use Rattle.inode_order.proofs.comes_before.Statement.{statement}
 use Rattle.inode_order.proofs.comes_before.Tie as tie
 
-abbrev start : tie.After-compare → tie.Start
-start k = k.before.before.before.before.before.before
-
 -- what was lent for comparing are the names
-told : (k : tie.After-compare) → let a = (start k).args in
-    Told ((by_place a.image.now).name a.p) ((by_place a.image.now).name a.q) k.compare.result
+told : (k : tie.After-compare-names) → let a = k.args in
+    Told ((by_place a.image.now).name a.p) ((by_place a.image.now).name a.q) k.compare-names.result
 told k =
-    let n = k.before.before.before in
-    let m = n.before in
-    let s = start k in
-    let image = s.args.image.now in
+    let image = k.args.image.now in
     rw (
-      name_lent image s.args.p s.pre.0.0 m.name-size.result m.name-size.ensures.0,
-      name_lent image s.args.q s.pre.1.0 n.name-size2.result n.name-size2.ensures.0,
+      name_lent image k.args.p k.requires.0.0 k.name_size.result k.name_size.ensures.0,
+      name_lent image k.args.q k.requires.1.0 k.name_size-2.result k.name_size-2.ensures.0,
     )
-    at k.compare.ensures
+    at k.compare-names.ensures
 
-returns : tie.Need-returns
+returns : tie.Need-returns-in-Before
 returns c =
-    let k = c.before.before in
-    let a = (start k).args in
-    sym (place_told a.image.now a.p a.q k.compare.result (told k) Before c.enum_told.given.1)
+    let a = c.args in
+    sym (place_told a.image.now a.p a.q c.compare-names.result (told c.before) Before c.in-Before.is)
 
-returns-2 : tie.Need-returns-2
+returns-2 : tie.Need-returns-in-After
 returns-2 c =
-    let k = c.before.before in
-    let a = (start k).args in
-    sym (place_told a.image.now a.p a.q k.compare.result (told k) After c.enum-told2.given.1)
+    let a = c.args in
+    sym (place_told a.image.now a.p a.q c.compare-names.result (told c.before) After c.in-After.is)
 
-returns-3 : tie.Need-returns-3
+returns-3 : tie.Need-returns-in-Same
 returns-3 c =
-    let i = c.before in
-    let e = i.before in
-    let k = e.before.before in
-    let a = (start k).args in
-    rw (i.id-at.ensures, c.id-at2.ensures) (sym (place_told a.image.now a.p a.q k.compare.result (told k) Same e.enum-told3.given.1))
+    let a = c.args in
+    rw (c.id_at.ensures, c.id_at-in-Same.ensures) (sym (place_told a.image.now a.p a.q c.compare-names.result (told c.before.before.before) Same c.in-Same.is))
 
 pub comes_before_spec : {M : Type 1} → statement M
 comes_before_spec =

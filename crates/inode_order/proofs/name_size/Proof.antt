@@ -7,7 +7,7 @@ use Rattle.inode_order.specs.Names.{name_told, name_inside}
 use Rattle.inode_order.proofs.name_size.Statement.{statement}
 use Rattle.inode_order.proofs.name_size.Tie as tie
 
-shared-slice-read-wide : tie.Need-shared-slice-read-wide
+shared-slice-read-wide : tie.Need-bounds-image-p
 shared-slice-read-wide c =
     let s = c.before.before in
     omega (arith, s.requires.0, size_least s.args.image.now s.args.p)
