@@ -18,75 +18,54 @@ use borrow.Author.Rules.{rules}
 use Rattle.area_kinds.proofs.check_areas.Statement.{statement}
 use Rattle.area_kinds.proofs.check_areas.Tie as tie
 
--- the list was counted, and the arguments
-abbrev counted : tie.After-sort-areas → tie.After-count-good-areas
-counted d = d.before.before.before.before
-
-abbrev start : tie.After-count-good-areas → tie.Start
-start n = n.before.before.before.before
-
 -- the list is good
-good : (d : tie.After-sort-areas) → bad_description (start (counted d)).args.image.now (area_list (start (counted d)).args.areas.now) ≡ false
-good d = (counted d).count-good-areas.ensures.passed d.before.before.before.if1.false
+good : (d : tie.After-sort_areas-kinds) → bad_description d.args.image.now (area_list d.args.areas.now) ≡ false
+good d = d.count_good_areas-n.ensures.passed d.if-n-eq0.false
 
 -- the areas of the list are sorted
-sorted : (d : tie.After-sort-areas)
-    → Sorted (start (counted d)).args.image.now (area_list (start (counted d)).args.areas.now) d.sort-areas.result d.sort-areas.new.1.1.0
+sorted : (d : tie.After-sort_areas-kinds)
+    → Sorted d.args.image.now (area_list d.args.areas.now) d.sort_areas-kinds.result d.sort_areas-kinds.new.rows
 sorted d =
-    let g = (counted d).count-good-areas.ensures in
-    rw (lent_front ((counted d).count-good-areas.result * 2) (start (counted d)).args.areas.now, g.is d.before.before.before.if1.false)
-    at d.sort-areas.ensures
+    let g = d.count_good_areas-n.ensures in
+    rw (lent_front (d.count_good_areas-n.result * 2) d.args.areas.now, g.is d.if-n-eq0.false)
+    at d.sort_areas-kinds.ensures
 
-long : (d : tie.After-sort-areas) → spans_at + most_areas ≤ length d.sort-areas.new.1.1.0
-long d = omega (arith, d.sort-areas.auto.1.1.0, (start (counted d)).requires)
+long : (d : tie.After-sort_areas-kinds) → spans_at + most_areas ≤ length d.sort_areas-kinds.new.rows
+long d = omega (arith, d.sort_areas-kinds.auto.rows, d.requires)
 
-returns : tie.Need-returns
-returns c = let n = c.before.before in bad_checked _ _ _ _ (n.count-good-areas.ensures.refused c.before.if1.true) c.refused.ensures
+returns : tie.Need-returns-then-n-eq0
+returns c = bad_checked _ _ _ _ (c.count_good_areas-n.ensures.refused c.if-n-eq0.true) c.refused.ensures
 
-sort-areas-requires : tie.Need-sort-areas-requires
+sort-areas-requires : tie.Need-sort_areas-kinds-requires
 sort-areas-requires c κs =
-    let e = c.before.before in
-    let n = e.before in
-    let s = start n in
-    let k = n.count-good-areas.result in
-    rw (lent_front (k * 2) s.args.areas.now) (record {
-      good = listed_good s.args.image.now s.args.areas.now k n.count-good-areas.ensures e.if1.false;
-      few = omega (arith, length-take (k * 2) s.args.areas.now, n.count-good-areas.ensures.few);
-      long = s.pre;
+    let k = c.count_good_areas-n.result in
+    rw (lent_front (k * 2) c.args.areas.now) (record {
+      good = listed_good c.args.image.now c.args.areas.now k c.count_good_areas-n.ensures c.if-n-eq0.false;
+      few = omega (arith, length-take (k * 2) c.args.areas.now, c.count_good_areas-n.ensures.few);
+      long = c.requires;
     })
 
-abbrev at-sort : tie.After-kinds-refusal → tie.After-sort-areas
-at-sort k = k.before.before.before.before.before.before.before
-
-kinds-refusal-requires : tie.Need-kinds-refusal-requires
+kinds-refusal-requires : tie.Need-kinds_refusal-number-requires
 kinds-refusal-requires c κs =
-    let d = c.before.before.before.before.before.before in
-    let s = start (counted d) in
-    let n = d.sort-areas.result.files in
-    let rows = d.sort-areas.new.1.1.0 in
-    both (Good (length s.args.image.now)) (lent_front n rows) (lent spans_at n rows)
-    (files_good s.args.image.now (area_list s.args.areas.now) d.sort-areas.result rows (sorted d) (long d)
-    (description_good s.args.image.now (area_list s.args.areas.now) (good d)).each)
+    let n = c.sort_areas-kinds.result.files in
+    let rows = c.sort_areas-kinds.new.rows in
+    both (Good (length c.args.image.now)) (lent_front n rows) (lent spans_at n rows)
+    (files_good c.args.image.now (area_list c.args.areas.now) c.sort_areas-kinds.result rows (sorted c.before.before.before.before.before) (long c.before.before.before.before.before)
+    (description_good c.args.image.now (area_list c.args.areas.now) (good c.before.before.before.before.before)).each)
 
-answer : (k : tie.After-kinds-refusal) → let d = at-sort k in
-    KindsAnswer (start (counted d)).args.image.now (rows_of d.sort-areas.result.files d.sort-areas.last.1.1.0) d.sort-areas.result.scratch k.kinds-refusal.result
+answer : (k : tie.After-kinds_refusal-number) → KindsAnswer k.args.image.now (rows_of k.sort_areas-kinds.result.files k.sort_areas-kinds.new.rows) k.sort_areas-kinds.result.scratch k.kinds_refusal-number.result
 answer k =
-    let d = at-sort k in
-    let n = d.sort-areas.result.files in
-    let rows = d.sort-areas.last.1.1.0 in
-    rw (ap₂ described (lent_front n rows) (lent spans_at n rows)) at k.kinds-refusal.ensures
+    let n = k.sort_areas-kinds.result.files in
+    let rows = k.sort_areas-kinds.new.rows in
+    rw (ap₂ described (lent_front n rows) (lent spans_at n rows)) at k.kinds_refusal-number.ensures
 
-returns-2 : tie.Need-returns-2
+returns-2 : tie.Need-returns-then-number-ne0
 returns-2 c =
-    let k = c.before.before in
-    let d = at-sort k in
-    checked_refused _ _ (good d) _ _ (sorted d) _ (answer k) _ c.before.if2.true c.refused2.ensures
+    checked_refused _ _ (good c.before.before.before.before.before.before.before.before) _ _ (sorted c.before.before.before.before.before.before.before.before) _ (answer c.before.before) _ c.if-number-ne0.true c.refused-then-number-ne0.ensures
 
-returns-3 : tie.Need-returns-3
+returns-3 : tie.Need-returns
 returns-3 c =
-    let k = c.before.before in
-    let d = at-sort k in
-    checked_passes _ _ (good d) _ _ (sorted d) _ (answer k) c.before.if2.false
+    checked_passes _ _ (good c.before.before.before.before.before.before.before.before) _ _ (sorted c.before.before.before.before.before.before.before.before) _ (answer c.before.before) c.if-number-ne0.false
 
 pub check_areas_spec : {M : Type 1} → statement M
 check_areas_spec =

@@ -5,42 +5,27 @@ use borrow.Author.Rules.{rules}
 use Rattle.area_kinds.proofs.kinds_refusal.Statement.{statement}
 use Rattle.area_kinds.proofs.kinds_refusal.Tie as tie
 
-returns : tie.Need-returns
+returns : tie.Need-returns-then-shared_id
 returns c =
-    let k = c.before in
-    let s = k.before.before.before.before in
-    answer_shared _ _ _ s.requires.pairs _ (via k.shared-id.ensures c.if1.true)
+    answer_shared _ _ _ c.requires.pairs _ (via c.shared_id.ensures c.if-shared_id.true)
 
-returns-2 : tie.Need-returns-2
+returns-2 : tie.Need-returns-then-starts-eq0
 returns-2 c =
-    let k = c.before.before in
-    let s = k.before.before.before.before in
-    answer_no_file _ _ _ s.requires.pairs _ (via k.shared-id.ensures c.before.if1.false) c.if2.true
+    answer_no_file _ _ _ c.requires.pairs _ (via c.shared_id.ensures c.if-shared_id.false) c.if-starts-eq0.true
 
-returns-3 : tie.Need-returns-3
+returns-3 : tie.Need-returns-then-scratch-ne1
 returns-3 c =
-    let e = c.before.before in
-    let k = e.before.before in
-    let s = k.before.before.before.before in
-    answer_scratch _ _ _ s.requires.pairs _ (via k.shared-id.ensures e.before.if1.false) c.if3.true
+    answer_scratch _ _ _ c.requires.pairs _ (via c.shared_id.ensures c.if-shared_id.false) c.if-scratch-ne1.true
 
-returns-4 : tie.Need-returns-4
+returns-4 : tie.Need-returns-else-none_longer
 returns-4 c =
-    let n = c.before in
-    let e = n.before.before.before.before in
-    let k = e.before.before in
-    let s = k.before.before.before.before in
-    answer_short _ _ _ s.requires.pairs _ (via k.shared-id.ensures e.before.if1.false) e.if2.false n.before.before.if3.false
-    (via n.none-longer.ensures c.if4.false)
+    answer_short _ _ _ c.requires.pairs _ (via c.shared_id.ensures c.if-shared_id.false) c.if-starts-eq0.false c.if-scratch-ne1.false
+    (via c.none_longer.ensures c.if-none_longer.false)
 
-returns-5 : tie.Need-returns-5
+returns-5 : tie.Need-returns
 returns-5 c =
-    let n = c.before in
-    let e = n.before.before.before.before in
-    let k = e.before.before in
-    let s = k.before.before.before.before in
-    answer_pass _ _ _ s.requires.pairs _ (via k.shared-id.ensures e.before.if1.false) e.if2.false n.before.before.if3.false
-    (via n.none-longer.ensures c.if4.true)
+    answer_pass _ _ _ c.requires.pairs _ (via c.shared_id.ensures c.if-shared_id.false) c.if-starts-eq0.false c.if-scratch-ne1.false
+    (via c.none_longer.ensures c.if-none_longer.true)
 
 pub kinds_refusal_spec : {M : Type 1} → statement M
 kinds_refusal_spec =

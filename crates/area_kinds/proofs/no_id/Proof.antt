@@ -12,45 +12,45 @@ use native.Mathlib.Omega.{arith}
 use Rattle.area_kinds.proofs.no_id.Statement.{statement}
 use Rattle.area_kinds.proofs.no_id.Tie as tie
 
-abbrev invariant-loop : tie.invariant-loop
+abbrev invariant-loop : tie.invariant-loop-i
 invariant-loop image id starts spans i₀ i = all (other_id image id) (described (drop i starts) (drop i spans)) ≡ all (other_id image id) (described starts spans)
 
-abbrev decreases-loop : tie.decreases-loop
+abbrev decreases-loop : tie.decreases-loop-i
 decreases-loop image id starts spans i₀ i = length starts - i
 
-loop-holds : tie.Need-loop-init invariant-loop decreases-loop
+loop-holds : tie.Need-loop-i-init invariant-loop decreases-loop
 loop-holds c = refl
 
-area-id-requires : tie.Need-area-id-requires invariant-loop decreases-loop
+area-id-requires : tie.Need-area_id-requires invariant-loop decreases-loop
 area-id-requires c κs =
     let t = c.before in
     let s = t.before.before.before.before.before in
-    let f = fits_at (length s.args.image.now) s.args.starts.now s.args.spans.now s.requires t.before.loop.i t.loop-test.true in
+    let f = fits_at (length s.args.image.now) s.args.starts.now s.args.spans.now s.requires t.before.loop-i.i t.loop-i-test.true in
     omega arith
 
-returns : tie.Need-returns invariant-loop decreases-loop
+returns : tie.Need-returns-then-area_id-id invariant-loop decreases-loop
 returns c =
     let k = c.before in
     let t = k.before.before in
     let l = t.before in
     let s = l.before.before.before.before in
-    ask_fails (all_asks _) l.loop.invariant (described_step _ _ _ s.requires.pairs t.loop-test.true)
-    (id_same _ _ _ k.area-id.ensures _ _ (header_at _ _ _ s.requires _ t.loop-test.true) c.if1.true)
+    ask_fails (all_asks _) l.loop-i.invariant (described_step _ _ _ s.requires.pairs t.loop-i-test.true)
+    (id_same _ _ _ k.area_id.ensures _ _ (header_at _ _ _ s.requires _ t.loop-i-test.true) c.if-area_id-id.true)
 
-loop-again : tie.Need-loop-preserved invariant-loop decreases-loop
+loop-again : tie.Need-loop-i-preserved invariant-loop decreases-loop
 loop-again c =
     let k = c.before in
     let t = k.before.before in
     let l = t.before in
     let s = l.before.before.before.before in
-    ask_passes (all_asks _) l.loop.invariant (described_step _ _ _ s.requires.pairs t.loop-test.true)
-    (id_differs _ _ _ k.area-id.ensures _ _ (header_at _ _ _ s.requires _ t.loop-test.true) c.if1.false)
+    ask_passes (all_asks _) l.loop-i.invariant (described_step _ _ _ s.requires.pairs t.loop-i-test.true)
+    (id_differs _ _ _ k.area_id.ensures _ _ (header_at _ _ _ s.requires _ t.loop-i-test.true) c.if-area_id-id.false)
 
-returns-2 : tie.Need-returns-2 invariant-loop decreases-loop
+returns-2 : tie.Need-returns invariant-loop decreases-loop
 returns-2 c =
     let l = c.before in
     let s = l.before.before.before.before in
-    ask_ends (all_asks _) l.loop.invariant (described_end s.args.starts.now s.args.spans.now _ c.loop-test.false)
+    ask_ends (all_asks _) l.loop-i.invariant (described_end s.args.starts.now s.args.spans.now _ c.loop-i-test.false)
 
 pub no_id_spec : {M : Type 1} → statement M
 no_id_spec =

@@ -10,31 +10,31 @@ use borrow.Author.Rules.{rules}
 use Rattle.area_kinds.proofs.none_longer.Statement.{statement}
 use Rattle.area_kinds.proofs.none_longer.Tie as tie
 
-abbrev invariant-loop : tie.invariant-loop
+abbrev invariant-loop : tie.invariant-loop-i
 invariant-loop spans most i₀ i = all (λ n. leb n most) (drop i spans) ≡ all (λ n. leb n most) spans
 
-abbrev decreases-loop : tie.decreases-loop
+abbrev decreases-loop : tie.decreases-loop-i
 decreases-loop spans most i₀ i = length spans - i
 
-loop-holds : tie.Need-loop-init invariant-loop decreases-loop
+loop-holds : tie.Need-loop-i-init invariant-loop decreases-loop
 loop-holds c = refl
 
-returns : tie.Need-returns invariant-loop decreases-loop
+returns : tie.Need-returns-then-spans-i invariant-loop decreases-loop
 returns c =
     let t = c.before.before in
     let l = t.before in
-    ask_fails (all_asks _) l.loop.invariant (drop_step _ _ t.loop-test.true) (lt-leb _ _ c.if1.true)
+    ask_fails (all_asks _) l.loop-i.invariant (drop_step _ _ t.loop-i-test.true) (lt-leb _ _ c.if-spans-i.true)
 
-loop-again : tie.Need-loop-preserved invariant-loop decreases-loop
+loop-again : tie.Need-loop-i-preserved invariant-loop decreases-loop
 loop-again c =
     let t = c.before.before in
     let l = t.before in
-    ask_passes (all_asks _) l.loop.invariant (drop_step _ _ t.loop-test.true) (le-leb _ _ c.if1.false)
+    ask_passes (all_asks _) l.loop-i.invariant (drop_step _ _ t.loop-i-test.true) (le-leb _ _ c.if-spans-i.false)
 
-returns-2 : tie.Need-returns-2 invariant-loop decreases-loop
+returns-2 : tie.Need-returns invariant-loop decreases-loop
 returns-2 c =
     let l = c.before in
-    ask_ends (all_asks _) l.loop.invariant (drop_of_length-le l.before.args.spans.now c.loop-test.false)
+    ask_ends (all_asks _) l.loop-i.invariant (drop_of_length-le l.before.args.spans.now c.loop-i-test.false)
 
 pub none_longer_spec : {M : Type 1} → statement M
 none_longer_spec =

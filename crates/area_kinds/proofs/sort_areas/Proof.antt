@@ -11,18 +11,11 @@ use borrow.Author.Rules.{rules}
 use Rattle.area_kinds.proofs.sort_areas.Statement.{statement}
 use Rattle.area_kinds.proofs.sort_areas.Tie as tie
 
-abbrev invariant-loop : tie.invariant-loop
+abbrev invariant-loop : tie.invariant-loop-i
 invariant-loop image pairs rows₀ files₀ count₀ area₀ i₀ rows files count area i = Sorting image pairs rows₀ rows files count area i
 
-abbrev decreases-loop : tie.decreases-loop
+abbrev decreases-loop : tie.decreases-loop-i
 decreases-loop image pairs rows₀ files₀ count₀ area₀ i₀ rows files count area i = length pairs - i
-
--- the turn, and the arguments
-abbrev at : tie.After-area-kind invariant-loop decreases-loop → tie.At-loop invariant-loop decreases-loop
-at k = k.before.before.before.before
-
-abbrev start : tie.At-loop invariant-loop decreases-loop → tie.Start invariant-loop decreases-loop
-start l = l.before.before.before.before
 
 -- the pair is in the list, and its row in the rows
 record Turn (i files pairs rows : ℕ) : Type 0 where
@@ -30,69 +23,48 @@ record Turn (i files pairs rows : ℕ) : Type 0 where
   row : files < most_areas
   long : spans_at + most_areas ≤ rows
 
-turn : (t : tie.In-loop invariant-loop decreases-loop) → let l = t.before in
-    Turn l.loop.i l.loop.files (length (start l).args.pairs.now) (length l.loop.rows)
+turn : (t : tie.In-loop-i invariant-loop decreases-loop) → Turn t.loop-i.i t.loop-i.files (length t.args.pairs.now) (length t.loop-i.rows)
 turn t =
-    let l = t.before in
-    let r = (start l).requires in
-    let v = l.loop.invariant in
-    let p : l.loop.i * 2 + 1 < length (start l).args.pairs.now = omega arith in
+    let r = t.requires in
+    let v = t.loop-i.invariant in
+    let p : t.loop-i.i * 2 + 1 < length t.args.pairs.now = omega arith in
     record { pair = p; row = omega (arith, r.few, v.few); long = omega (arith, r.long, v.long) }
 
-abbrev in-turn : tie.After-area-kind invariant-loop decreases-loop → tie.In-loop invariant-loop decreases-loop
-in-turn k = k.before.before.before
+loop-holds : tie.Need-loop-i-init invariant-loop decreases-loop
+loop-holds c = sorting_begins c.args.image.now c.args.pairs.now c.args.rows.now
 
-loop-holds : tie.Need-loop-init invariant-loop decreases-loop
-loop-holds c = let s = c.before.before.before in sorting_begins s.args.image.now s.args.pairs.now s.args.rows.now
-
-area-kind-requires : tie.Need-area-kind-requires invariant-loop decreases-loop
+area-kind-requires : tie.Need-area_kind-kind-requires invariant-loop decreases-loop
 area-kind-requires c κs =
-    let t = c.before.before in
-    let l = t.before in
-    let s = start l in
-    area_good s.args.image.now s.args.pairs.now s.args.rows.now l.loop.rows l.loop.files l.loop.count l.loop.area l.loop.i
-    l.loop.invariant s.pre (turn t).pair
+    area_good c.args.image.now c.args.pairs.now c.args.rows.now c.loop-i.rows c.loop-i.files c.loop-i.count c.loop-i.area c.loop-i.i
+    c.loop-i.invariant c.requires (turn c.before.before).pair
 
-slice-write-rows : tie.Need-slice-write-rows invariant-loop decreases-loop
-slice-write-rows c = let t = turn (in-turn c.before.before) in omega arith
+slice-write-rows : tie.Need-bounds-rows-files invariant-loop decreases-loop
+slice-write-rows c = let t = turn c.before.before.before.before in omega arith
 
-slice-write-rows-2 : tie.Need-slice-write-rows-2 invariant-loop decreases-loop
+slice-write-rows-2 : tie.Need-bounds-rows-files-in-File invariant-loop decreases-loop
 slice-write-rows-2 c =
-    let k = c.before.before in
-    let l = at k in
-    let t = turn (in-turn k) in
-    omega (arith, length-set l.loop.rows l.loop.files (get_or (start l).args.pairs.now (l.loop.i * 2) 0))
+    let t = turn c.before.before.before.before in
+    omega (arith, length-set c.loop-i.rows c.loop-i.files (get_or c.args.pairs.now (c.loop-i.i * 2) 0))
 
-loop-again : tie.Need-loop-preserved invariant-loop decreases-loop
+loop-again : tie.Need-loop-i-preserved-in-File invariant-loop decreases-loop
 loop-again c =
-    let k = c.before.before in
-    let l = at k in
-    let s = start l in
-    sorting_file s.args.image.now s.args.pairs.now s.args.rows.now l.loop.rows l.loop.files l.loop.count l.loop.area l.loop.i
-    l.loop.inv s.pre (turn (in-turn k)).pair (sym k.area-kind.ensures ∙ c.enum_told.given.1)
+    sorting_file c.args.image.now c.args.pairs.now c.args.rows.now c.loop-i.rows c.loop-i.files c.loop-i.count c.loop-i.area c.loop-i.i
+    c.loop-i.invariant c.requires (turn c.before.before.before.before).pair (sym c.area_kind-kind.ensures ∙ c.in-File.is)
 
-loop-again-2 : tie.Need-loop-preserved-2 invariant-loop decreases-loop
+loop-again-2 : tie.Need-loop-i-preserved-in-Scratch invariant-loop decreases-loop
 loop-again-2 c =
-    let k = c.before.before in
-    let l = at k in
-    let s = start l in
-    sorting_scratch s.args.image.now s.args.pairs.now s.args.rows.now l.loop.rows l.loop.files l.loop.count l.loop.area l.loop.i
-    l.loop.inv s.pre (turn (in-turn k)).pair (sym k.area-kind.ensures ∙ c.enum-told2.given.1)
+    sorting_scratch c.args.image.now c.args.pairs.now c.args.rows.now c.loop-i.rows c.loop-i.files c.loop-i.count c.loop-i.area c.loop-i.i
+    c.loop-i.invariant c.requires (turn c.before.before.before.before).pair (sym c.area_kind-kind.ensures ∙ c.in-Scratch.is)
 
-loop-again-3 : tie.Need-loop-preserved-3 invariant-loop decreases-loop
+loop-again-3 : tie.Need-loop-i-preserved invariant-loop decreases-loop
 loop-again-3 c =
-    let k = c.before.before in
-    let l = at k in
-    let s = start l in
-    sorting_passes s.args.image.now s.args.pairs.now s.args.rows.now l.loop.rows l.loop.files l.loop.count l.loop.area l.loop.i
-    l.loop.inv s.pre (turn (in-turn k)).pair (sym k.area-kind.ensures ∙ c.enum-told3.given.1)
+    sorting_passes c.args.image.now c.args.pairs.now c.args.rows.now c.loop-i.rows c.loop-i.files c.loop-i.count c.loop-i.area c.loop-i.i
+    c.loop-i.invariant c.requires (turn c.before.before.before.before).pair (sym c.area_kind-kind.ensures ∙ c.in-Invalid.is)
 
 returns : tie.Need-returns invariant-loop decreases-loop
 returns c =
-    let l = c.before in
-    let s = start l in
-    sorting_ends s.args.image.now s.args.pairs.now s.args.rows.now l.loop.rows l.loop.files l.loop.count l.loop.area l.loop.i
-    l.loop.invariant s.pre (omega arith)
+    sorting_ends c.args.image.now c.args.pairs.now c.args.rows.now c.loop-i.rows c.loop-i.files c.loop-i.count c.loop-i.area c.loop-i.i
+    c.loop-i.invariant c.requires (omega arith)
 
 pub sort_areas_spec : {M : Type 1} → statement M
 sort_areas_spec =
@@ -110,17 +82,17 @@ sort_areas_spec =
     (λ c. omega arith)
     area-kind-requires
     (λ c. search rules)
-    (λ c. let t = turn (in-turn c.before.before) in omega arith)
+    (λ c. let t = turn c.before.before.before.before in omega arith)
     slice-write-rows
-    (λ c. let t = turn (in-turn c.before.before) in omega arith)
-    (λ c. let t = turn (in-turn c.before.before) in omega arith)
+    (λ c. let t = turn c.before.before.before.before in omega arith)
+    (λ c. let t = turn c.before.before.before.before in omega arith)
     slice-write-rows-2
-    (λ c. let t = turn (in-turn c.before.before) in omega arith)
+    (λ c. let t = turn c.before.before.before.before in omega arith)
     (λ c. omega arith)
     (λ c. omega arith)
     loop-again
     (λ c. search rules)
-    (λ c. let v = (at c.before.before).loop.invariant in omega (arith, v.few))
+    (λ c. let v = c.loop-i.invariant in omega (arith, v.few))
     (λ c. omega arith)
     (λ c. omega arith)
     loop-again-2
@@ -128,5 +100,5 @@ sort_areas_spec =
     (λ c. omega arith)
     (λ c. omega arith)
     loop-again-3
-    (λ c. c.before.loop.invariant.long)
+    (λ c. c.loop-i.invariant.long)
     returns)

@@ -21,6 +21,13 @@ invariant-loop high low image rows₀ files places₀ k₀ damage₀ i₀ rows p
 abbrev decreases-loop : tie.decreases-loop-i
 decreases-loop high low image rows₀ files places₀ k₀ damage₀ i₀ rows places k damage i = files - i
 
+-- the area of a turn lies in the image, and its row in the rows
+record Turn (image rows : List ℕ) (i : ℕ) : Type 0 where
+  few : i < most_areas
+  long : area_rows ≤ length rows
+  lies : get_or rows i 0 + get_or rows (spans_at + i) 0 ≤ length image
+  size : length image ≤ largest_image
+
 turn : (c : tie.In-loop-i invariant-loop decreases-loop) → Turn c.args.image.now c.loop-i.rows c.loop-i.i
 turn c =
     record {
@@ -65,8 +72,8 @@ slice-write-rows-2 c =
 loop-again : tie.Need-loop-i-preserved invariant-loop decreases-loop
 loop-again c =
     going_on _ _ _ _ c.loop-i.rows c.loop-i.places c.loop-i.k c.loop-i.damage c.loop-i.i c.requires.1 c.loop-i.invariant c.loop-i-test.true
-    c.list_area-pass.last.places c.list_area-pass.result.count c.list_area-pass.result.damage c.list_area-pass.result.free c.joined-damage.result
-    c.list_area-pass.kept.places (rw add-sub_cancel_left at c.list_area-pass.ensures.0) (reads c.before.before.before.before.before) (joined_behind _ _ _ _ c.joined-damage.ensures)
+    c.list_area-pass.new.places c.list_area-pass.result.count c.list_area-pass.result.damage c.list_area-pass.result.free c.joined-damage.result
+    c.list_area-pass.auto.places (rw add-sub_cancel_left at c.list_area-pass.ensures.0) (reads c.before.before.before.before.before) (joined_behind _ _ _ _ c.joined-damage.ensures)
 
 returns : tie.Need-returns invariant-loop decreases-loop
 returns c =
