@@ -97,7 +97,7 @@ scratch_of = gathered (record { count = 0; area = area_of 0 0 })
 gathered_count : (s : LastScratch) (l : List Descriptor) → (gathered s l).count ≡ s.count + length l
 unfolding gathered
 gathered_count s [] = omega arith
-gathered_count s (d ∷ l) = gathered_count _ l ∙ omega arith
+gathered_count s (d ∷ l) = gathered_count (record { count = s.count + 1; area = d }) l ∙ omega arith
 
 pub scratch_count : (l : List Descriptor) → (scratch_of l).count ≡ length l
 scratch_count l = gathered_count _ l ∙ omega arith

@@ -14,75 +14,62 @@ use borrow.Author.Rules.{rules}
 use Rattle.file_list.proofs.list_chain.Statement.{statement}
 use Rattle.file_list.proofs.list_chain.Tie as tie
 
-abbrev invariant-loop : tie.invariant-loop
+abbrev invariant-loop : tie.invariant-loop-left
 invariant-loop image ids spots file start blocks₀ sizes₀ id₀ left₀ size₀ blocks sizes id left size = Listing image (found (length ids) ids spots) file (length blocks₀) start id left size blocks sizes
 
-abbrev decreases-loop : tie.decreases-loop
+abbrev decreases-loop : tie.decreases-loop-left
 decreases-loop image ids spots file start blocks₀ sizes₀ id₀ left₀ size₀ blocks sizes id left size = left
 
--- the arguments, from the head of the loop; and the way there from where a block is known
-abbrev lent : tie.At-loop invariant-loop decreases-loop → tie.Start invariant-loop decreases-loop
-lent l = l.before.before.before.before.before.before
+loop-holds : tie.Need-loop-left-init invariant-loop decreases-loop
+loop-holds c = listing_begins refl c.requires.1.0
 
-abbrev at-loop : tie.After-known-told invariant-loop decreases-loop → tie.At-loop invariant-loop decreases-loop
-at-loop k = k.before.before.before.before.before
-
-loop-holds : tie.Need-loop-init invariant-loop decreases-loop
-loop-holds c = listing_begins refl c.before.before.before.before.before.requires.1.0
-
-own-block-requires : tie.Need-own-block-requires invariant-loop decreases-loop
-own-block-requires c κs = (lent c.before).pre.0.usable
+own-block-requires : tie.Need-own_block-requires invariant-loop decreases-loop
+own-block-requires c κs = c.requires.0.usable
 
 -- the block that was found
-there : (k : tie.After-known-told invariant-loop decreases-loop)
-    → some k.before.p.given.0.0
-    ≡ block_for (by_place (lent (at-loop k)).args.image.now) (lent (at-loop k)).args.file
-    (found (length (lent (at-loop k)).args.ids.now) (lent (at-loop k)).args.ids.now (lent (at-loop k)).args.spots.now) (at-loop k).loop.id
-there k = sym (ap spot_of k.before.p.given.1) ∙ k.before.before.before.own_block.ensures
+there : (k : tie.In-At invariant-loop decreases-loop)
+    → some k.in-At.p
+    ≡ block_for (by_place k.args.image.now) k.args.file
+    (found (length k.args.ids.now) k.args.ids.now k.args.spots.now) k.loop-left.id
+there k = sym (ap spot_of k.in-At.is) ∙ k.own_block.ensures
 
-lies : (k : tie.After-known-told invariant-loop decreases-loop) → Lies (lent (at-loop k)).args.image.now k.before.p.given.0.0
-lies k = own_lies (lent (at-loop k)).pre.0 (lent (at-loop k)).args.file (at-loop k).loop.id k.before.p.given.0.0 (there k)
+lies : (k : tie.In-At invariant-loop decreases-loop) → Lies k.args.image.now k.in-At.p
+lies k = own_lies k.requires.0 k.args.file k.loop-left.id k.in-At.p (there k)
 
-is_block : (k : tie.After-known-told invariant-loop decreases-loop) → block_at (lent (at-loop k)).args.image.now k.before.p.given.0.0 ≡ true
-is_block k = own_block (lent (at-loop k)).pre.0 (lent (at-loop k)).args.file (at-loop k).loop.id k.before.p.given.0.0 (there k)
+is_block : (k : tie.In-At invariant-loop decreases-loop) → block_at k.args.image.now k.in-At.p ≡ true
+is_block k = own_block k.requires.0 k.args.file k.loop-left.id k.in-At.p (there k)
 
-returns : tie.Need-returns invariant-loop decreases-loop
+returns : tie.Need-returns-in_default invariant-loop decreases-loop
 returns c =
-    let o = c.before.before in
-    let l = o.before.before in (
+    (
       omega arith,
-      listing_broken l.loop.invariant o.before.loop-test.true (sym (ap spot_of c.enum_told.given.1) ∙ o.own_block.ensures),
+      listing_broken c.loop-left.invariant c.loop-left-test.true (sym (ap spot_of c.in_default.is) ∙ c.own_block.ensures),
     )
 
 -- there is a row for it
-row : (d : tie.After-data-length invariant-loop decreases-loop) → let l = at-loop d.before in
-    (0 < l.loop.left) × (l.loop.left ≤ length l.loop.blocks) × (l.loop.left ≤ length l.loop.sizes)
+row : (d : tie.After-data_length-n invariant-loop decreases-loop) → (0 < d.loop-left.left) × (d.loop-left.left ≤ length d.loop-left.blocks) × (d.loop-left.left ≤ length d.loop-left.sizes)
 row d =
-    let l = at-loop d.before in
-    let i = l.loop.inv in (
-      d.before.before.before.before.before.loop-test.true,
+    let i = d.loop-left.invariant in (
+      d.loop-left-test.true,
       omega (arith, i.within, i.blocks_long),
       omega (arith, i.within, i.sizes_long),
     )
 
-add-size : tie.Need-overflow-add-size invariant-loop decreases-loop
+add-size : tie.Need-overflow_add-size invariant-loop decreases-loop
 add-size c =
-    let l = at-loop c.before in
-    omega (arith, (row c).0, c.data-length.ensures.1.1, l.loop.inv.few, (lent l).pre.1.1)
+    omega (arith, (row c).0, c.data_length-n.ensures.1.1, c.loop-left.invariant.few, c.requires.1.1)
 
-loop-again : tie.Need-loop-preserved invariant-loop decreases-loop
+loop-again : tie.Need-loop-left-preserved invariant-loop decreases-loop
 loop-again c =
-    let d = c.before in
-    let k = d.before in
-    listing_on (at-loop k).loop.invariant (row d).0 k.before.p.given.0.0 (there k) (lies k) (is_block k) d.data-length.result c.previous-at.result
-    d.data-length.ensures.0 d.data-length.ensures.1.1 c.previous-at.ensures
+    listing_on c.loop-left.invariant (row c.before).0 c.in-At.p (there c.before.before) (lies c.before.before) (is_block c.before.before) c.data_length-n.result c.previous_at-id.result
+    c.data_length-n.ensures.0 c.data_length-n.ensures.1.1 c.previous_at-id.ensures
 
-returns-2 : tie.Need-returns-2 invariant-loop decreases-loop
+returns-2 : tie.Need-returns-then-id invariant-loop decreases-loop
 returns-2 c =
-    let l = c.before.before in (omega (arith, l.loop.invariant.few), listing_whole l.loop.invariant c.before.loop-test.false c.if1.true)
+    (omega (arith, c.loop-left.invariant.few), listing_whole c.loop-left.invariant c.loop-left-test.false c.if-id.true)
 
-returns-3 : tie.Need-returns-3 invariant-loop decreases-loop
-returns-3 c = let l = c.before.before in (omega arith, listing_more l.loop.invariant c.before.loop-test.false c.if1.false)
+returns-3 : tie.Need-returns invariant-loop decreases-loop
+returns-3 c = (omega arith, listing_more c.loop-left.invariant c.loop-left-test.false c.if-id.false)
 
 pub list_chain_spec : {M : Type 1} → statement M
 list_chain_spec =
@@ -94,23 +81,23 @@ list_chain_spec =
     own-block-requires
     (λ c. search rules)
     (λ c. search rules)
-    (λ c. c.before.before.before.before.loop.invariant.blocks_long)
-    (λ c. let l = c.before.before.before.before in l.loop.invariant.sizes_long ∙ sym (lent l).requires.1.0)
+    (λ c. c.loop-left.invariant.blocks_long)
+    (λ c. c.loop-left.invariant.sizes_long ∙ sym c.requires.1.0)
     returns
     (λ c κs. (lies c, is_block c))
     (λ c. (row c).0)
     (λ c. search rules)
     (λ c. omega (arith, row c))
-    (λ c. omega (arith, c.data-length.ensures.1.1))
+    (λ c. omega (arith, c.data_length-n.ensures.1.1))
     (λ c. search rules)
     (λ c. omega (arith, row c))
     add-size
     (λ c κs. lies c.before)
     (λ c. omega (arith, row c.before))
     loop-again
-    (λ c. c.before.before.loop.invariant.blocks_long)
-    (λ c. let l = c.before.before in l.loop.invariant.sizes_long ∙ sym (lent l).requires.1.0)
+    (λ c. c.loop-left.invariant.blocks_long)
+    (λ c. c.loop-left.invariant.sizes_long ∙ sym c.requires.1.0)
     returns-2
-    (λ c. c.before.before.loop.invariant.blocks_long)
-    (λ c. let l = c.before.before in l.loop.invariant.sizes_long ∙ sym (lent l).requires.1.0)
+    (λ c. c.loop-left.invariant.blocks_long)
+    (λ c. c.loop-left.invariant.sizes_long ∙ sym c.requires.1.0)
     returns-3)

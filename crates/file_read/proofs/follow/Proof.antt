@@ -25,13 +25,6 @@ invariant-loop image ids spots chain from buffer₀ id₀ left₀ end₀ buffer 
 abbrev decreases-loop : tie.decreases-loop-end
 decreases-loop image ids spots chain from buffer₀ id₀ left₀ end₀ buffer id left end = left
 
--- the arguments, from the loop
-abbrev start : tie.At-loop-end invariant-loop decreases-loop → tie.Start invariant-loop decreases-loop
-start l = l.before.before.before.before.before
-
-abbrev at-loop : tie.In-At invariant-loop decreases-loop → tie.At-loop-end invariant-loop decreases-loop
-at-loop k = k.before.before.before.before.before
-
 -- the blocks of the chain, which is whole
 blocks : (s : tie.Start invariant-loop decreases-loop)
     → (bs : List ℕ)
@@ -41,57 +34,49 @@ blocks s =
     sized_some (by_place s.args.image.now) (chain_of s.args.image.now s.args.ids.now s.args.spots.now s.args.chain) s.args.chain.size s.requires.1
 
 going : (l : tie.At-loop-end invariant-loop decreases-loop)
-    → Going (by_place (start l).args.image.now) (found (length (start l).args.ids.now) (start l).args.ids.now (start l).args.spots.now) (start l).args.chain.file (blocks (start l)).0
-    (start l).args.from (start l).args.chain.count (start l).args.buffer.now l.loop-end.id l.loop-end.left l.loop-end.end l.loop-end.buffer
-going l = l.loop-end.invariant (blocks (start l)).0 (blocks (start l)).1
+    → Going (by_place l.args.image.now) (found (length l.args.ids.now) l.args.ids.now l.args.spots.now) l.args.chain.file (blocks l.before.before.before.before.before).0
+    l.args.from l.args.chain.count l.args.buffer.now l.loop-end.id l.loop-end.left l.loop-end.end l.loop-end.buffer
+going l = l.loop-end.invariant (blocks l.before.before.before.before.before).0 (blocks l.before.before.before.before.before).1
 
 -- the block that was found
 there : (k : tie.In-At invariant-loop decreases-loop)
-    → some k.before.in-At.p
-    ≡ block_for (by_place (start (at-loop k)).args.image.now) (start (at-loop k)).args.chain.file
-    (found (length (start (at-loop k)).args.ids.now) (start (at-loop k)).args.ids.now (start (at-loop k)).args.spots.now) (at-loop k).loop-end.id
-there k = sym (ap spot_of k.before.in-At.is) ∙ k.before.before.before.own_block.ensures
+    → some k.in-At.p
+    ≡ block_for (by_place k.args.image.now) k.args.chain.file
+    (found (length k.args.ids.now) k.args.ids.now k.args.spots.now) k.loop-end.id
+there k = sym (ap spot_of k.in-At.is) ∙ k.own_block.ensures
 
-lies : (k : tie.In-At invariant-loop decreases-loop) → Lies (start (at-loop k)).args.image.now k.before.in-At.p
+lies : (k : tie.In-At invariant-loop decreases-loop) → Lies k.args.image.now k.in-At.p
 lies k =
-    let s = start (at-loop k) in
-    own_lies s.pre.0 s.args.chain.file (at-loop k).loop-end.id k.before.in-At.p (there k)
+    own_lies k.requires.0 k.args.chain.file k.loop-end.id k.in-At.p (there k)
 
-is_block : (k : tie.In-At invariant-loop decreases-loop) → block_at (start (at-loop k)).args.image.now k.before.in-At.p ≡ true
+is_block : (k : tie.In-At invariant-loop decreases-loop) → block_at k.args.image.now k.in-At.p ≡ true
 is_block k =
-    let s = start (at-loop k) in
-    own_block s.pre.0 s.args.chain.file (at-loop k).loop-end.id k.before.in-At.p (there k)
+    own_block k.requires.0 k.args.chain.file k.loop-end.id k.in-At.p (there k)
 
 -- its bytes are among those that are left
-fits : (d : tie.After-data_length-n invariant-loop decreases-loop) → d.data_length-n.result ≤ (at-loop d.before).loop-end.end
+fits : (d : tie.After-data_length-n invariant-loop decreases-loop) → d.data_length-n.result ≤ d.loop-end.end
 fits d =
-    let k = d.before in
-    let l = at-loop k in
     omega (
       arith,
       d.data_length-n.ensures.0,
-      going_fits (going l) k.before.before.before.before.loop-end-test.true k.before.in-At.p (there k),
+      going_fits (going d.before.before.before.before) d.loop-end-test.true d.in-At.p (there d.before),
     )
 
 -- and there is one left
-still : (k : tie.In-At invariant-loop decreases-loop) → 0 < (at-loop k).loop-end.left
+still : (k : tie.In-At invariant-loop decreases-loop) → 0 < k.loop-end.left
 still k =
-    let l = at-loop k in
-    going_left (going l) k.before.before.before.before.loop-end-test.true
+    going_left (going k.before.before.before) k.loop-end-test.true
 
 loop-holds : tie.Need-loop-end-init invariant-loop decreases-loop
 loop-holds c =
-    let s = c.before.before.before.before in
-    λ bs e. going_begins e (sized_is _ _ _ bs s.requires.1 e)
+    λ bs e. going_begins e (sized_is _ _ _ bs c.requires.1 e)
 
 same_length : tie.Need-shape_of-buffer-in_default invariant-loop decreases-loop
-same_length c = let l = c.before.before.before.before in (going l).long
+same_length c = (going c.before.before.before).long
 
 returns : tie.Need-returns-in_default invariant-loop decreases-loop
 returns c =
-    let o = c.before.before in
-    let l = o.before.before in
-    absurd (going_found (going l) o.before.loop-end-test.true (sym (ap spot_of c.in_default.is) ∙ o.own_block.ensures))
+    absurd (going_found (going c.before.before.before) c.loop-end-test.true (sym (ap spot_of c.in_default.is) ∙ c.own_block.ensures))
 
 data-length-requires : tie.Need-data_length-n-requires invariant-loop decreases-loop
 data-length-requires c κs = (lies c, is_block c)
@@ -101,11 +86,8 @@ sub-end c = fits c
 
 lay-requires : tie.Need-lay-requires invariant-loop decreases-loop
 lay-requires c κs =
-    let d = c.before.before in
-    let k = d.before in
-    let s = start (at-loop k) in
-    let e = data_part s.args.image.now k.before.in-At.p (lies k) (is_block k) d.data_length-n.result d.data_length-n.ensures.0 in
-    omega (arith, fits d, ap length e, d.data_length-n.ensures.0, k.before.before.before.before.loop-end-test.true)
+    let e = data_part c.args.image.now c.in-At.p (lies c.before.before.before) (is_block c.before.before.before) c.data_length-n.result c.data_length-n.ensures.0 in
+    omega (arith, fits c.before.before, ap length e, c.data_length-n.ensures.0, c.loop-end-test.true)
 
 previous-at-requires : tie.Need-previous_at-id-requires invariant-loop decreases-loop
 previous-at-requires c κs = lies c.before.before.before.before.before.before
@@ -118,16 +100,11 @@ loop-less c = omega (arith, still c.before.before.before.before.before.before.be
 
 loop-again : tie.Need-loop-end-preserved invariant-loop decreases-loop
 loop-again c =
-    let y = c.before.before.before in
-    let d = y.before.before.before in
-    let k = d.before in
-    let l = at-loop k in
-    let s = start l in
-    λ bs e. going_on (l.loop-end.invariant bs e) k.before.before.before.before.loop-end-test.true k.before.in-At.p (there k)
-    c.previous_at-id.result d.data_length-n.result _ y.lay.new.1.1.1.0
-    c.previous_at-id.ensures d.data_length-n.ensures.0
-    (data_part s.args.image.now k.before.in-At.p (lies k) (is_block k) d.data_length-n.result d.data_length-n.ensures.0)
-    y.lay.ensures
+    λ bs e. going_on (c.loop-end.invariant bs e) c.loop-end-test.true c.in-At.p (there c.before.before.before.before.before.before.before)
+    c.previous_at-id.result c.data_length-n.result _ c.lay.new.buffer
+    c.previous_at-id.ensures c.data_length-n.ensures.0
+    (data_part c.args.image.now c.in-At.p (lies c.before.before.before.before.before.before.before) (is_block c.before.before.before.before.before.before.before) c.data_length-n.result c.data_length-n.ensures.0)
+    c.lay.ensures
 
 sub-result : tie.Need-overflow_sub-result invariant-loop decreases-loop
 sub-result c = omega (arith, (going c.before.before).within)
@@ -137,11 +114,11 @@ same-length-2 c = (going c.before.before).long
 
 returns-2 : tie.Need-returns invariant-loop decreases-loop
 returns-2 c =
-    let l = c.before.before in (
+    (
       omega arith,
       (
-        (λ bs e. going_counts (l.loop-end.invariant bs e) c.before.loop-end-test.false),
-        (λ bs e. going_fills (l.loop-end.invariant bs e) c.before.loop-end-test.false),
+        (λ bs e. going_counts (c.loop-end.invariant bs e) c.loop-end-test.false),
+        (λ bs e. going_fills (c.loop-end.invariant bs e) c.loop-end-test.false),
       ),
     )
 

@@ -8,17 +8,12 @@ use Rattle.file_read.proofs.lay.Tie as tie
 
 returns : tie.Need-returns-then-to-buffer
 returns c =
-    let p = c.before.before in
-    let l = p.before.before.before in
-    let t = l.before.before in
-    let s = t.before.before.before.before in
-    laid_is s.args.text.now s.args.begin s.args.from s.args.buffer.now t.before.above-to.result l.before.above-skip.result l.least.result p.put.new.0
-    t.before.above-to.ensures t.if-to-buffer.true l.before.above-skip.ensures l.least.ensures p.put.ensures
+    laid_is c.args.text.now c.args.begin c.args.from c.args.buffer.now c.above-to.result c.above-skip.result c.least.result c.put.new.image
+    c.above-to.ensures c.if-to-buffer.true c.above-skip.ensures c.least.ensures c.put.ensures
 
 returns-2 : tie.Need-returns-else-to-buffer
 returns-2 c =
-    let s = c.before.before.before.before in
-    sym (laid_none s.args.text.now s.args.begin s.args.from s.args.buffer.now s.requires (omega (arith, c.if-to-buffer.false, c.before.above-to.ensures)))
+    sym (laid_none c.args.text.now c.args.begin c.args.from c.args.buffer.now c.requires (omega (arith, c.if-to-buffer.false, c.above-to.ensures)))
 
 pub lay_spec : {M : Type 1} → statement M
 lay_spec =

@@ -8,74 +8,46 @@ use borrow.Author.Rules.{rules}
 use Rattle.mount.proofs.fill_tables.Statement.{statement}
 use Rattle.mount.proofs.fill_tables.Tie as tie
 
--- the arguments, from where the records are gathered; and the way there
-abbrev start : tie.After-gather → tie.Start
-start g = g.before.before.before.before.before.before.before.before.before
-
-abbrev at-gather : tie.After-twins2 → tie.After-gather
-at-gather k = k.before.before.before.before.before.before
-
-room : (g : tie.After-gather) → Room g.gather.new.1.1.1.0 g.gather.new.1.1.1.1.0 g.gather.new.1.1.1.1.1.1.0
+room : (g : tie.After-gather-number) → Room g.gather-number.new.iwords g.gather-number.new.bwords g.gather-number.new.rows
 room g = record {
-  inodes = omega (arith, g.gather.auto.1.1.1.0);
-  blocks = omega (arith, g.gather.auto.1.1.1.1.0);
-  both = g.gather.auto.1.1.1.1.1.1.0 ∙ (start g).requires.long;
+  inodes = omega (arith, g.gather-number.auto.iwords);
+  blocks = omega (arith, g.gather-number.auto.bwords);
+  both = g.gather-number.auto.rows ∙ g.requires.long;
 }
 
-gather-requires : tie.Need-gather-requires
+gather-requires : tie.Need-gather-number-requires
 gather-requires c κs =
-    let s = c.before.before.before.before.before.before.before.before in (
-      fresh_ready s.args.image.now s.args.places.now s.args.n s.args.rows.now s.requires,
+    (
+      fresh_ready c.args.image.now c.args.places.now c.args.n c.args.rows.now c.requires,
       (
-        fresh_room s.args.image.now s.args.places.now s.args.n s.args.rows.now s.requires,
+        fresh_room c.args.image.now c.args.places.now c.args.n c.args.rows.now c.requires,
         (
-          fresh_indexed s.args.image.now s.args.places.now s.args.n s.args.rows.now s.requires,
-          fresh_twins s.args.image.now s.args.places.now s.args.n s.args.rows.now s.requires,
+          fresh_indexed c.args.image.now c.args.places.now c.args.n c.args.rows.now c.requires,
+          fresh_twins c.args.image.now c.args.places.now c.args.n c.args.rows.now c.requires,
         ),
       ),
     )
 
-returns : tie.Need-returns
+returns : tie.Need-returns-then-number-ne0
 returns c =
-    let t = c.before in
-    let g = at-gather t.before in
-    let s = start g in
     rw c.unfilled.ensures
-    (fill_refused s.args.image.now s.args.places.now s.args.n s.args.rows.now g.gather.result
-    g.gather.last.1.1.1.0 g.gather.last.1.1.1.1.0 g.gather.last.1.1.1.1.1.1.0 g.gather.ensures (room g) t.if1.true)
+    (fill_refused c.args.image.now c.args.places.now c.args.n c.args.rows.now c.gather-number.result
+    c.gather-number.new.iwords c.gather-number.new.bwords c.gather-number.new.rows c.gather-number.ensures (room c.before.before.before.before.before.before.before.before) c.if-number-ne0.true)
 
-abbrev at-blocks : tie.After-find → tie.After-taken2
-at-blocks f = f.before.before.before.before
-
-abbrev at-inodes : tie.After-find → tie.After-taken
-at-inodes f = (at-blocks f).before.before
-
-abbrev at-else : tie.After-find → tie.Else1
-at-else f = (at-inodes f).before.before
-
-returns-2 : tie.Need-returns-2
+returns-2 : tie.Need-returns-in_default
 returns-2 c =
-    let n = c.before in
-    let f = n.before.before in
-    let e = at-else f in
-    let g = at-gather e.before in
-    let s = start g in
-    rw c.unfilled2.ensures
-    (fill_rootless s.args.image.now s.args.places.now s.args.n s.args.rows.now g.gather.result
-    g.gather.last.1.1.1.0 g.gather.last.1.1.1.1.0 g.gather.last.1.1.1.1.1.1.0 g.gather.ensures (room g) e.if1.left
-    (at-inodes f).taken.result (at-blocks f).taken2.result (at-inodes f).taken.ensures.0 (at-blocks f).taken2.ensures.0
-    f.find.result f.find.ensures (ap spot_of n.enum-told2.given.1))
+    rw c.unfilled-in_default.ensures
+    (fill_rootless c.args.image.now c.args.places.now c.args.n c.args.rows.now c.gather-number.result
+    c.gather-number.new.iwords c.gather-number.new.bwords c.gather-number.new.rows c.gather-number.ensures (room c.before.before.before.before.before.before.before.before.before.before.before.before.before.before.before.before) c.if-number-ne0.false
+    c.taken-inodes.result c.taken-blocks.result c.taken-inodes.ensures.0 c.taken-blocks.ensures.0
+    c.find.result c.find.ensures (ap spot_of c.in_default.is))
 
-returns-3 : tie.Need-returns-3
+returns-3 : tie.Need-returns
 returns-3 c =
-    let f = c.before.before in
-    let e = at-else f in
-    let g = at-gather e.before in
-    let s = start g in
-    fill_passes s.args.image.now s.args.places.now s.args.n s.args.rows.now g.gather.result
-    g.gather.last.1.1.1.0 g.gather.last.1.1.1.1.0 g.gather.last.1.1.1.1.1.1.0 g.gather.ensures (room g) e.if1.left
-    (at-inodes f).taken.result (at-blocks f).taken2.result (at-inodes f).taken.ensures.0 (at-blocks f).taken2.ensures.0
-    f.find.result f.find.ensures c.enum_told.given.0.0 (ap spot_of c.enum_told.given.1)
+    fill_passes c.args.image.now c.args.places.now c.args.n c.args.rows.now c.gather-number.result
+    c.gather-number.new.iwords c.gather-number.new.bwords c.gather-number.new.rows c.gather-number.ensures (room c.before.before.before.before.before.before.before.before.before.before.before.before.before.before.before) c.if-number-ne0.false
+    c.taken-inodes.result c.taken-blocks.result c.taken-inodes.ensures.0 c.taken-blocks.ensures.0
+    c.find.result c.find.ensures c.in-At.field-0 (ap spot_of c.in-At.is)
 
 pub fill_tables_spec : {M : Type 1} → statement M
 fill_tables_spec =

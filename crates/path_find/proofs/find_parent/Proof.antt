@@ -12,40 +12,26 @@ use Rattle.path_find.specs.Parent.{below_any}
 use Rattle.path_find.proofs.find_parent.Statement.{statement}
 use Rattle.path_find.proofs.find_parent.Tie as tie
 
--- the arguments, from where the path was judged
-abbrev start : tie.After-is-below-root → tie.Start
-start c = c.before.before.before.before.before
-
 -- it has a last name
-named : (t : tie.Then1) → let s = start t.before in
-    (not_below s.args.base.now s.args.path.now ≡ false) × (good_path s.args.base.now s.args.path.now ≡ true)
-    × (any_names (path_names s.args.base.now s.args.path.now) ≡ true)
+named : (t : tie.Then-is_below_root) → (not_below t.args.base.now t.args.path.now ≡ false) × (good_path t.args.base.now t.args.path.now ≡ true)
+    × (any_names (path_names t.args.base.now t.args.path.now) ≡ true)
 named t =
-    let b = t.before in
-    let s = start b in
-    below_named s.args.base.now s.args.path.now b.is-below-root.result b.is-below-root.ensures t.if1.true
+    below_named t.args.base.now t.args.path.now t.is_below_root.result t.is_below_root.ensures t.if-is_below_root.true
 
-returns : tie.Need-returns
+returns : tie.Need-returns-else-is_below_root
 returns c =
-    let b = c.before in
-    let s = start b in
-    ((λ ds h. rw (not_below_lem s.args.base.now s.args.path.now b.is-below-root.result b.is-below-root.ensures c.if1.false)), tt)
+    ((λ ds h. rw (not_below_lem c.args.base.now c.args.path.now c.is_below_root.result c.is_below_root.ensures c.if-is_below_root.false)), tt)
 
--- the test of the path, before the walk
-abbrev at_test : tie.After-walk-before-arg2 → tie.Then1
-at_test c = c.before.before.before.before
+walk-before-requires : tie.Need-walk_before-requires
+walk-before-requires c κs = (inodes_lent c.requires, ((named c.before.before.before.before).1, (named c.before.before.before.before).2))
 
-walk-before-requires : tie.Need-walk-before-requires
-walk-before-requires c κs = let t = at_test c in (inodes_lent (start t.before).requires, ((named t).1, (named t).2))
-
-returns-2 : tie.Need-returns-2
+returns-2 : tie.Need-returns
 returns-2 c =
-    let t = at_test c.before in
-    let s = start t.before in (
-      (λ ds h. rw (named t).0
-          (c.walk_before.ensures (placed_volume s.args.image.now ds) (rows_lent h)
-          ∙ names_are s.args.image.now ds (names_before (path_names s.args.base.now s.args.path.now)))),
-      below_any s.args.base.now s.args.path.now c.walk_before.result (named t).1 (named t).2,
+    (
+      (λ ds h. rw (named c.before.before.before.before.before).0
+          (c.walk_before.ensures (placed_volume c.args.image.now ds) (rows_lent h)
+          ∙ names_are c.args.image.now ds (names_before (path_names c.args.base.now c.args.path.now)))),
+      below_any c.args.base.now c.args.path.now c.walk_before.result (named c.before.before.before.before.before).1 (named c.before.before.before.before.before).2,
     )
 
 pub find_parent_spec : {M : Type 1} → statement M

@@ -8,20 +8,20 @@ use Rattle.path_find.proofs.is_below_root.Statement.{statement}
 use Rattle.path_find.proofs.is_below_root.Tie as tie
 
 -- the arguments, from where the path was judged
-abbrev start : tie.After-good-path → tie.Start
+abbrev start : tie.After-good_path → tie.Start
 start c = c.before.before.before
 
-good : (t : tie.Then1) → let s = start t.before in good_path s.args.base.now s.args.path.now ≡ true
-good t = sym t.before.good-path.ensures ∙ t.if1.true
+good : (t : tie.Then-good_path) → let s = start t.before in good_path s.args.base.now s.args.path.now ≡ true
+good t = sym t.before.good_path.ensures ∙ t.if-good_path.true
 
-returns : tie.Need-returns
-returns c = let s = start c.before in bad_path s.args.base.now s.args.path.now (sym c.before.good-path.ensures ∙ c.if1.false)
+returns : tie.Need-returns-else-good_path
+returns c = let s = start c.before in bad_path s.args.base.now s.args.path.now (sym c.before.good_path.ensures ∙ c.if-good_path.false)
 
-returns-2 : tie.Need-returns-2
+returns-2 : tie.Need-returns
 returns-2 c =
     let w = c.before in
     let s = start w.before.before in
-    c.has-name.ensures ∙ by_names s.args.base.now s.args.path.now (good w.before) _ w.start.ensures.names
+    c.has_name.ensures ∙ by_names s.args.base.now s.args.path.now (good w.before) _ w.start-w.ensures.names
 
 pub is_below_root_spec : {M : Type 1} → statement M
 is_below_root_spec = tie.close (tie.spec (λ c κs. search rules) returns (λ c κs. good c) (λ c κs. search rules) returns-2)

@@ -7,27 +7,19 @@ use borrow.Author.Rules.{rules}
 use Rattle.path_find.proofs.sequence_of.Statement.{statement}
 use Rattle.path_find.proofs.sequence_of.Tie as tie
 
--- the arguments, from where the row was found
-abbrev start : tie.After-find → tie.Start
-start f = f.before.before.before.before.before.before.before
-
 -- the record found lies in the image
-lies : (p : tie.After-spot) → Lies (start p.before.before).args.image.now p.spot.given.0.0
+lies : (p : tie.In-At-2) → Lies p.args.image.now p.in-At.p
 lies p =
-    let f = p.before.before in
-    row_lies (start f).args.image.now _ _ (start f).args.id f.find.result f.find.ensures (inodes_lent (start f).requires) p.spot.given.0.0 p.spot.given.1
+    row_lies p.args.image.now _ _ p.args.id p.find-spot.result p.find-spot.ensures (inodes_lent p.requires) p.in-At.p p.in-At.is
 
-returns : tie.Need-returns
+returns : tie.Need-returns-in_default
 returns c =
-    let f = c.before.before in
-    λ ds h. sequence_none (start f).args.image.now _ _ (start f).args.id f.find.result f.find.ensures ds (rows_lent h) c.enum_told.given.1
+    λ ds h. sequence_none c.args.image.now _ _ c.args.id c.find-spot.result c.find-spot.ensures ds (rows_lent h) c.in_default.is
 
-returns-2 : tie.Need-returns-2
+returns-2 : tie.Need-returns
 returns-2 c =
-    let p = c.before.before in
-    let f = p.before.before in
-    λ ds h. c.sequence-at.ensures
-    ∙ sequence_some (start f).args.image.now _ _ (start f).args.id f.find.result f.find.ensures ds (rows_lent h) p.spot.given.0.0 p.spot.given.1
+    λ ds h. c.sequence_at.ensures
+    ∙ sequence_some c.args.image.now _ _ c.args.id c.find-spot.result c.find-spot.ensures ds (rows_lent h) c.in-At.p c.in-At.is
 
 pub sequence_of_spec : {M : Type 1} → statement M
 sequence_of_spec =

@@ -13,80 +13,62 @@ use Rattle.path_find.specs.Parent.{Toward, toward_begins, toward_on, Along, alon
 use Rattle.path_find.proofs.walk_before.Statement.{statement}
 use Rattle.path_find.proofs.walk_before.Tie as tie
 
-abbrev invariant-loop : tie.invariant-loop
+abbrev invariant-loop : tie.invariant-loop-w
 invariant-loop image ids spots base path w₀ at₀ w at =
     Toward base path w × ((v : Volume ℕ) → InodesOf image ids spots v → Along (by_place image) v base path w at)
 
-abbrev decreases-loop : tie.decreases-loop
+abbrev decreases-loop : tie.decreases-loop-w
 decreases-loop image ids spots base path w₀ at₀ w at = length (names_from base path w)
 
--- the arguments, from the head of the loop
-abbrev start : tie.At-loop invariant-loop decreases-loop → tie.Start invariant-loop decreases-loop
-start l = l.before.before.before.before.before.before.before
-
 -- a name that is not the last
-more : (e : tie.Else1 invariant-loop decreases-loop) → let l = e.before.before in let s = start l in
-    one_name (names_from s.args.base.now s.args.path.now l.loop.w) ≡ false
-more e = sym e.before.is_last.ensures ∙ e.if1.false
+more : (e : tie.Else-is_last invariant-loop decreases-loop) → one_name (names_from e.args.base.now e.args.path.now e.loop-w.w) ≡ false
+more e = sym e.is_last.ensures ∙ e.if-is_last.false
 
-start-requires : tie.Need-start-requires invariant-loop decreases-loop
-start-requires c κs = c.before.before.before.before.before.requires.1.0
+start-requires : tie.Need-start-w-requires invariant-loop decreases-loop
+start-requires c κs = c.requires.1.0
 
-loop-holds : tie.Need-loop-init invariant-loop decreases-loop
+loop-holds : tie.Need-loop-w-init invariant-loop decreases-loop
 loop-holds c =
-    let s = c.before.before.before.before.before.before in (
-      toward_begins s.args.base.now s.args.path.now c.start.result s.requires.1.1 c.start.ensures,
-      λ v rows. along_begins (by_place s.args.image.now) v s.args.base.now s.args.path.now c.start.result c.start.ensures,
+    (
+      toward_begins c.args.base.now c.args.path.now c.start-w.result c.requires.1.1 c.start-w.ensures,
+      λ v rows. along_begins (by_place c.args.image.now) v c.args.base.now c.args.path.now c.start-w.result c.start-w.ensures,
     )
 
-is-last-requires : tie.Need-is-last-requires invariant-loop decreases-loop
-is-last-requires c κs = c.loop.invariant.0.reached
+is-last-requires : tie.Need-is_last-requires invariant-loop decreases-loop
+is-last-requires c κs = c.loop-w.invariant.0.reached
 
-returns : tie.Need-returns invariant-loop decreases-loop
+returns : tie.Need-returns-then-is_last invariant-loop decreases-loop
 returns c =
-    let t = c.before in
-    let l = t.before.before in
-    let s = start l in
-    λ v rows. along_ends (by_place s.args.image.now) v s.args.base.now s.args.path.now l.loop.w l.loop.at (l.loop.invariant.1 v rows)
-    (sym t.before.is_last.ensures ∙ t.if1.true)
+    λ v rows. along_ends (by_place c.args.image.now) v c.args.base.now c.args.path.now c.loop-w.w c.loop-w.at (c.loop-w.invariant.1 v rows)
+    (sym c.is_last.ensures ∙ c.if-is_last.true)
 
-name-at-requires : tie.Need-name-at-requires invariant-loop decreases-loop
-name-at-requires c κs = let i = c.before.before.loop.invariant.0 in (i.reached, i.any)
+name-at-requires : tie.Need-name_at-name-requires invariant-loop decreases-loop
+name-at-requires c κs = let i = c.loop-w.invariant.0 in (i.reached, i.any)
 
-enter-requires : tie.Need-enter-requires invariant-loop decreases-loop
-enter-requires c κs = (start c.before.before.before).pre.0
+enter-requires : tie.Need-enter-step-requires invariant-loop decreases-loop
+enter-requires c κs = c.requires.0
 
-returns-2 : tie.Need-returns-2 invariant-loop decreases-loop
+returns-2 : tie.Need-returns-in_default invariant-loop decreases-loop
 returns-2 c =
-    let k = c.before.before in
-    let n = k.before in
-    let l = n.before.before.before in
-    let s = start l in
-    λ v rows. along_fails (by_place s.args.image.now) v s.args.base.now s.args.path.now l.loop.w l.loop.at (l.loop.invariant.1 v rows)
-    l.loop.invariant.0.any (more n.before) _ n.name_at.ensures (meaning k.enter.result) (k.enter.ensures.0 v rows)
-    c.enum_told.given.0.0 (ap meaning c.enum_told.given.1)
+    λ v rows. along_fails (by_place c.args.image.now) v c.args.base.now c.args.path.now c.loop-w.w c.loop-w.at (c.loop-w.invariant.1 v rows)
+    c.loop-w.invariant.0.any (more c.before.before.before) _ c.name_at-name.ensures (meaning c.enter-step.result) (c.enter-step.ensures.0 v rows)
+    c.in_default.field-0 (ap meaning c.in_default.is)
 
-after-requires : tie.Need-after-requires invariant-loop decreases-loop
-after-requires c κs = let i = c.before.before.before.before.before.before.before.loop.invariant.0 in (i.reached, i.any)
+after-requires : tie.Need-after-w-requires invariant-loop decreases-loop
+after-requires c κs = let i = c.loop-w.invariant.0 in (i.reached, i.any)
 
-loop-less : tie.Need-loop-smaller invariant-loop decreases-loop
+loop-less : tie.Need-loop-w-smaller invariant-loop decreases-loop
 loop-less c =
-    let l = c.before.before.before.before.before.before.before.before in
-    let s = start l in
-    fewer s.args.base.now s.args.path.now l.loop.w c.after.result l.loop.invariant.0.any c.after.ensures
+    fewer c.args.base.now c.args.path.now c.loop-w.w c.after-w.result c.loop-w.invariant.0.any c.after-w.ensures
 
-loop-again : tie.Need-loop-preserved invariant-loop decreases-loop
+loop-again : tie.Need-loop-w-preserved invariant-loop decreases-loop
 loop-again c =
-    let p = c.before.before in
-    let k = p.before.before in
-    let n = k.before in
-    let l = n.before.before.before in
-    let s = start l in (
-      toward_on s.args.base.now s.args.path.now l.loop.w l.loop.invariant.0 (more n.before) c.after.result c.after.ensures,
+    (
+      toward_on c.args.base.now c.args.path.now c.loop-w.w c.loop-w.invariant.0 (more c.before.before.before.before) c.after-w.result c.after-w.ensures,
       λ v rows.
-          along_on (by_place s.args.image.now) v s.args.base.now s.args.path.now l.loop.w l.loop.at (l.loop.invariant.1 v rows)
-          l.loop.invariant.0.any (more n.before) _ n.name_at.ensures (meaning k.enter.result) (k.enter.ensures.0 v rows)
-          p.step.given.0.0 (ap meaning p.step.given.1) c.after.result c.after.ensures,
+          along_on (by_place c.args.image.now) v c.args.base.now c.args.path.now c.loop-w.w c.loop-w.at (c.loop-w.invariant.1 v rows)
+          c.loop-w.invariant.0.any (more c.before.before.before.before) _ c.name_at-name.ensures (meaning c.enter-step.result) (c.enter-step.ensures.0 v rows)
+          c.in-Inode.id (ap meaning c.in-Inode.is) c.after-w.result c.after-w.ensures,
     )
 
 pub walk_before_spec : {M : Type 1} → statement M

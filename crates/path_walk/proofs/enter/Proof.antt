@@ -12,35 +12,27 @@ use Rattle.path_walk.specs.Laws.{step_file, step_child}
 use Rattle.path_walk.proofs.enter.Statement.{statement}
 use Rattle.path_walk.proofs.enter.Tie as tie
 
--- the arguments, from where the kind was asked
-abbrev start : tie.After-is-directory-id → tie.Start
-start c = c.before.before.before.before.before
-
 -- the step in a directory, by the children found
-inside : (f : tie.After-find-child) (o : Only ℕ) → only_of f.find-child.result ≡ o
-    → let s = start f.before.before in (v : Volume ℕ) → InodesOf s.args.image.now s.args.ids.now s.args.spots.now v
-    → onward true o found ≡ step_of (by_place s.args.image.now) v s.args.directory s.args.name.now
+inside : (f : tie.After-find_child-child) (o : Only ℕ) → only_of f.find_child-child.result ≡ o
+    → (v : Volume ℕ) → InodesOf f.args.image.now f.args.ids.now f.args.spots.now v
+    → onward true o found ≡ step_of (by_place f.args.image.now) v f.args.directory f.args.name.now
 inside f o e v rows =
-    let t = f.before in
-    let s = start t.before in
-    step_child (by_place s.args.image.now) v s.args.directory s.args.name.now (sym t.before.is-directory-id.ensures ∙ t.if1.true) o
-    (sym e ∙ f.find-child.ensures v rows)
+    step_child (by_place f.args.image.now) v f.args.directory f.args.name.now (sym f.is_directory_id.ensures ∙ f.if-is_directory_id.true) o
+    (sym e ∙ f.find_child-child.ensures v rows)
 
-returns : tie.Need-returns
+returns : tie.Need-returns-else-is_directory_id
 returns c =
-    let s = start c.before in
-    ((λ v rows. step_file (by_place s.args.image.now) v s.args.directory s.args.name.now (sym c.before.is-directory-id.ensures ∙ c.if1.false)), tt)
+    ((λ v rows. step_file (by_place c.args.image.now) v c.args.directory c.args.name.now (sym c.is_directory_id.ensures ∙ c.if-is_directory_id.false)), tt)
 
-returns-2 : tie.Need-returns-2
-returns-2 c = (inside c.before.before nobody (ap only_of c.enum_told.given.1), tt)
+returns-2 : tie.Need-returns-in-Nobody
+returns-2 c = (inside c.before nobody (ap only_of c.in-Nobody.is), tt)
 
-returns-3 : tie.Need-returns-3
-returns-3 c = (inside c.before.before several (ap only_of c.enum-told2.given.1), tt)
+returns-3 : tie.Need-returns-in-Several
+returns-3 c = (inside c.before several (ap only_of c.in-Several.is), tt)
 
-returns-4 : tie.Need-returns-4
+returns-4 : tie.Need-returns-in-One
 returns-4 c =
-    let b = c.before in
-    ((λ v rows. c.inode.ensures.0 ∙ inside b.before.before.before (one b.before.child.given.0.0) (ap only_of b.before.child.given.1) v rows), c.inode.ensures.1)
+    ((λ v rows. c.inode.ensures.0 ∙ inside c.before.before (one c.in-One.id) (ap only_of c.in-One.is) v rows), c.inode.ensures.1)
 
 pub enter_spec : {M : Type 1} → statement M
 enter_spec =

@@ -17,19 +17,19 @@ use Rattle.path_walk.proofs.is_entry.Tie as tie
 lies : (s : tie.Start) → s.args.p + (20 + byte_at s.args.image.now (s.args.p + 17)) ≤ length s.args.image.now
 lies s = rw (size_inode s.args.image.now s.args.p s.requires.1) at s.requires.0
 
-returns : tie.Need-returns
+returns : tie.Need-returns-then-link_at-directory
 returns c =
     let l = c.before in
     let s = l.before.before.before in
-    sym (entry_elsewhere (by_place s.args.image.now) s.args.directory s.args.name.now s.args.p (λ e. c.if1.true (l.link_at.ensures ∙ e)))
+    sym (entry_elsewhere (by_place s.args.image.now) s.args.directory s.args.name.now s.args.p (λ e. c.if-link_at-directory.true (l.link_at.ensures ∙ e)))
 
-shared-slice-read-wide : tie.Need-shared-slice-read-wide
+shared-slice-read-wide : tie.Need-bounds-image-at
 shared-slice-read-wide c = omega (arith, lies c.before.before.before.before.before)
 
-part-equal-end : tie.Need-slice-bounds-equal-end
+part-equal-end : tie.Need-slice_bounds-equal-end
 part-equal-end c = omega (arith, lies c.before.before.before.before.before.before, c.wide.ensures)
 
-returns-2 : tie.Need-returns-2
+returns-2 : tie.Need-returns
 returns-2 c =
     let w = c.before.before in
     let e = w.before.before in
@@ -40,7 +40,7 @@ returns-2 c =
     = rw (add-sub_cancel_left, w.wide.ensures.0) at c.equal.ensures in
     told
     ∙ ap (λ (n : Bytes). same n s.args.name.now) (sym (name_at image s.args.p s.requires.1))
-    ∙ sym (entry_here (by_place image) s.args.directory s.args.name.now s.args.p (sym l.link_at.ensures ∙ e.if1.false))
+    ∙ sym (entry_here (by_place image) s.args.directory s.args.name.now s.args.p (sym l.link_at.ensures ∙ e.if-link_at-directory.false))
 
 pub is_entry_spec : {M : Type 1} → statement M
 is_entry_spec =

@@ -10,7 +10,7 @@ returns : tie.Need-returns
 returns c =
     let f = c.before in
     let s = f.before.before.before.before in
-    λ v rows. c.lives.ensures ∙ ap is_live f.fate-of.ensures ∙ live_row s.requires v rows s.args.id
+    λ v rows. c.lives.ensures ∙ ap is_live f.fate_of.ensures ∙ live_row s.requires v rows s.args.id
 
 pub is_live_spec : {M : Type 1} → statement M
 is_live_spec = tie.close (tie.spec (λ c κs. search rules) (λ c κs. search rules) returns)

@@ -13,76 +13,64 @@ use Rattle.path_walk.specs.Resolved.{InodesOf}
 use Rattle.path_walk.proofs.next_child.Statement.{statement}
 use Rattle.path_walk.proofs.next_child.Tie as tie
 
-abbrev invariant-loop : tie.invariant-loop
+abbrev invariant-loop : tie.invariant-loop-row
 invariant-loop image ids spots directory name from n row₀ row =
     (row ≤ length ids)
     × ((v : Volume ℕ) → InodesOf image ids spots v
     → from + first_of (is_child (by_place image) v directory name) (drop from ids)
     ≡ row + first_of (is_child (by_place image) v directory name) (drop row ids))
 
-abbrev decreases-loop : tie.decreases-loop
+abbrev decreases-loop : tie.decreases-loop-row
 decreases-loop image ids spots directory name from n row₀ row = length ids - row
 
--- the arguments, from the head of the loop
-abbrev start : tie.At-loop invariant-loop decreases-loop → tie.Start invariant-loop decreases-loop
-start l = l.before.before.before.before.before
-
 -- the row of a turn is taken
-below : (c : tie.In-loop invariant-loop decreases-loop) → c.before.loop.row < length (start c.before).args.ids.now
-below c = c.loop-test.true
+below : (c : tie.In-loop-row invariant-loop decreases-loop) → c.loop-row.row < length c.args.ids.now
+below c = c.loop-row-test.true
 
 -- the test that the rows are put to
-abbrev test : (l : tie.At-loop invariant-loop decreases-loop) → Volume ℕ → ℕ → Bool
-test l v = is_child (by_place (start l).args.image.now) v (start l).args.directory (start l).args.name.now
+abbrev test : (l : tie.At-loop-row invariant-loop decreases-loop) → Volume ℕ → ℕ → Bool
+test l v = is_child (by_place l.args.image.now) v l.args.directory l.args.name.now
 
-loop-holds : tie.Need-loop-init invariant-loop decreases-loop
-loop-holds c = (c.before.before.before.before.requires.1, λ v rows. refl)
+loop-holds : tie.Need-loop-row-init invariant-loop decreases-loop
+loop-holds c = (c.requires.1, λ v rows. refl)
 
-is-child-requires : tie.Need-is-child-requires invariant-loop decreases-loop
-is-child-requires c κs = ((start c.before).pre.0, below c)
+is-child-requires : tie.Need-is_child-requires invariant-loop decreases-loop
+is-child-requires c κs = (c.requires.0, below c)
 
-returns : tie.Need-returns invariant-loop decreases-loop
+returns : tie.Need-returns-then-is_child invariant-loop decreases-loop
 returns c =
-    let k = c.before in
-    let n = k.before in
-    let l = n.before in
-    let s = start l in (
+    (
       λ v rows.
-          let e = search_here (test l v) s.args.ids.now l.loop.row (below n) (sym (k.is-child.ensures v rows) ∙ c.if1.true) in
-          let i = l.loop.invariant.1 v rows in
+          let e = search_here (test c.before.before.before v) c.args.ids.now c.loop-row.row (below c.before.before) (sym (c.is_child.ensures v rows) ∙ c.if-is_child.true) in
+          let i = c.loop-row.invariant.1 v rows in
           omega arith,
-      l.loop.invariant.0,
+      c.loop-row.invariant.0,
     )
 
-add_row : tie.Need-overflow-add-row invariant-loop decreases-loop
-add_row c = let n = c.before.before in omega (arith, below n)
+add_row : tie.Need-overflow_add-row invariant-loop decreases-loop
+add_row c = omega (arith, below c.before.before)
 
-loop-less : tie.Need-loop-smaller invariant-loop decreases-loop
+loop-less : tie.Need-loop-row-smaller invariant-loop decreases-loop
 loop-less c = omega (arith, below c.before.before)
 
-loop-again : tie.Need-loop-preserved invariant-loop decreases-loop
+loop-again : tie.Need-loop-row-preserved invariant-loop decreases-loop
 loop-again c =
-    let k = c.before in
-    let n = k.before in
-    let l = n.before in
-    let s = start l in (
-      omega (arith, below n),
+    (
+      omega (arith, below c.before.before),
       λ v rows.
-          let e = search_later (test l v) s.args.ids.now l.loop.row (below n) (sym (k.is-child.ensures v rows) ∙ c.if1.false) in
-          let i = l.loop.invariant.1 v rows in
+          let e = search_later (test c.before.before.before v) c.args.ids.now c.loop-row.row (below c.before.before) (sym (c.is_child.ensures v rows) ∙ c.if-is_child.false) in
+          let i = c.loop-row.invariant.1 v rows in
           omega arith,
     )
 
-returns-2 : tie.Need-returns-2 invariant-loop decreases-loop
+returns-2 : tie.Need-returns invariant-loop decreases-loop
 returns-2 c =
-    let l = c.before in
-    let s = start l in
-    let past : length s.args.ids.now ≤ l.loop.row = c.loop-test.false in (
+    let past : length c.args.ids.now ≤ c.loop-row.row = c.loop-row-test.false in (
       λ v rows.
-          let e = search_end (test l v) s.args.ids.now l.loop.row past in
-          let i = l.loop.invariant.1 v rows in
+          let e = search_end (test c.before v) c.args.ids.now c.loop-row.row past in
+          let i = c.loop-row.invariant.1 v rows in
           omega arith,
-      l.loop.invariant.0,
+      c.loop-row.invariant.0,
     )
 
 pub next_child_spec : {M : Type 1} → statement M

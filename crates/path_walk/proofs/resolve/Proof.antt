@@ -15,83 +15,62 @@ use Rattle.path_walk.specs.Laws.{walk_starts, walk_ends, walk_fails, walk_goes_o
 use Rattle.path_walk.proofs.resolve.Statement.{statement}
 use Rattle.path_walk.proofs.resolve.Tie as tie
 
-abbrev invariant-loop : tie.invariant-loop
+abbrev invariant-loop : tie.invariant-loop-w
 invariant-loop image ids spots base path w₀ at₀ w at =
     Reached base path w
     × ((v : Volume ℕ) → InodesOf image ids spots v
     → walk (by_place image) v at (names_from base path w) ≡ lookup_names (by_place image) v (path_names base path))
 
-abbrev decreases-loop : tie.decreases-loop
+abbrev decreases-loop : tie.decreases-loop-w
 decreases-loop image ids spots base path w₀ at₀ w at = length (names_from base path w)
 
--- the arguments, from where the walk starts
-abbrev start : tie.After-start invariant-loop decreases-loop → tie.Start invariant-loop decreases-loop
-start c = c.before.before.before.before.before.before
-
 -- a name is left
-any : (t : tie.Then1 invariant-loop decreases-loop) → let l = t.before.before in let s = start l.before in
-    any_names (names_from s.args.base.now s.args.path.now l.loop.w) ≡ true
-any t = sym t.before.has-name.ensures ∙ t.if1.true
+any : (t : tie.In-loop-w invariant-loop decreases-loop) → any_names (names_from t.args.base.now t.args.path.now t.loop-w.w) ≡ true
+any t = sym t.has_name.ensures ∙ t.loop-w-test.true
 
-loop-holds : tie.Need-loop-init invariant-loop decreases-loop
+loop-holds : tie.Need-loop-w-init invariant-loop decreases-loop
 loop-holds c =
-    let s = start c in
-    (c.start.ensures.reached, λ v rows. walk_starts (by_place s.args.image.now) v _ _ c.start.ensures.names)
+    (c.start-w.ensures.reached, λ v rows. walk_starts (by_place c.args.image.now) v _ _ c.start-w.ensures.names)
 
-has-name-requires : tie.Need-has-name-requires invariant-loop decreases-loop
-has-name-requires c κs = c.loop.invariant.0
+has-name-requires : tie.Need-has_name-requires invariant-loop decreases-loop
+has-name-requires c κs = c.loop-w.invariant.0
 
-name-at-requires : tie.Need-name-at-requires invariant-loop decreases-loop
-name-at-requires c κs = (c.before.before.loop.invariant.0, any c)
+name-at-requires : tie.Need-name_at-name-requires invariant-loop decreases-loop
+name-at-requires c κs = (c.loop-w.invariant.0, any c)
 
-enter-requires : tie.Need-enter-requires invariant-loop decreases-loop
-enter-requires c κs = (start c.before.before.before.before).pre.0
+enter-requires : tie.Need-enter-step-requires invariant-loop decreases-loop
+enter-requires c κs = c.requires.0
 
-returns : tie.Need-returns invariant-loop decreases-loop
+returns : tie.Need-returns-in_default invariant-loop decreases-loop
 returns c =
-    let e = c.before.before in
-    let n = e.before in
-    let t = n.before in
-    let l = t.before.before in
-    let s = start l.before in (
-      (λ v rows. walk_fails (by_place s.args.image.now) v l.loop.at _ (any t) _ n.name_at.ensures.first (meaning e.enter.result) (e.enter.ensures.0 v rows)
-          c.enum_told.given.0.0 (ap meaning c.enum_told.given.1) ∙ l.loop.invariant.1 v rows),
-      e.enter.ensures.1,
+    (
+      (λ v rows. walk_fails (by_place c.args.image.now) v c.loop-w.at _ (any c.before.before.before) _ c.name_at-name.ensures.first (meaning c.enter-step.result) (c.enter-step.ensures.0 v rows)
+          c.in_default.field-0 (ap meaning c.in_default.is) ∙ c.loop-w.invariant.1 v rows),
+      c.enter-step.ensures.1,
     )
 
-after-requires : tie.Need-after-requires invariant-loop decreases-loop
+after-requires : tie.Need-after-w-requires invariant-loop decreases-loop
 after-requires c κs =
-    let t = c.before.before.before.before.before in
-    (t.before.before.loop.invariant.0, any t)
+    (c.loop-w.invariant.0, any c.before.before.before)
 
-loop-less : tie.Need-loop-smaller invariant-loop decreases-loop
+loop-less : tie.Need-loop-w-smaller invariant-loop decreases-loop
 loop-less c =
-    let t = c.before.before.before.before.before.before in
-    let l = t.before.before in
-    let s = start l.before in
-    fewer s.args.base.now s.args.path.now l.loop.w c.after.result (any t) c.after.ensures
+    fewer c.args.base.now c.args.path.now c.loop-w.w c.after-w.result (any c.before.before.before.before) c.after-w.ensures
 
-loop-again : tie.Need-loop-preserved invariant-loop decreases-loop
+loop-again : tie.Need-loop-w-preserved invariant-loop decreases-loop
 loop-again c =
-    let k = c.before.before in
-    let e = k.before.before in
-    let n = e.before in
-    let t = n.before in
-    let l = t.before.before in
-    let s = start l.before in (
-      c.after.ensures.reached,
+    (
+      c.after-w.ensures.reached,
       λ v rows.
-          walk_goes_on (by_place s.args.image.now) v l.loop.at _ (any t) _ n.name_at.ensures.first (meaning e.enter.result) (e.enter.ensures.0 v rows)
-          k.step.given.0.0 (ap meaning k.step.given.1) _ c.after.ensures.rest
-          ∙ l.loop.invariant.1 v rows,
+          walk_goes_on (by_place c.args.image.now) v c.loop-w.at _ (any c.before.before.before.before) _ c.name_at-name.ensures.first (meaning c.enter-step.result) (c.enter-step.ensures.0 v rows)
+          c.in-Inode.id (ap meaning c.in-Inode.is) _ c.after-w.ensures.rest
+          ∙ c.loop-w.invariant.1 v rows,
     )
 
-returns-2 : tie.Need-returns-2 invariant-loop decreases-loop
+returns-2 : tie.Need-returns invariant-loop decreases-loop
 returns-2 c =
-    let e = c.before in
-    let l = e.before.before in
-    let s = start l.before in (
-      (λ v rows. c.inode.ensures.0 ∙ walk_ends (by_place s.args.image.now) v l.loop.at _ (sym e.before.has-name.ensures ∙ e.if1.false) ∙ l.loop.invariant.1 v rows),
+    (
+      (λ v rows. c.inode.ensures.0 ∙ walk_ends (by_place c.args.image.now) v c.loop-w.at _ (sym c.has_name.ensures ∙ c.loop-w-test.false) ∙ c.loop-w.invariant.1 v rows),
       c.inode.ensures.1,
     )
 

@@ -8,29 +8,29 @@ use Rattle.tree_show.specs.Going.{Seeking, seek_found, seek_on, seek_none}
 use Rattle.tree_show.proofs.has_entry.Statement.{statement}
 use Rattle.tree_show.proofs.has_entry.Tie as tie
 
-abbrev invariant-loop : tie.invariant-loop
+abbrev invariant-loop : tie.invariant-loop-k
 invariant-loop image order directory n k₀ k = Seeking image order directory k
 
-abbrev decreases-loop : tie.decreases-loop
+abbrev decreases-loop : tie.decreases-loop-k
 decreases-loop image order directory n k₀ k = n - k
 
-link-at-requires : tie.Need-link-at-requires invariant-loop decreases-loop
+link-at-requires : tie.Need-link_at-requires invariant-loop decreases-loop
 link-at-requires c κs =
     let i = c.before in
     let s = i.before.before.before.before in
-    (s.requires _ (get_or_mem s.args.order.now i.before.loop.k 0 i.loop-test.true)).0
+    (s.requires _ (get_or_mem s.args.order.now i.before.loop-k.k 0 i.loop-k-test.true)).0
 
-returns : tie.Need-returns invariant-loop decreases-loop
+returns : tie.Need-returns-then-link_at-directory invariant-loop decreases-loop
 returns c =
     let a = c.before in
     let i = a.before.before in
-    seek_found i.before.loop.invariant i.loop-test.true (sym a.link_at.ensures ∙ c.if1.true)
+    seek_found i.before.loop-k.invariant i.loop-k-test.true (sym a.link_at.ensures ∙ c.if-link_at-directory.true)
 
-loop-again : tie.Need-loop-preserved invariant-loop decreases-loop
+loop-again : tie.Need-loop-k-preserved invariant-loop decreases-loop
 loop-again c =
     let a = c.before in
     let i = a.before.before in
-    seek_on i.before.loop.invariant i.loop-test.true (λ e. c.if1.false (a.link_at.ensures ∙ e))
+    seek_on i.before.loop-k.invariant i.loop-k-test.true (λ e. c.if-link_at-directory.false (a.link_at.ensures ∙ e))
 
 pub has_entry_spec : {M : Type 1} → statement M
 has_entry_spec =
@@ -40,10 +40,10 @@ has_entry_spec =
     decreases-loop
     (λ c. record { within = omega arith; same = refl })
     (λ c. search rules)
-    (λ c. c.before.loop-test.true)
+    (λ c. c.before.loop-k-test.true)
     link-at-requires
     returns
     (λ c. omega arith)
     (λ c. omega arith)
     loop-again
-    (λ c. seek_none c.before.loop.invariant c.loop-test.false))
+    (λ c. seek_none c.before.loop-k.invariant c.loop-k-test.false))

@@ -11,50 +11,37 @@ use Rattle.tree_show.specs.Show.{size_word_lem}
 use Rattle.tree_show.proofs.show_size.Statement.{statement}
 use Rattle.tree_show.proofs.show_size.Tie as tie
 
--- the arguments, and the space
-abbrev start : tie.After-push → tie.Start
-start c = c.before.before.before.before.before.before
-
-abbrev space : tie.After-file-size → tie.After-push
-space c = c.before.before.before
-
 -- where the word goes
-after-space : (u : tie.After-push) → u.push.result ≡ (start u).args.at + 1
-after-space u = u.push.ensures.goes_on
+after-space : (u : tie.After-push-next) → u.push-next.result ≡ u.args.at + 1
+after-space u = u.push-next.ensures.goes_on
 
 print-requires : tie.Need-print-requires
-print-requires c κs = let u = space c.before.before.before.before in omega (arith, after-space u, (start u).pre.1.1)
+print-requires c κs = omega (arith, after-space c.before.before.before.before.before.before.before, c.requires.1.1)
 
-returns : tie.Need-returns
+returns : tie.Need-returns-in_default
 returns c =
-    let p = c.before.before in
-    let t = p.before.before.before in
-    let f = t.before.before in
-    let u = space f in (
-      omega (arith, p.print.ensures.goes_on, after-space u),
-      λ v rows. rw (size_word_lem _ _ _ (sym (ap size_of t.enum_told.given.1) ∙ f.file-size.ensures.1 v rows))
-          (wrote_then u.push.ensures p.print.ensures),
+    (
+      omega (arith, c.print.ensures.goes_on, after-space c.before.before.before.before.before.before.before.before.before.before),
+      λ v rows. rw (size_word_lem _ _ _ (sym (ap size_of c.in_default.is) ∙ c.file_size.ensures.1 v rows))
+          (wrote_then c.push-next.ensures c.print.ensures),
     )
 
 -- a size is a number of 32 bits
-small : (t : tie.After-size) → t.size.given.0.0 < 4294967296
+small : (t : tie.In-Whole-2) → t.in-Whole.size < 4294967296
 small t =
-    let b : bytes_of t.before.before.file-size.result ≤ most_blocks * 65535 = t.before.before.file-size.ensures.0 in
-    let e : bytes_of t.before.before.file-size.result ≡ t.size.given.0.0 = ap bytes_of t.size.given.1 in
+    let b : bytes_of t.file_size.result ≤ most_blocks * 65535 = t.file_size.ensures.0 in
+    let e : bytes_of t.file_size.result ≡ t.in-Whole.size = ap bytes_of t.in-Whole.is in
     omega arith
 
-print-number-requires : tie.Need-print-number-requires
-print-number-requires c κs = let u = space c.before.before.before.before in omega (arith, after-space u, (start u).pre.1.1)
+print-number-requires : tie.Need-print_number-requires
+print-number-requires c κs = omega (arith, after-space c.before.before.before.before.before, c.requires.1.1)
 
-returns-2 : tie.Need-returns-2
+returns-2 : tie.Need-returns
 returns-2 c =
-    let p = c.before.before in
-    let t = p.before.before.before in
-    let f = t.before.before in
-    let u = space f in (
-      omega (arith, p.print-number.ensures.goes_on, after-space u, short_decimal t.size.given.0.0 (small t)),
-      λ v rows. rw (size_word_lem _ _ _ (sym (ap size_of t.size.given.1) ∙ f.file-size.ensures.1 v rows))
-          (wrote_then u.push.ensures p.print-number.ensures),
+    (
+      omega (arith, c.print_number.ensures.goes_on, after-space c.before.before.before.before.before.before.before.before, short_decimal c.in-Whole.size (small c.before.before.before.before.before)),
+      λ v rows. rw (size_word_lem _ _ _ (sym (ap size_of c.in-Whole.is) ∙ c.file_size.ensures.1 v rows))
+          (wrote_then c.push-next.ensures c.print_number.ensures),
     )
 
 pub show_size_spec : {M : Type 1} → statement M
@@ -67,9 +54,9 @@ show_size_spec =
     (λ c. search rules)
     (λ c. search rules)
     print-requires
-    (λ c. c.before.before.print.auto.0 ∙ (space c.before.before.before.before.before.before.before).push.auto.0)
+    (λ c. c.print.auto.text ∙ c.push-next.auto.text)
     returns
     (λ c. record { fits = small c.before.before })
     print-number-requires
-    (λ c. c.before.before.print-number.auto.0 ∙ (space c.before.before.before.before.before.before.before).push.auto.0)
+    (λ c. c.print_number.auto.text ∙ c.push-next.auto.text)
     returns-2)
