@@ -39,14 +39,14 @@ pub const MAGIC3: u32 = 0xace08253;
 pub const MAGIC4: u32 = 0xb185fc8e;
 
 // The next record: where it starts and its size, which is 0 where there is none.
-#[derive(Drop)]
+#[derive(Clone, Copy)]
 pub struct Next {
     pub at: usize,
     pub size: usize,
 }
 
 // What an area is by its header.
-#[derive(Drop)]
+#[derive(Clone, Copy)]
 pub enum AreaKind {
     File,
     Scratch,

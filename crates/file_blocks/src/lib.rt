@@ -15,7 +15,7 @@ use record_read::{BlockHeader, NONE};
 use table_rows::{Spot, find};
 
 // Where a file's chain of blocks starts that is followed back.
-#[derive(Drop)]
+#[derive(Clone, Copy)]
 pub enum Last {
     // at the one block that no other names; at NONE where there is no such block
     Start(u32),
@@ -24,7 +24,7 @@ pub enum Last {
 }
 
 // How many bytes a file has.
-#[derive(Drop)]
+#[derive(Clone, Copy)]
 pub enum Size {
     Whole(usize),
     // its blocks form no chain

@@ -11,7 +11,7 @@ use record_places::{id_at, link_at};
 use record_read::{NONE, ROOT};
 use table_rows::{Spot, find};
 
-#[derive(Drop)]
+#[derive(Clone, Copy)]
 pub enum Fate {
     Live,
     Dead,
@@ -19,7 +19,7 @@ pub enum Fate {
 }
 
 // What the chain of parents does at an id: it ends with a fate, or goes on with the id of the parent.
-#[derive(Drop)]
+#[derive(Clone, Copy)]
 pub enum Step {
     Ends(Fate),
     Above(u32),

@@ -18,7 +18,7 @@ pub const TABLES: usize = BLOCK_SPOTS + MOST_BLOCKS;
 
 // The answer of a mount: the number of refusal, or 0 with how many file areas, records, inodes and blocks there are, the damage of the file areas
 // with its first stretch, and the scratch area.
-#[derive(Drop)]
+#[derive(Clone, Copy)]
 pub struct Mounted {
     pub number: u32,
     pub files: usize,

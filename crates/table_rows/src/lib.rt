@@ -11,7 +11,7 @@ use table_index::{put, row_of, slot_of};
 use table_words::{first_free, occupy, position};
 
 // What became of a record that was shown to a table.
-#[derive(Drop)]
+#[derive(Clone, Copy)]
 pub enum Updated {
     // it counts now: no record of its id before it has a sequence so great
     Newer,
@@ -22,7 +22,7 @@ pub enum Updated {
 }
 
 // Where the record that counts for an id lies.
-#[derive(Drop)]
+#[derive(Clone, Copy)]
 pub enum Spot {
     At(u32),
     Nowhere,

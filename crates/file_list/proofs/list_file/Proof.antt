@@ -68,11 +68,11 @@ returns-2 c =
 
 returns-3 : tie.Need-returns
 returns-3 c =
-    let t = told c.before.before.before.before.before.before _ c.in-Whole.is in
-    let b = c.list_chain.auto.blocks ∙ (rows_long c.before.before.before.before.before.before.before.before.before).0 in
-    let m = c.list_chain.auto.sizes ∙ (rows_long c.before.before.before.before.before.before.before.before.before).1 in (
-      rows_before _ _ c.in-Whole.size _ _ _ _ b m (few c.before.before.before.before.before.before.before.before.before).0 t.1 (omega (arith, ap bytes_of c.in-Whole.is, c.list_chain.ensures.0, (rows_long c.before.before.before.before.before.before.before.before.before).0)) t.2,
-      (λ v rows. ap some (take_at _ _ c.owned_count-n.result b) ∙ sym (chain-is c.before.before.before.before.before.before.before.before.before v rows ∙ t.0)),
+    let t = told c.before.before.before.before.before _ c.in-Whole.is in
+    let b = c.list_chain.auto.blocks ∙ (rows_long c.before.before.before.before.before.before.before.before).0 in
+    let m = c.list_chain.auto.sizes ∙ (rows_long c.before.before.before.before.before.before.before.before).1 in (
+      rows_before _ _ c.in-Whole.size _ _ _ _ b m (few c.before.before.before.before.before.before.before.before).0 t.1 (omega (arith, ap bytes_of c.in-Whole.is, c.list_chain.ensures.0, (rows_long c.before.before.before.before.before.before.before.before).0)) t.2,
+      (λ v rows. ap some (take_at _ _ c.owned_count-n.result b) ∙ sym (chain-is c.before.before.before.before.before.before.before.before v rows ∙ t.0)),
     )
 
 pub list_file_spec : {M : Type 1} → statement M

@@ -8,7 +8,7 @@ use Rattle.path_find.proofs.sequence_of.Statement.{statement}
 use Rattle.path_find.proofs.sequence_of.Tie as tie
 
 -- the record found lies in the image
-lies : (p : tie.In-At-2) → Lies p.args.image.now p.in-At.p
+lies : (p : tie.In-At) → Lies p.args.image.now p.in-At.p
 lies p =
     row_lies p.args.image.now _ _ p.args.id p.find-spot.result p.find-spot.ensures (inodes_lent p.requires) p.in-At.p p.in-At.is
 
@@ -37,5 +37,5 @@ sequence_of_spec =
     (λ c. search rules)
     (λ c. search rules)
     returns
-    (λ c κs. lies c.before)
+    (λ c κs. lies c)
     returns-2)

@@ -41,9 +41,8 @@ show_deeper_spec =
     (λ c κs. search rules)
     (λ c. omega arith)
     (λ c κs. omega (arith, c.requires.1))
-    (λ c. search rules)
-    (λ c κs. omega (arith, after-spaces c.before.before.before.before.before.before.before.before.before, c.requires.1))
-    (λ c κs. omega (arith, after-word c.before.before.before.before.before.before, c.requires.1))
+    (λ c κs. omega (arith, after-spaces c.before.before.before.before.before, c.requires.1))
+    (λ c κs. omega (arith, after-word c.before.before.before, c.requires.1))
     (λ c. c.push.auto.text ∙ c.print-end.auto.text ∙ c.indent-start.auto.text)
     returns
     returns-2)

@@ -27,7 +27,7 @@ returns c =
     )
 
 -- a size is a number of 32 bits
-small : (t : tie.In-Whole-2) → t.in-Whole.size < 4294967296
+small : (t : tie.In-Whole) → t.in-Whole.size < 4294967296
 small t =
     let b : bytes_of t.file_size.result ≤ most_blocks * 65535 = t.file_size.ensures.0 in
     let e : bytes_of t.file_size.result ≡ t.in-Whole.size = ap bytes_of t.in-Whole.is in
@@ -39,7 +39,7 @@ print-number-requires c κs = omega (arith, after-space c.before.before.before.b
 returns-2 : tie.Need-returns
 returns-2 c =
     (
-      omega (arith, c.print_number.ensures.goes_on, after-space c.before.before.before.before.before.before.before.before, short_decimal c.in-Whole.size (small c.before.before.before.before.before)),
+      omega (arith, c.print_number.ensures.goes_on, after-space c.before.before.before.before.before.before.before.before, short_decimal c.in-Whole.size (small c.before.before.before.before)),
       λ v rows. rw (size_word_lem _ _ _ (sym (ap size_of c.in-Whole.is) ∙ c.file_size.ensures.1 v rows))
           (wrote_then c.push-next.ensures c.print_number.ensures),
     )
@@ -52,11 +52,10 @@ show_size_spec =
     (λ c κs. search rules)
     (λ c. search rules)
     (λ c. search rules)
-    (λ c. search rules)
     print-requires
     (λ c. c.print.auto.text ∙ c.push-next.auto.text)
     returns
-    (λ c. record { fits = small c.before.before })
+    (λ c. record { fits = small c.before })
     print-number-requires
     (λ c. c.print_number.auto.text ∙ c.push-next.auto.text)
     returns-2)

@@ -5,48 +5,38 @@ use Rattle.write_ids.specs.Laws.{Marking, marking_begins, marking_on, marking_en
 use Rattle.write_ids.proofs.mark_named.Statement.{statement}
 use Rattle.write_ids.proofs.mark_named.Tie as tie
 
-abbrev invariant-loop : tie.invariant-loop
+abbrev invariant-loop : tie.invariant-loop-left
 invariant-loop image places words₀ first left₀ words left = Marking image places first words₀ words left
 
-abbrev decreases-loop : tie.decreases-loop
+abbrev decreases-loop : tie.decreases-loop-left
 decreases-loop image places words₀ first left₀ words left = left
 
--- the arguments, from the head of the loop
-abbrev start : tie.At-loop invariant-loop decreases-loop → tie.Start invariant-loop decreases-loop
-start l = l.before.before.before.before
+loop-holds : tie.Need-loop-left-init invariant-loop decreases-loop
+loop-holds c = marking_begins _ _ _ _ c.requires.1.1
 
-loop-holds : tie.Need-loop-init invariant-loop decreases-loop
-loop-holds c = marking_begins _ _ _ _ c.before.before.before.requires.1.1
+sub-left : tie.Need-overflow_sub-left invariant-loop decreases-loop
+sub-left c = omega (arith, c.loop-left-test.true)
 
-sub-left : tie.Need-overflow-sub-left invariant-loop decreases-loop
-sub-left c = omega (arith, c.loop-test.true)
+mul-mark-record : tie.Need-offset_bounds-places-left invariant-loop decreases-loop
+mul-mark-record c = omega (arith, c.loop-left.invariant.within, c.loop-left-test.true)
 
-mul-mark-record : tie.Need-overflow-mul-mark-record invariant-loop decreases-loop
-mul-mark-record c = omega (arith, c.before.loop.invariant.within, c.loop-test.true)
-
-shared-slice-read-mark-record : tie.Need-shared-slice-read-mark-record invariant-loop decreases-loop
-shared-slice-read-mark-record c = let n = c.before in omega (arith, n.before.loop.invariant.within, n.loop-test.true)
+shared-slice-read-mark-record : tie.Need-bounds-places-left invariant-loop decreases-loop
+shared-slice-read-mark-record c = omega (arith, c.loop-left.invariant.within, c.loop-left-test.true)
 
 -- a place of 16 bits is one of 32
-cast-mark-record : tie.Need-overflow-cast-mark-record invariant-loop decreases-loop
-cast-mark-record c = omega (arith, c.shared-slice-known3.given (c.before.before.loop.left - 1))
+cast-mark-record : tie.Need-overflow_cast-places invariant-loop decreases-loop
+cast-mark-record c = omega (arith, c.shared_slice_known-in-loop-left-1.given (c.loop-left.left - 1))
 
-mark-record-requires : tie.Need-mark-record-requires invariant-loop decreases-loop
+mark-record-requires : tie.Need-mark_record-requires invariant-loop decreases-loop
 mark-record-requires c κs =
-    let n = c.before.before in
-    let l = n.before in
-    let s = start l in
-    (s.pre.0 _ (omega (arith, l.loop.invariant.within, n.loop-test.true)), omega (arith, l.loop.invariant.long, s.pre.1.0))
+    (c.requires.0 _ (omega (arith, c.loop-left.invariant.within, c.loop-left-test.true)), omega (arith, c.loop-left.invariant.long, c.requires.1.0))
 
-loop-again : tie.Need-loop-preserved invariant-loop decreases-loop
+loop-again : tie.Need-loop-left-preserved invariant-loop decreases-loop
 loop-again c =
-    let m = c.before.before in
-    let n = m.before.before.before in
-    let l = n.before in
-    marking_on l.loop.invariant n.loop-test.true m.mark-record.auto.1.1.0 m.mark-record.ensures
+    marking_on c.loop-left.invariant c.loop-left-test.true c.mark_record.auto.words c.mark_record.ensures
 
 returns : tie.Need-returns invariant-loop decreases-loop
-returns c = marking_ends c.before.loop.invariant (omega (arith, c.loop-test.false))
+returns c = marking_ends c.loop-left.invariant (omega (arith, c.loop-left-test.false))
 
 pub mark_named_spec : {M : Type 1} → statement M
 mark_named_spec =
@@ -60,7 +50,7 @@ mark_named_spec =
     shared-slice-read-mark-record
     cast-mark-record
     mark-record-requires
-    (λ c. omega (arith, c.before.before.before.before.before.loop-test.true))
+    (λ c. omega (arith, c.loop-left-test.true))
     loop-again
-    (λ c. c.before.loop.invariant.long)
+    (λ c. c.loop-left.invariant.long)
     returns)

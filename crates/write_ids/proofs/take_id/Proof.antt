@@ -11,13 +11,11 @@ use Rattle.write_ids.proofs.take_id.Tie as tie
 
 returns : tie.Need-returns
 returns c =
-    let o = c.before.before in
-    let f = o.before.before in
-    let a = f.before.before.before.args in
+    let a = c.args in
     λ names marks room.
-    let k : f.first-free.result ≡ first_zero (bits a.words.now) = f.first-free.ensures.0 in
-    let e : a.first + f.first-free.result ≡ unused_id a.first names = sym (unused_is a.first names a.words.now marks room ∙ rw k) in
-    (e, rw e (unused_taken a.first names a.words.now marks room o.occupy.new.0 o.occupy.auto.0 (o.occupy.ensures ∙ ap (λ (j : ℕ). set (bits a.words.now) j 1) k)))
+    let k : c.first_free-free.result ≡ first_zero (bits a.words.now) = c.first_free-free.ensures.0 in
+    let e : a.first + c.first_free-free.result ≡ unused_id a.first names = sym (unused_is a.first names a.words.now marks room ∙ rw k) in
+    (e, rw e (unused_taken a.first names a.words.now marks room c.occupy.new.words c.occupy.auto.words (c.occupy.ensures ∙ ap (λ (j : ℕ). set (bits a.words.now) j 1) k)))
 
 pub take_id_spec : {M : Type 1} → statement M
 take_id_spec =

@@ -4,24 +4,14 @@ use Rattle.write_inodes.specs.Rewriting.{rewrite_last, rewrite_stored}
 use Rattle.write_inodes.proofs.rewrite_inode.Statement.{statement}
 use Rattle.write_inodes.proofs.rewrite_inode.Tie as tie
 
--- the arguments, from where the sequence was read
-abbrev start : tie.After-sequence-of → tie.Start
-start q = q.before.before.before.before.before
-
-returns : tie.Need-returns
+returns : tie.Need-returns-then-sequence
 returns c =
-    let q = c.before in
-    let s = start q in
-    λ ds h. rewrite_last s.args.image.now ds s.args.id s.args.parent s.args.name.now q.sequence-of.result (q.sequence-of.ensures ds h) c.if1.true
+    λ ds h. rewrite_last c.args.image.now ds c.args.id c.args.parent c.args.name.now c.sequence_of-sequence.result (c.sequence_of-sequence.ensures ds h) c.if-sequence.true
 
-returns-2 : tie.Need-returns-2
+returns-2 : tie.Need-returns
 returns-2 c =
-    let w = c.before.before in
-    let e = w.before.before in
-    let q = e.before in
-    let s = start q in
-    λ ds h. rewrite_stored s.args.image.now ds s.args.id s.args.parent s.args.name.now q.sequence-of.result (q.sequence-of.ensures ds h) e.if1.false
-    w.store-inode.result _ (w.store-inode.ensures ds h).0 (w.store-inode.ensures ds h).1
+    λ ds h. rewrite_stored c.args.image.now ds c.args.id c.args.parent c.args.name.now c.sequence_of-sequence.result (c.sequence_of-sequence.ensures ds h) c.if-sequence.false
+    c.store_inode.result _ (c.store_inode.ensures ds h).0 (c.store_inode.ensures ds h).1
 
 pub rewrite_inode_spec : {M : Type 1} → statement M
 rewrite_inode_spec =

@@ -10,55 +10,42 @@ use Rattle.write_pieces.specs.Laws.{Storing, storing_begins, storing_room, store
 use Rattle.write_pieces.proofs.store_pieces.Statement.{statement}
 use Rattle.write_pieces.proofs.store_pieces.Tie as tie
 
-abbrev invariant-loop : tie.invariant-loop
+abbrev invariant-loop : tie.invariant-loop-from
 invariant-loop image₀ ids places text size file last previous₀ from₀ i₀ image previous from i = Storing size text ids places file last image₀ image previous from i
 
-abbrev decreases-loop : tie.decreases-loop
+abbrev decreases-loop : tie.decreases-loop-from
 decreases-loop image₀ ids places text size file last previous₀ from₀ i₀ image previous from i = length text - from
 
--- the arguments, from the head of the loop; and the way there
-abbrev lent : tie.At-loop invariant-loop decreases-loop → tie.Start invariant-loop decreases-loop
-lent l = l.before.before.before.before.before
-
-abbrev head : tie.After-smaller invariant-loop decreases-loop → tie.At-loop invariant-loop decreases-loop
-head s = s.before.before
-
-loop-holds : tie.Need-loop-init invariant-loop decreases-loop
-loop-holds c = storing_begins _ _ c.before.before.before.before.requires
+loop-holds : tie.Need-loop-from-init invariant-loop decreases-loop
+loop-holds c = storing_begins _ _ c.requires
 
 -- the next piece is this long
-step : (s : tie.After-smaller invariant-loop decreases-loop) → (0 < s.smaller.result) × ((head s).loop.from + s.smaller.result ≤ length (lent (head s)).args.text.now)
-    × (s.smaller.result ≤ (lent (head s)).args.size)
+step : (s : tie.After-smaller invariant-loop decreases-loop) → (0 < s.smaller.result) × (s.loop-from.from + s.smaller.result ≤ length s.args.text.now)
+    × (s.smaller.result ≤ s.args.size)
 step s =
-    let a = lent (head s) in
-    next_some a.args.size a.pre.some_room a.args.text.now (head s).loop.from s.smaller.result s.smaller.ensures s.before.loop-test.true
+    next_some s.args.size s.requires.some_room s.args.text.now s.loop-from.from s.smaller.result s.smaller.ensures s.loop-from-test.true
 
-rows : (s : tie.After-smaller invariant-loop decreases-loop) → ((head s).loop.i < length (lent (head s)).args.ids.now) × ((head s).loop.i < length (lent (head s)).args.places.now)
-rows s = storing_room (lent (head s)).pre (head s).loop.invariant s.before.loop-test.true s.smaller.result s.smaller.ensures
+rows : (s : tie.After-smaller invariant-loop decreases-loop) → (s.loop-from.i < length s.args.ids.now) × (s.loop-from.i < length s.args.places.now)
+rows s = storing_room s.requires s.loop-from.invariant s.loop-from-test.true s.smaller.result s.smaller.ensures
 
-store-piece-requires : tie.Need-store-piece-requires invariant-loop decreases-loop
+store-piece-requires : tie.Need-store_piece-requires invariant-loop decreases-loop
 store-piece-requires c κs =
-    let s = c.before.before.before.before in
-    let a = lent (head s) in
-    let n = s.smaller.result in
-    let p = (head s).loop.from in
+    let n = c.smaller.result in
+    let p = c.loop-from.from in
     let e : p + n - p ≡ n = add-sub_cancel_left p n in
-    let l = stored_long a.pre (head s).loop.invariant s.before.loop-test.true n s.smaller.ensures in
-    (rw e (storing_fits a.pre (head s).loop.invariant s.before.loop-test.true n s.smaller.ensures), rw e (omega (arith, l, step s, a.pre.small)))
+    let l = stored_long c.requires c.loop-from.invariant c.loop-from-test.true n c.smaller.ensures in
+    (rw e (storing_fits c.requires c.loop-from.invariant c.loop-from-test.true n c.smaller.ensures), rw e (omega (arith, l, step c.before.before.before.before, c.requires.small)))
 
-loop-again : tie.Need-loop-preserved invariant-loop decreases-loop
+loop-again : tie.Need-loop-from-preserved invariant-loop decreases-loop
 loop-again c =
-    let w = c.before.before in
-    let s = w.before.before.before.before.before in
-    let a = lent (head s) in
-    let n = s.smaller.result in
-    let p = (head s).loop.from in
+    let n = c.smaller.result in
+    let p = c.loop-from.from in
     let e : p + n - p ≡ n = add-sub_cancel_left p n in
-    rw (w.store-piece.ensures, e)
-    (storing_on a.pre (head s).loop.invariant s.before.loop-test.true n s.smaller.ensures)
+    rw (c.store_piece.ensures, e)
+    (storing_on c.requires c.loop-from.invariant c.loop-from-test.true n c.smaller.ensures)
 
 returns : tie.Need-returns invariant-loop decreases-loop
-returns c = storing_ends (lent c.before).pre c.before.loop.invariant (omega (arith, c.loop-test.false))
+returns c = storing_ends c.requires c.loop-from.invariant (omega (arith, c.loop-from-test.false))
 
 pub store_pieces_spec : {M : Type 1} → statement M
 store_pieces_spec =
@@ -67,7 +54,7 @@ store_pieces_spec =
     invariant-loop
     decreases-loop
     loop-holds
-    (λ c. omega (arith, c.loop-test.true))
+    (λ c. omega (arith, c.loop-from-test.true))
     (λ c κs. search rules)
     (λ c. omega (arith, step c))
     (λ c. omega (arith, rows c))
@@ -81,5 +68,5 @@ store_pieces_spec =
     (λ c. omega (arith, rows c.before.before.before.before.before.before.before))
     (λ c. omega (arith, step c.before.before.before.before.before.before.before))
     loop-again
-    (λ c. c.before.loop.invariant.long)
+    (λ c. c.loop-from.invariant.long)
     returns)

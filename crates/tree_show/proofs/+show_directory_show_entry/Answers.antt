@@ -1,0 +1,73 @@
+-- A directory and an entry.
+use Prim.Native.Nat.{ℕ, ◌+◌, ◌-◌, ◌<◌}
+use mathlib.Core.Path.{◌≡◌, refl, sym, ap, ◌∙◌}
+use mathlib.Core.Logic.{◌≢◌}
+use native.Mathlib.Omega.{arith}
+use native.Mathlib.Nat.{pos_of_ne-zero}
+use Rattle.format.specs.Ids.{is_directory_id}
+use Rattle.volume_laws.specs.Lists.{get_or_mem}
+use Rattle.tree_show.specs.Walk.{walking_begins, walking_past, walking_on, walking_ends, deeper_shown, entry_none, entry_file, entry_directory}
+use Rattle.tree_show.proofs.+show_directory_show_entry.Goals as goal
+
+-- the levels fall
+down : (n t : ℕ) → n + n ≡ t → n ≢ 0 → (n - 1) + (n - 1) + 1 < t
+down n t e h = let p = pos_of_ne-zero h in omega arith
+
+off : (n t : ℕ) → n + n + 1 ≡ t → n + n < t
+off n t e = omega arith
+
+pub show_directory-returns-then-levels-eq0-clause-told : goal.show_directory-returns-then-levels-eq0-clause-told
+show_directory-returns-then-levels-eq0-clause-told t c =
+    let a = c.args in
+    deeper_shown a.image.now a.ids.now a.spots.now a.order.now a.directory a.levels c.if-levels-eq0.true a.text.now a.cursor _ _ c.show_deeper-at.ensures.told
+
+pub show_directory-loop-k-init : goal.show_directory-loop-k-init
+show_directory-loop-k-init t c =
+    let a = c.args in
+    walking_begins a.image.now a.ids.now a.spots.now a.order.now a.directory a.levels c.if-levels-eq0.false a.text.now a.cursor
+
+pub show_directory-link_at-requires : goal.show_directory-link_at-requires
+show_directory-link_at-requires t c = (c.requires.showable.inodes _ (get_or_mem c.args.order.now c.loop-k.k 0 c.loop-k-test.true)).0
+
+pub show_directory-show_entry-c-requires : goal.show_directory-show_entry-c-requires
+show_directory-show_entry-c-requires t c =
+    (
+      down c.args.levels t c.decreases c.if-levels-eq0.false,
+      (
+        c.requires.showable,
+        (
+          c.requires.showable.inodes _ (get_or_mem c.args.order.now c.loop-k.k 0 c.loop-k-test.true),
+          (omega (arith, c.requires.levels_le_most_depth), omega (arith, c.requires.deeper_room_bound, c.loop-k.invariant.room)),
+        ),
+      ),
+    )
+
+pub show_directory-loop-k-preserved-then-link_at-directory : goal.show_directory-loop-k-preserved-then-link_at-directory
+show_directory-loop-k-preserved-then-link_at-directory t c =
+    walking_on c.loop-k.invariant c.loop-k-test.true (sym c.link_at.ensures ∙ c.if-link_at-directory.true) _ _ c.show_entry-c.auto.text c.show_entry-c.ensures.within
+    c.show_entry-c.ensures.told
+
+pub show_directory-loop-k-preserved : goal.show_directory-loop-k-preserved
+show_directory-loop-k-preserved t c =
+    walking_past c.loop-k.invariant c.loop-k-test.true (λ e. c.if-link_at-directory.false (c.link_at.ensures ∙ e))
+
+pub show_directory-returns-clause-told : goal.show_directory-returns-clause-told
+show_directory-returns-clause-told t c = walking_ends c.loop-k.invariant c.loop-k-test.false
+
+pub show_entry-returns-then-cursor-eq0-clause-told : goal.show_entry-returns-then-cursor-eq0-clause-told
+show_entry-returns-then-cursor-eq0-clause-told t c =
+    let a = c.args in
+    entry_none a.image.now a.ids.now a.spots.now a.order.now a.p a.levels a.text.now a.cursor c.if-cursor-eq0.true
+
+pub show_entry-returns-then-is_directory_id-clause-told : goal.show_entry-returns-then-is_directory_id-clause-told
+show_entry-returns-then-is_directory_id-clause-told t c =
+    let a = c.args in
+    let e = c.id_at-entry.ensures in
+    entry_directory a.image.now a.p a.levels (pos_of_ne-zero c.if-cursor-eq0.false) refl (λ v l counts. c.show_line-at.ensures.told v l.blocks counts)
+    (ap is_directory_id (sym e) ∙ sym c.is_directory_id.ensures ∙ c.if-is_directory_id.true) _ _ (rw e at c.show_directory.ensures.told)
+
+pub show_entry-returns-clause-told : goal.show_entry-returns-clause-told
+show_entry-returns-clause-told t c =
+    let a = c.args in
+    entry_file a.image.now a.p a.levels (pos_of_ne-zero c.if-cursor-eq0.false) refl (λ v l counts. c.show_line-at.ensures.told v l.blocks counts)
+    (ap is_directory_id (sym c.id_at-entry.ensures) ∙ sym c.is_directory_id.ensures ∙ c.if-is_directory_id.false)
