@@ -13,9 +13,6 @@ use Rattle.tree_show.proofs.+show_directory_show_entry.Goals as goal
 down : (n t : ℕ) → n + n ≡ t → n ≢ 0 → (n - 1) + (n - 1) + 1 < t
 down n t e h = let p = pos_of_ne-zero h in omega arith
 
-off : (n t : ℕ) → n + n + 1 ≡ t → n + n < t
-off n t e = omega arith
-
 pub show_directory-returns-then-levels-eq0-clause-told : goal.show_directory-returns-then-levels-eq0-clause-told
 show_directory-returns-then-levels-eq0-clause-told t c =
     let a = c.args in
