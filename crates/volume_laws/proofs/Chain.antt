@@ -15,7 +15,7 @@ use Rattle.volume_laws.specs.Tests.{true→T}
 use Rattle.volume_laws.specs.Lists.{map_append}
 use Rattle.volume_laws.specs.Once.{Nodup}
 use Rattle.volume_laws.specs.Counting.{counting_mem, counting_absent}
-use Rattle.volume_laws.specs.Chain.{FileBlocks}
+use Rattle.volume_laws.specs.Chain.{NoBlock, FileBlocks}
 
 -- one more that is not there yet
 nodup_snoc : (l : List ℕ) (x : ℕ) → Nodup l → ¬ Memᴰ x l → Nodup (l ++ (x ∷ []))
@@ -71,7 +71,7 @@ module _ {A : Type 0} (F : View A) (c : ℕ → Option A) (f : ℕ) where
       (λ n. (i, s.counts ∙ ap some (sym (mathlib.Core.List.Memᴰ.eq_of_singleton n)))) (mathlib.Core.List.Memᴰ.append_cases s.before n)
 
 -- it counts for its own id, and NONE is no block
-module _ {A : Type 0} (F : View A) (c : ℕ → Option A) (f : ℕ) (own_id_lem : (i : ℕ) (r : A) → c i ≡ some r → F.id r ≡ i) (no_none : c NONE ≡ none) where
+module _ {A : Type 0} (F : View A) (c : ℕ → Option A) (f : ℕ) (own_id_lem : (i : ℕ) (r : A) → c i ≡ some r → F.id r ≡ i) (no_none : NoBlock c) where
   -- and one of some does not
   none_first : (k i : ℕ) (bs : List A) → i ≡ NONE → chain_back F c f (suc k) i ≡ some bs → ⊥
   none_first k i bs e q =

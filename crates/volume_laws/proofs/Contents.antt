@@ -16,6 +16,7 @@ use Rattle.volume_laws.specs.Tests.{T_iff, true→T, has_some}
 use Rattle.volume_laws.specs.Lists.{keep_mem, all_cong}
 use Rattle.volume_laws.specs.Once.{Alike, alike_keep, alike_both, alike_only, alike_all, alike_length}
 use Rattle.volume_laws.specs.Map.{over, snoc_over}
+use Rattle.volume_laws.specs.Contents.{Carried}
 use Rattle.volume_laws.specs.Counting.{Ids, ids_of_lem, counting_mem, Agree, Retained, counting_retained}
 
 module _ {A : Type 0} (F : View A) where
@@ -30,8 +31,7 @@ module _ {A : Type 0} (F : View A) where
 
   -- Two volumes, and a file to which the same ids belong: of each of its blocks the one has r and the other φ r, behind the same block
   module _ (v w : Volume A) (f : ℕ) (φ : A → A) (same : (i : ℕ) → owns F (block_of F w) f i ≡ owns F (block_of F v) f i)
-      (there : (i : ℕ) (r : A) → block_of F v i ≡ some r → T (owns F (block_of F v) f i)
-      → (block_of F w i ≡ some (φ r)) × (F.previous (φ r) ≡ F.previous r)) where
+      (there : Carried F v w f φ) where
     owned_alike : Alike (owned F w f) (owned F v f)
     unfolding owned
     owned_alike = alike_keep (owns F (block_of F w) f) (owns F (block_of F v) f) (block_ids F w) (block_ids F v)

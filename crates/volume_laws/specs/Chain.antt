@@ -3,9 +3,15 @@ use Rattle.std.proofs.Math.Path.{◌≡◌}
 use Rattle.std.specs.Prelude.{ℕ}
 use Rattle.std.proofs.Math.Option.{some}
 use mathlib.Core.List.{List, map, Memᴰ}
+use Rattle.format.specs.Ids.{NONE}
+use Rattle.std.proofs.Math.Option.{Option, none}
 use Rattle.volume.specs.View.{View}
 use Rattle.volume.specs.Counting.{Volume, block_of}
 use Rattle.volume_laws.specs.Once.{Nodup}
+
+-- c says which record counts for an id: NONE is no block
+abbrev pub NoBlock : {A : Type 0} → (ℕ → Option A) → Type 0
+NoBlock c = c NONE ≡ none
 
 -- the blocks of a file
 pub record FileBlocks {A : Type 0} (F : View A) (v : Volume A) (f : ℕ) (bs : List A) : Type 0 where

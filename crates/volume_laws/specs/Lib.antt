@@ -8,6 +8,7 @@ pub mod Counting
 pub mod Climb
 pub mod Tree
 pub mod Map
+pub mod Contents
 pub mod Chain
 pub mod Sound
 pub mod Listing
