@@ -20,7 +20,7 @@ use Rattle.calls.specs.Areas.{area_end, area_bytes, all_disjoint, file_areas, sc
 use Rattle.calls.specs.Mount.{records_of}
 use Rattle.calls.specs.Collect.{copied_records}
 use Rattle.calls.specs.declared.Descriptor.{Descriptor}
-use Rattle.collect_laws.specs.Mounted.{copied_survive}
+use Rattle.collect_laws.proofs.Mounted.{copied_survive}
 use Rattle.record_places.specs.Place.{block_at, size_at, bytes_at, by_place}
 use Rattle.image_laws.specs.Stores.{joined_bytes}
 use Rattle.area_list.specs.Places.{Clear}

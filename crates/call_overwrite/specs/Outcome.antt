@@ -16,7 +16,7 @@ use Rattle.volume.specs.Contents.{owned, last_block, chain_back, file_blocks, te
 use Rattle.volume.specs.Tree.{Found, found, absent}
 use Rattle.volume_laws.specs.Lists.{keep_mem, get_or_mem}
 use Rattle.volume_laws.specs.Counting.{counting_mem}
-use Rattle.volume_laws.specs.Chain.{chain_counts}
+use Rattle.volume_laws.proofs.Chain.{chain_counts}
 use Rattle.volume_laws.specs.Map.{over, file_blocks_map, text_of_map}
 use Rattle.record_places.specs.Place.{by_place, bytes_at}
 use Rattle.record_places.specs.Laws.{place_views}

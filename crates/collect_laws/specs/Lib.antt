@@ -4,4 +4,3 @@ pub mod Header
 pub mod Stores
 pub mod Room
 pub mod Survivors
-pub mod Mounted

@@ -8,8 +8,8 @@ use Rattle.calls.specs.Areas.{file_areas, scratch_areas}
 use Rattle.calls.specs.Format.{format_number, image_formatted}
 use Rattle.calls.specs.Collect.{eligible, count_of, source_of}
 use Rattle.calls.specs.declared.Descriptor.{Descriptor}
-use Rattle.collect_laws.specs.Source.{eligible_file, source_found}
-use Rattle.collect_laws.specs.Mounted.{scratch_is, file_is}
+use Rattle.collect_laws.proofs.Source.{eligible_file, source_found}
+use Rattle.collect_laws.proofs.Mounted.{scratch_is, file_is}
 use Rattle.demand2.specs.Format.{AfterFormat, format}
 use Rattle.collect_turns.specs.Words.{TakesTurns, times, Run, InOrder, FirstLeast}
 use Rattle.collect_turns.specs.Order.{past}

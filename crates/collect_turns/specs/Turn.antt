@@ -14,9 +14,10 @@ use Rattle.calls.specs.declared.Descriptor.{Descriptor}
 use Rattle.calls.specs.Format.{empty_area}
 use Rattle.format.specs.AreaHeader.{collection_count, scratch_id}
 use Rattle.format_laws.specs.Encoding.{header_count}
-use Rattle.collect_laws.specs.Mounted.{scratch_is, file_is}
+use Rattle.collect_laws.proofs.Mounted.{scratch_is, file_is}
 use Rattle.demand2_collect.specs.Image.{not_both}
-use Rattle.collect_laws.specs.Source.{Leads, Preceded, IsSource, eligible_file, file_eligible}
+use Rattle.collect_laws.specs.Source.{Leads, Preceded, IsSource}
+use Rattle.collect_laws.proofs.Source.{eligible_file, file_eligible}
 use Rattle.demand2.specs.Store.{same_area}
 use Rattle.demand2_collect.specs.Collect.{AfterCollect}
 use Rattle.collect_turns.specs.Words.{TakesTurns, is_same_area, InOrder, FirstLeast}

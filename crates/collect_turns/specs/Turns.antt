@@ -12,8 +12,8 @@ use Rattle.calls.specs.Areas.{area_bytes, file_areas, scratch_areas}
 use Rattle.calls.specs.Collect.{count_of, source_of, collect_of, image_collected}
 use Rattle.calls.specs.declared.Descriptor.{Descriptor}
 use Rattle.calls_laws.specs.Checks.{header_file, header_scratch}
-use Rattle.collect_laws.specs.Source.{eligible_file}
-use Rattle.collect_laws.specs.Mounted.{scratch_is, file_is}
+use Rattle.collect_laws.proofs.Source.{eligible_file}
+use Rattle.collect_laws.proofs.Mounted.{scratch_is, file_is}
 use Rattle.demand2.specs.Store.{SameHeaders, same_area}
 use Rattle.demand2_collect.specs.Collect.{collect}
 use Rattle.collect_turns.specs.Words.{TakesTurns, is_same_area, times, Run, ends, keeps, collects, InOrder, Fair}

@@ -1,10 +1,6 @@
 -- The register two bytes later without a table: by shifts.
-use Rattle.std.specs.Prelude.{ℕ, ◌*◌, ◌/◌, ◌%◌, ◌<◌, ◌≡◌, refl}
-use Rattle.std.proofs.Common.{arith}
+use Rattle.std.specs.Prelude.{ℕ, ◌*◌, ◌/◌, ◌%◌}
 use Rattle.std.specs.Int.Bits.{bit_xor}
-use Rattle.format.specs.Crc.{crc_bit}
-use Rattle.crc_laws.specs.Linear.{Linear, sum_linear, then_linear, same_linear, down_linear, up_linear, agree, agreed}
-use Rattle.crc_laws.specs.Register.{crc_bits, bits_linear}
 
 -- x and 16 zero bits behind it, divided by the polynomial: the quotient, since 1 / (1 + y^4 + y^11) is 1 + y^4 + y^8 + y^11 + y^12 up to y^15,
 -- where y is a shift down by one
@@ -14,15 +10,3 @@ quotient x = bit_xor (bit_xor (bit_xor x (x / 256)) (bit_xor x (x / 256) / 16)) 
 -- and the remainder
 unfoldable pub remainder : ℕ → ℕ
 remainder x = bit_xor (bit_xor (quotient x) (quotient x % 2048 * 32)) (quotient x % 16 * 4096)
-
-remainder_linear : Linear remainder
-unfolding remainder
-remainder_linear =
-    let sum = sum_linear same_linear (down_linear 8) in
-    let quotient_linear = sum_linear (sum_linear sum (then_linear sum (down_linear 4))) (down_linear 11) in
-    then_linear quotient_linear (sum_linear (sum_linear same_linear (up_linear 11 5)) (up_linear 4 12))
-
--- the register 16 bits later
-pub two_later : (x : ℕ) → x < 65536 → crc_bits 16 x ≡ remainder x
-unfolding agree crc_bits crc_bit remainder
-two_later = agreed (crc_bits 16) remainder 16 (bits_linear 16) remainder_linear 16 (omega arith) refl

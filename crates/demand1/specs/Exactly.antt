@@ -46,7 +46,7 @@ use Rattle.calls.specs.declared.Descriptor.{Descriptor}
 use Rattle.calls.specs.declared.AreaReport.{AreaReport}
 use Rattle.calls_laws.specs.Checks.{passes}
 use Rattle.calls_laws.specs.Unused.{among, not_among}
-use Rattle.collect_laws.specs.Source.{source_found, source_none, file_eligible}
+use Rattle.collect_laws.proofs.Source.{source_found, source_none, file_eligible}
 use Rattle.demand2.specs.Store.{free_place}
 use Rattle.demand1.specs.Table.{Row, ◌given_when◌, Answers, mount_rows, walk_rows, path_rows, LiveChild, NoRoom, NoRoomLeft}
 use Rattle.demand1.specs.Table.{BadPath, broken_row, end_row, source_row, format_rows, area_report_rows, lookup_rows, open_rows, read_rows, create_rows, append_rows}

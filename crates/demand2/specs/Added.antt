@@ -16,7 +16,7 @@ use Rattle.volume_laws.specs.Counting.{Agree, counting_mem, counting_none, count
 use Rattle.volume_laws.specs.Counting.{ids_mem, mem_ids, fewer_ids}
 use Rattle.volume_laws.specs.Climb.{closed_climb}
 use Rattle.volume_laws.specs.Tree.{lookup_same}
-use Rattle.volume_laws.specs.Contents.{blocks_retained}
+use Rattle.volume_laws.proofs.Contents.{blocks_retained}
 
 -- the same records, in any order and number
 pub record Same {A : Type 0} (rs ss : List A) : Type 0 where

@@ -22,7 +22,7 @@ use Rattle.volume.specs.Path.{good_path, path_names}
 use Rattle.volume.specs.Tree.{found, lookup_names}
 use Rattle.volume_laws.specs.Tests.{T→true, not_T→false, not_is_false, or_is_false, has_some}
 use Rattle.volume_laws.specs.Lists.{keep_mem}
-use Rattle.volume_laws.specs.Contents.{owned_owns}
+use Rattle.volume_laws.proofs.Contents.{owned_owns}
 use Rattle.volume_laws.specs.Counting.{counting_mem}
 use Rattle.volume_laws.specs.Climb.{live_some}
 use Rattle.calls.specs.Refusal.{first_refusal}

@@ -17,7 +17,7 @@ use Rattle.volume_laws.specs.Tests.{T→true, and_T, eqb_differ}
 use Rattle.volume_laws.specs.Lists.{keep_mem, mem_keep, mem_all, all_cong}
 use Rattle.volume_laws.specs.Once.{Alike, nodup_keep, alike_only, alike_all, alike_length}
 use Rattle.volume_laws.specs.Counting.{Agree, counting_mem, counting_absent, ids_of_lem}
-use Rattle.volume_laws.specs.Contents.{owns_there, owned_owns, blocks_same}
+use Rattle.volume_laws.proofs.Contents.{owns_there, owned_owns, blocks_same}
 use Rattle.demand2.specs.Added.{Added, Changed, split, added_changed}
 
 -- w is v and the new block r, whose id no block of v names

@@ -38,10 +38,11 @@ use Rattle.calls.specs.declared.Descriptor.{Descriptor}
 use Rattle.calls_laws.specs.Checks.{Passes, passes, mounts, InArea}
 use Rattle.calls_laws.specs.Records.{volume_sound}
 use Rattle.image_laws.specs.Stores.{joined_bytes}
-use Rattle.collect_laws.specs.Source.{IsSource, source_found}
+use Rattle.collect_laws.specs.Source.{IsSource}
+use Rattle.collect_laws.proofs.Source.{source_found}
 use Rattle.collect_laws.specs.Stores.{filled_scratch}
 use Rattle.collect_laws.specs.Survivors.{Survivors}
-use Rattle.collect_laws.specs.Mounted.{copied_survive}
+use Rattle.collect_laws.proofs.Mounted.{copied_survive}
 use Rattle.demand2.specs.Store.{file_listed}
 use Rattle.demand2.specs.Places.{Distinct, distinct_keep, areas_distinct, files_distinct}
 use Rattle.demand2.specs.Mounted.{agreed, accepted_kind, few_ids, ids_few}

@@ -17,7 +17,7 @@ use Rattle.volume_laws.specs.Tests.{true→T}
 use Rattle.volume_laws.specs.Counting.{counting_mem, fewer_ids}
 use Rattle.volume_laws.specs.Climb.{closed_climb, fate_within_lem, fate_own, live_not_dead, live_no_orphan}
 use Rattle.volume_laws.specs.Tree.{lookup_same}
-use Rattle.volume_laws.specs.Contents.{blocks_same}
+use Rattle.volume_laws.proofs.Contents.{blocks_same}
 
 module _ {A : Type 0} (F : View A) where
   -- an inode id that is left out: it was dead, no record but its own names it as parent or owner, and none of it is left

@@ -33,10 +33,11 @@ use Rattle.calls_laws.specs.Records.{Stored, stored, stored_mem}
 use Rattle.image_laws.specs.Apart.{Apart}
 use Rattle.image_laws.specs.Laws.{length_put, part_put, part_outside, byte_outside}
 use Rattle.image_laws.specs.Stores.{joined_bytes}
-use Rattle.collect_laws.specs.Source.{IsSource, source_found}
+use Rattle.collect_laws.specs.Source.{IsSource}
+use Rattle.collect_laws.proofs.Source.{source_found}
 use Rattle.collect_laws.specs.Header.{header_with_id, renamed_size, renamed_id, renamed_file}
 use Rattle.collect_laws.specs.Stores.{filled_scratch, filled_long}
-use Rattle.collect_laws.specs.Mounted.{scratch_is, file_is, copied_survive, copied_fit, collected_is}
+use Rattle.collect_laws.proofs.Mounted.{scratch_is, file_is, copied_survive, copied_fit, collected_is}
 use Rattle.demand2.specs.Store.{same_area, area_length}
 use Rattle.demand2.specs.Places.{area_lengths}
 use Rattle.demand2.specs.Octet.{octets_erased, octets_put, record_octets}

@@ -28,8 +28,9 @@ use Rattle.volume_laws.specs.Tests.{T→true, not_T→false, and_T}
 use Rattle.volume_laws.specs.Lists.{keep_mem}
 use Rattle.volume_laws.specs.Once.{Nodup, Alike, alike_length}
 use Rattle.volume_laws.specs.Counting.{counting_mem}
-use Rattle.volume_laws.specs.Contents.{blocks_map, blocks_same}
-use Rattle.volume_laws.specs.Chain.{FileBlocks, file_blocks_lem}
+use Rattle.volume_laws.proofs.Contents.{blocks_map, blocks_same}
+use Rattle.volume_laws.specs.Chain.{FileBlocks}
+use Rattle.volume_laws.proofs.Chain.{file_blocks_lem}
 use Rattle.volume_laws.specs.Sound.{acceptable_block}
 use Rattle.calls.specs.Refusal.{first_refusal}
 use Rattle.calls.specs.Areas.{area_bytes, file_areas}

@@ -1,5 +1,6 @@
 // The inodes of a table in order of their names, then ids. Document 02, T-07.
 #![tactic(auto)]
+
 ghost use Rattle.std.specs.Prelude.{◌≡◌, ◌+◌, ◌≤◌, ◌<◌, length, take};
 ghost use Rattle.volume.specs.Lists.{insert, sort};
 ghost use Rattle.volume_laws.specs.Sort.{Sorted};

@@ -5,7 +5,7 @@ use mathlib.Core.List.Memᴰ
 use Rattle.format.specs.Bytes.{Bytes}
 use Rattle.volume.specs.Counting.{Volume, volume_of}
 use Rattle.record_places.specs.Place.{by_place, AllLie}
-use Rattle.table_fill.specs.Laws.{get_d_in}
+use Rattle.table_fill.proofs.Laws.{get_d_in}
 use Rattle.table_fill.specs.Agreement.{sound_places}
 use Rattle.table_fill.specs.Parts.{all_rows, inode_rows}
 use Rattle.table_rows.specs.Parts.{part, put_back, part_long, part_part, part_same, part_before, part_front, put_long, both}

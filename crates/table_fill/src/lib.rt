@@ -1,5 +1,6 @@
 // Refusals 5 and 6 over the places of the records of a volume, and the tables of its inodes and of its blocks in one lent part.
 #![tactic(auto)]
+
 ghost use Rattle.std.specs.Prelude.{◌≡◌, [], ◌∷◌, ◌++◌, ◌≤◌, ◌<◌, length, take};
 ghost use Rattle.volume.specs.Counting.{all_agree};
 ghost use Rattle.record_places.specs.Place.{by_place, Lies, AllLie};

@@ -29,7 +29,7 @@ use Rattle.volume_laws.specs.Tests.{and_T}
 use Rattle.volume_laws.specs.Lists.{keep_mem}
 use Rattle.volume_laws.specs.Once.{pigeons}
 use Rattle.volume_laws.specs.Counting.{counting_mem, ids_of_lem}
-use Rattle.volume_laws.specs.Chain.{file_blocks_lem}
+use Rattle.volume_laws.proofs.Chain.{file_blocks_lem}
 use Rattle.volume_laws.specs.Sound.{Sound, acceptable_block}
 use Rattle.volume_laws.specs.Listing.{ids_shown, tree_few}
 use Rattle.calls.specs.Areas.{area_bytes, file_areas}

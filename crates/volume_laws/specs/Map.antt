@@ -10,7 +10,7 @@ use Rattle.std.proofs.Math.ListN.{length, length-map}
 use Rattle.std.proofs.Math.Dec.{eqb}
 use Rattle.format.specs.Bytes.{Bytes}
 use Rattle.format.specs.Ids.{NONE, root_id, is_directory_id}
-use Rattle.volume.specs.Lists.{keep, all, same, once, bind, has, Only, nobody, several, one, only, sort}
+use Rattle.volume.specs.Lists.{keep, all, once, bind, has, Only, nobody, several, one, only, sort}
 use Rattle.volume.specs.View.{View}
 use Rattle.volume.specs.Counting.{Volume, volume_of, versions, newest, counting, ids_of, agree, all_agree, inode_of, block_of, inode_ids}
 use Rattle.volume.specs.Counting.{block_ids}

@@ -9,7 +9,7 @@ use Rattle.volume.specs.Counting.{inode_of}
 use Rattle.record_places.specs.Place.{by_place}
 use Rattle.area_pass.specs.Bridge.{placed_volume}
 use Rattle.table_rows.specs.Table.{spot_of, found}
-use Rattle.inode_order.specs.Names.{table_inodes}
+use Rattle.inode_order.proofs.Names.{table_inodes}
 use Rattle.mount_state.specs.State.{inode_ids_at, inode_spots_at, Holds}
 use Rattle.mount_state.specs.Bridge.{inodes_lent, blocks_lent, blocks_few, rows_lent, block_rows_lent, inodes_number}
 use Rattle.call_tree.specs.Outcome.{found_inode, root_found, rows_list, entries_few, tree_answers}

@@ -1,6 +1,6 @@
 -- `crc16_register::later` meets its contract.
 use borrow.Author.Rules.{rules}
-use Rattle.crc_laws.specs.Table.{four_later}
+use Rattle.crc_laws.proofs.Table.{four_later}
 use Rattle.crc16_register.proofs.later.Statement.{statement}
 use Rattle.crc16_register.proofs.later.Tie as tie
 

@@ -1,7 +1,8 @@
 -- `crc16_register::remainder` meets its contract.
 use mathlib.Core.Path.{sym}
 use borrow.Author.Rules.{rules}
-use Rattle.crc_laws.specs.Remainder.{remainder, two_later}
+use Rattle.crc_laws.specs.Remainder.{remainder}
+use Rattle.crc_laws.proofs.Remainder.{two_later}
 use Rattle.crc16_register.proofs.remainder.Statement.{statement}
 use Rattle.crc16_register.proofs.remainder.Tie as tie
 

@@ -3,7 +3,7 @@ use mathlib.Core.Path.{sym}
 use borrow.Author.Rules.{rules}
 use Rattle.record_places.specs.Place.{by_place}
 use Rattle.inode_order.specs.Order.{Told}
-use Rattle.inode_order.specs.Names.{name_lent, place_told}
+use Rattle.inode_order.proofs.Names.{name_lent, place_told}
 use Rattle.inode_order.specs.declared.Compared.TheVariants.{Before, Same, After}
 use Rattle.inode_order.proofs.comes_before.Statement.{statement}
 use Rattle.inode_order.proofs.comes_before.Tie as tie

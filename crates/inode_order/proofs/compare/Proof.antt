@@ -3,7 +3,8 @@ use Prim.Native.Nat.{◌-◌, ◌≤◌}
 use native.Mathlib.Omega.{arith}
 use borrow.Author.Rules.{rules}
 use lib.ListN.{length}
-use Rattle.inode_order.specs.Names.{Equal, compare_less, compare_greater, compare_on, compare_longer, compare_shorter, compare_same}
+use Rattle.inode_order.specs.Names.{Equal}
+use Rattle.inode_order.proofs.Names.{compare_less, compare_greater, compare_on, compare_longer, compare_shorter, compare_same}
 use Rattle.inode_order.proofs.compare.Statement.{statement}
 use Rattle.inode_order.proofs.compare.Tie as tie
 

@@ -3,7 +3,7 @@ use mathlib.Core.Path.{◌∙◌}
 use native.Mathlib.Omega.{arith}
 use borrow.Author.Rules.{rules}
 use Rattle.record_places.specs.Laws.{size_least}
-use Rattle.inode_order.specs.Names.{name_told, name_inside}
+use Rattle.inode_order.proofs.Names.{name_told, name_inside}
 use Rattle.inode_order.proofs.name_size.Statement.{statement}
 use Rattle.inode_order.proofs.name_size.Tie as tie
 

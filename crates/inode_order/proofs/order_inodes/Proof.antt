@@ -7,7 +7,7 @@ use lib.ListN.{length, length-take}
 use lib.Seq.{length-take-le}
 use Rattle.volume_laws.specs.Lists.{get_or_mem}
 use Rattle.inode_order.specs.Order.{place_before}
-use Rattle.inode_order.specs.Names.{place_order}
+use Rattle.inode_order.proofs.Names.{place_order}
 use Rattle.inode_order.specs.Insertion.{LastSorted, sort_begins, last_mem, last_sorted, sort_on, sort_ends}
 use Rattle.inode_order.proofs.order_inodes.Statement.{statement}
 use Rattle.inode_order.proofs.order_inodes.Tie as tie
@@ -36,11 +36,10 @@ insert-at-requires c κs =
     (omega (arith, c.place_for-at.ensures.0, length-take c.loop-count.count c.loop-count.order), (more c.before.before.before).1)
 
 loop-again : tie.Need-loop-count-preserved invariant-loop decreases-loop
-loop-again c =
-    (
-      c.insert_at.auto.order ∙ c.loop-count.invariant.0,
-      sort_on c.loop-count.invariant.1 (more c.before.before.before.before.before.before).0 _ refl c.insert_at.new.order (c.insert_at.ensures ∙ sym c.place_for-at.ensures.1),
-    )
+loop-again c = (
+  c.insert_at.auto.order ∙ c.loop-count.invariant.0,
+  sort_on c.loop-count.invariant.1 (more c.before.before.before.before.before.before).0 _ refl c.insert_at.new.order (c.insert_at.ensures ∙ sym c.place_for-at.ensures.1),
+)
 
 returns : tie.Need-returns invariant-loop decreases-loop
 returns c = sort_ends c.loop-count.invariant.1 c.loop-count-test.false

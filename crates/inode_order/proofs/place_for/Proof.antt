@@ -6,7 +6,7 @@ use borrow.Author.Rules.{rules}
 use lib.ListN.{length}
 use Rattle.volume_laws.specs.Lists.{get_or_mem}
 use Rattle.inode_order.specs.Order.{place_before}
-use Rattle.inode_order.specs.Names.{place_order}
+use Rattle.inode_order.proofs.Names.{place_order}
 use Rattle.inode_order.specs.Insertion.{Searched, search_begins, search_lower, search_higher, search_ends}
 use Rattle.inode_order.proofs.place_for.Statement.{statement}
 use Rattle.inode_order.proofs.place_for.Tie as tie

@@ -10,8 +10,9 @@ use Rattle.record_places.specs.Place.{by_place, Lies}
 use Rattle.table_index.specs.Index.{slots, with_item}
 use Rattle.table_index.specs.Laws.{slot_within, item_long}
 use Rattle.table_fill.specs.Gather.{Tables, Gathered}
-use Rattle.table_fill.specs.Laws.{going_start, going_newer, going_older, going_full, going_end}
-use Rattle.table_fill.specs.Parts.{tables_in, SameLengths, lengths_trans, same_sizes, same_room, Turn}
+use Rattle.table_fill.proofs.Laws.{going_start, going_newer, going_older, going_full, going_end}
+use Rattle.table_fill.specs.Parts.{tables_in, SameLengths, Turn}
+use Rattle.table_fill.proofs.Parts.{lengths_trans, same_sizes, same_room}
 use Rattle.table_fill.specs.Twins.{slot_of_twins, TwinIndex, more_twins}
 use Rattle.table_fill.proofs.gather.Statement.{statement}
 use Rattle.table_fill.proofs.gather.Tie as tie
@@ -125,11 +126,10 @@ loop-again c =
     }
 
 still-agree-requires : tie.Need-still_agree-agreed-requires invariant-loop decreases-loop
-still-agree-requires c κs =
-    (
-      omega (arith, c.loop-i-test.true, c.requires.0.count),
-      ((λ j x. c.requires.0.lie j (omega (arith, c.loop-i-test.true))), (c.loop-i.invariant.twins_indexed, (shown-lies c.before.before.before.before.before.before.before.before.before.before.before.before.before.before.before, c.loop-i.invariant.going.agreed_is))),
-    )
+still-agree-requires c κs = (
+  omega (arith, c.loop-i-test.true, c.requires.0.count),
+  ((λ j x. c.requires.0.lie j (omega (arith, c.loop-i-test.true))), (c.loop-i.invariant.twins_indexed, (shown-lies c.before.before.before.before.before.before.before.before.before.before.before.before.before.before.before, c.loop-i.invariant.going.agreed_is))),
+)
 
 twin-slot-requires-2 : tie.Need-twin_slot-requires-in-Older invariant-loop decreases-loop
 twin-slot-requires-2 c κs = shown-lies c.before.before.before.before.before.before.before.before.before.before.before.before.before.before.before.before.before

@@ -9,7 +9,7 @@ use Rattle.volume.specs.Counting.{all_agree}
 use Rattle.record_places.specs.Place.{by_place, Lies}
 use Rattle.table_index.specs.Laws.{slot_within}
 use Rattle.table_fill.specs.Agreement.{places_equivalent, disagree_more, agree_more, twin_decides}
-use Rattle.table_fill.specs.Laws.{get_d_in}
+use Rattle.table_fill.proofs.Laws.{get_d_in}
 use Rattle.table_fill.specs.Twins.{TwinWalk, walk_twins, walk_on, no_twin_agrees}
 use Rattle.table_fill.proofs.still_agree.Statement.{statement}
 use Rattle.table_fill.proofs.still_agree.Tie as tie

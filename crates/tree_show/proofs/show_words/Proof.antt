@@ -9,7 +9,7 @@ use Rattle.format.specs.Bytes.{Bytes}
 use Rattle.format.specs.Ids.{root_id, is_directory_id}
 use Rattle.volume.specs.Listing.{printed}
 use Rattle.record_places.specs.Place.{by_place}
-use Rattle.inode_order.specs.Names.{name_lent}
+use Rattle.inode_order.proofs.Names.{name_lent}
 use Rattle.text_write.specs.Clip.{Wrote, wrote_then}
 use Rattle.tree_show.specs.Show.{root_words, directory_words, file_words}
 use Rattle.tree_show.proofs.show_words.Statement.{statement}

@@ -16,7 +16,7 @@ use Rattle.calls.specs.declared.Descriptor.{Descriptor}
 use Rattle.calls_laws.specs.Checks.{Passes, area_fits}
 use Rattle.image_laws.specs.Laws.{part_length}
 use Rattle.image_laws.specs.Stores.{joined_bytes}
-use Rattle.collect_laws.specs.Source.{source_found}
+use Rattle.collect_laws.proofs.Source.{source_found}
 use Rattle.collect_laws.specs.Stores.{filled_scratch, stores_are}
 use Rattle.collect_laws.specs.Survivors.{Survivors, copies_survive}
 
