@@ -25,7 +25,7 @@ pub const FREE: usize = STRETCHES + MOST_AREAS;
 pub const AREA_ROWS: usize = FREE + MOST_AREAS;
 
 // How many places are listed, and the reading of an area: its damage, and where free space starts.
-#[derive(Drop)]
+#[derive(Clone, Copy)]
 pub struct Pass {
     pub count: usize,
     pub damage: Damage,
@@ -33,7 +33,7 @@ pub struct Pass {
 }
 
 // How many places are listed, and the damage of all areas.
-#[derive(Drop)]
+#[derive(Clone, Copy)]
 pub struct Listing {
     pub count: usize,
     pub damage: Damage,

@@ -15,7 +15,7 @@ pub const ENTRIES: usize = MOST_AREAS + 1;
 pub const NUMBERS: usize = ENTRIES * 2;
 
 // The entries of a list before its end, as numbers; zeros follow, which end it.
-#[derive(Drop)]
+#[derive(Clone, Copy)]
 pub struct Areas {
     pub numbers: [u32; NUMBERS],
 }

@@ -29,7 +29,7 @@ use write_pieces::{plan_ids, plan_places, store_pieces};
 use write_sizes::{MOST_PIECES, greatest_block, piece_count, shortest};
 
 // The blocks that an append adds to the chain of a file: the block before the first, how long they are and how many.
-#[derive(Drop)]
+#[derive(Clone, Copy)]
 pub struct Chain {
     pub file: u32,
     pub last: u32,

@@ -16,7 +16,7 @@ use byte_fields::wide;
 use calls::{AREA_FILE, AREA_PASSED_OVER, AREA_SCRATCH, AreaReport, BAD_AREAS};
 
 // What a header says; without a valid one, zeros.
-#[derive(Drop)]
+#[derive(Clone, Copy)]
 pub struct Header {
     pub kind: u32,
     pub id: u32,

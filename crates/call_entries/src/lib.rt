@@ -117,7 +117,7 @@ pub fn read_at_of(
 }
 
 // What a read by a handle answers, and the handle after it.
-#[derive(Drop)]
+#[derive(Clone, Copy)]
 pub struct HandleRead {
     pub answer: ReadAnswer,
     pub handle: Handle,

@@ -17,7 +17,7 @@ use record_read::NONE;
 use table_rows::Spot;
 
 // The blocks of a file in a list.
-#[derive(Drop)]
+#[derive(Clone, Copy)]
 pub enum File {
     // so many blocks, and so many bytes
     Whole(usize, usize),

@@ -18,7 +18,7 @@ use record_read::BlockHeader;
 use table_rows::Spot;
 
 // The blocks of a file that is whole: `count` of them, followed back from `last`, with `size` bytes in all.
-#[derive(Drop)]
+#[derive(Clone, Copy)]
 struct Chain {
     file: u32,
     last: u32,

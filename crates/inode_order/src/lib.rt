@@ -12,7 +12,7 @@ use record_places::id_at;
 use record_read::InodeHeader;
 
 // How some bytes stand to others in the order of bytes.
-#[derive(Drop)]
+#[derive(Clone, Copy)]
 enum Compared {
     Before,
     Same,

@@ -22,7 +22,7 @@ const INODE_WORDS: usize = MOST_INODES / BITS;
 const BLOCK_WORDS: usize = MOST_BLOCKS / BITS;
 
 // The answer of checks 5 to 7: the number of refusal, or 0 with the numbers of rows.
-#[derive(Drop)]
+#[derive(Clone, Copy)]
 pub struct Filled {
     pub number: u32,
     pub inodes: usize,

@@ -20,7 +20,7 @@ use record_places::link_at;
 use record_read::{InodeHeader, ROOT, is_directory_id};
 
 // The live children of a directory that have one name.
-#[derive(Drop)]
+#[derive(Clone, Copy)]
 pub enum Child {
     Nobody,
     Several,
@@ -28,7 +28,7 @@ pub enum Child {
 }
 
 // What a path leads to.
-#[derive(Drop)]
+#[derive(Clone, Copy)]
 pub enum Resolved {
     // an inode: its id, and whether it is a directory
     Inode(u32, bool),

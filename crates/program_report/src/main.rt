@@ -3,6 +3,7 @@
 ghost use Rattle.io.specs.Counts.{IsPrefixLen};
 
 use program_input::report_input;
+use std::io::Read;
 
 // Prints a word and a number.
 fn show(word: &[u8], n: u32) {
@@ -11,30 +12,28 @@ fn show(word: &[u8], n: u32) {
 }
 
 // What came from standard input: how many bytes, and whether no read failed.
-#[derive(Drop)]
+#[derive(Clone, Copy)]
 struct Input {
     good: bool,
     count: usize,
 }
 
 // Reads standard input up to its end, or until the buffer is full.
-fn fill(buffer: &mut [u8]) -> Input
+fn fill<R: Read>(source: &mut R, buffer: &mut [u8]) -> Input
     ensures { IsPrefixLen result.count buffer.new }
 {
     let mut n = 0;
     while n < buffer.len() {
-        let got = libc::read(0, &mut buffer[n..]);
-        if got < 0 {
-            return Input {
-                good: false,
-                count: n,
-            };
+        match source.read(&mut buffer[n..]) {
+            Ok(0) => break,
+            Ok(more) => n += more,
+            Err(_) => {
+                return Input {
+                    good: false,
+                    count: n,
+                };
+            }
         }
-        let more = io::count(got, &buffer[n..]);
-        if more == 0 {
-            break;
-        }
-        n += more;
     }
     Input {
         good: true,
@@ -43,7 +42,7 @@ fn fill(buffer: &mut [u8]) -> Input
 }
 
 // Reads what is left of standard input, so that its writer can end; the count is not 0 where there was any.
-fn drain() -> Input {
+fn drain<R: Read>(source: &mut R) -> Input {
     let mut rest = Input {
         good: true,
         count: 0,
@@ -51,7 +50,7 @@ fn drain() -> Input {
     let mut left: u64 = 0xffffffff;
     while 0 < left {
         let mut buffer = io::buffer();
-        let input = fill(&mut buffer);
+        let input = fill(source, &mut buffer);
         if !input.good {
             return input;
         }
@@ -82,10 +81,11 @@ fn print(image: &[u8]) {
 
 // Reads the image and reports on it. Input longer than any image is answered as empty input is: it is no image. Where a read fails, nothing
 // is known of the image, and nothing is reported.
-fn main() {
+fn main(rt: HostRuntime) {
     let mut image = io::large_buffer();
-    let input = fill(&mut image);
-    let rest = drain();
+    let mut source = rt.stdin();
+    let input = fill(&mut source, &mut image);
+    let rest = drain(&mut source);
     if !input.good || !rest.good {
         io::write_all(2, b"standard input could not be read\n");
         return;

@@ -46,7 +46,7 @@ pub const SEQUENCE_AT: usize = 8;
 
 pub const LINK_AT: usize = 12;
 
-#[derive(Drop)]
+#[derive(Clone, Copy)]
 pub struct InodeHeader {
     pub id: u32,
     pub sequence: u32,
@@ -55,7 +55,7 @@ pub struct InodeHeader {
     pub length: u32,
 }
 
-#[derive(Drop)]
+#[derive(Clone, Copy)]
 pub struct BlockHeader {
     pub id: u32,
     pub sequence: u32,

@@ -33,7 +33,7 @@ const SLASH: u8 = 0x2f;
 
 // Where the next byte goes, and how many entries may still be shown. No volume has more entries than inodes: the count makes the walk short over
 // any tables.
-#[derive(Drop)]
+#[derive(Clone, Copy)]
 pub struct Cursor {
     pub at: usize,
     pub left: usize,

@@ -14,7 +14,7 @@ use calls::MOST_AREAS;
 use mount_state::Mounted;
 
 // Where a record goes.
-#[derive(Drop)]
+#[derive(Clone, Copy)]
 pub enum Place {
     At(u32),
     Nowhere,

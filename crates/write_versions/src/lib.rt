@@ -29,7 +29,7 @@ use record_write::write_changed;
 use write_room::{Place, find_spaces, take_place};
 
 // The bytes of a file from `from` up to `to`.
-#[derive(Drop)]
+#[derive(Clone, Copy)]
 pub struct Range {
     pub from: usize,
     pub to: usize,

@@ -8,16 +8,13 @@ use Rattle.collect_source.specs.Source.{source_here, source_else}
 use Rattle.collect_source.proofs.choose_source.Statement.{statement}
 use Rattle.collect_source.proofs.choose_source.Tie as tie
 
-returns : tie.Need-returns
-returns c = source_here _ _ _ _ _ c.before.first-leading.ensures c.if1.true
+returns : tie.Need-returns-then-leading-starts
+returns c = source_here _ _ _ _ _ c.first_leading-leading.ensures c.if-leading-starts.true
 
-returns-2 : tie.Need-returns-2
+returns-2 : tie.Need-returns
 returns-2 c =
-    let t = c.before in
-    let k = t.before in
-    let s = k.before.before.before.before in
-    let spans = s.args.spans.now in
-    rw (c.position.ensures.0, take_all (length spans) spans (omega arith)) (source_else _ _ _ _ _ k.first-leading.ensures (sym s.requires.pairs) t.if1.false)
+    let spans = c.args.spans.now in
+    rw (c.position.ensures.0, take_all (length spans) spans (omega arith)) (source_else _ _ _ _ _ c.first_leading-leading.ensures (sym c.requires.pairs) c.if-leading-starts.false)
 
 pub choose_source_spec : {M : Type 1} → statement M
 choose_source_spec = tie.close (tie.spec (λ c κs. search rules) returns (λ c κs. search rules) returns-2)

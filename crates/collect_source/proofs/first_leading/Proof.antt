@@ -10,48 +10,36 @@ use Rattle.collect_source.specs.Source.{leads, first_here, first_later, first_no
 use Rattle.collect_source.proofs.first_leading.Statement.{statement}
 use Rattle.collect_source.proofs.first_leading.Tie as tie
 
-abbrev invariant-loop : tie.invariant-loop
+abbrev invariant-loop : tie.invariant-loop-i
 invariant-loop image starts spans wanted i₀ i =
     let test = leads image wanted (described starts spans) in
     first (keep test (described (drop i starts) (drop i spans))) ≡ first (keep test (described starts spans))
 
-abbrev decreases-loop : tie.decreases-loop
+abbrev decreases-loop : tie.decreases-loop-i
 decreases-loop image starts spans wanted i₀ i = length starts - i
 
--- the arguments, from the head of the loop
-abbrev start : tie.At-loop invariant-loop decreases-loop → tie.Start invariant-loop decreases-loop
-start l = l.before.before.before.before
+pairs : (l : tie.At-loop-i invariant-loop decreases-loop) → length l.args.starts.now ≡ length l.args.spans.now
+pairs l = sym l.requires.pairs
 
-pairs : (l : tie.At-loop invariant-loop decreases-loop) → length (start l).args.starts.now ≡ length (start l).args.spans.now
-pairs l = sym (start l).requires.pairs
-
-loop-holds : tie.Need-loop-init invariant-loop decreases-loop
+loop-holds : tie.Need-loop-i-init invariant-loop decreases-loop
 loop-holds c = refl
 
 leads-requires : tie.Need-leads-requires invariant-loop decreases-loop
 leads-requires c κs =
-    let t = c.before.before in
-    let s = start t.before in
-    let h = s.pre.long t.before.loop.i t.loop-test.true in
-    let f = s.pre.inside t.before.loop.i t.loop-test.true in
-    (s.pre, (omega arith, omega arith))
+    let h = c.requires.long c.loop-i.i c.loop-i-test.true in
+    let f = c.requires.inside c.loop-i.i c.loop-i-test.true in
+    (c.requires, (omega arith, omega arith))
 
-returns : tie.Need-returns invariant-loop decreases-loop
+returns : tie.Need-returns-then-leads invariant-loop decreases-loop
 returns c =
-    let k = c.before in
-    let t = k.before.before.before in
-    let l = t.before in
-    first_here _ _ (pairs l) _ _ t.loop-test.true (sym k.leads.ensures ∙ c.if1.true) ∙ l.loop.invariant
+    first_here _ _ (pairs c.before.before.before.before.before) _ _ c.loop-i-test.true (sym c.leads.ensures ∙ c.if-leads.true) ∙ c.loop-i.invariant
 
-loop-again : tie.Need-loop-preserved invariant-loop decreases-loop
+loop-again : tie.Need-loop-i-preserved invariant-loop decreases-loop
 loop-again c =
-    let k = c.before in
-    let t = k.before.before.before in
-    let l = t.before in
-    sym (first_later _ _ (pairs l) _ _ t.loop-test.true (sym k.leads.ensures ∙ c.if1.false)) ∙ l.loop.invariant
+    sym (first_later _ _ (pairs c.before.before.before.before.before) _ _ c.loop-i-test.true (sym c.leads.ensures ∙ c.if-leads.false)) ∙ c.loop-i.invariant
 
-returns-2 : tie.Need-returns-2 invariant-loop decreases-loop
-returns-2 c = let l = c.before in first_nowhere _ _ (pairs l) _ _ c.loop-test.false ∙ l.loop.invariant
+returns-2 : tie.Need-returns invariant-loop decreases-loop
+returns-2 c = first_nowhere _ _ (pairs c.before) _ _ c.loop-i-test.false ∙ c.loop-i.invariant
 
 pub first_leading_spec : {M : Type 1} → statement M
 first_leading_spec =

@@ -5,17 +5,14 @@ use Rattle.collect_source.specs.Source.{leads_not, leads_if}
 use Rattle.collect_source.proofs.leads.Statement.{statement}
 use Rattle.collect_source.proofs.leads.Tie as tie
 
-returns : tie.Need-returns
-returns c = leads_not _ _ _ _ c.if1.true
+returns : tie.Need-returns-then-span-wanted
+returns c = leads_not _ _ _ _ c.if-span-wanted.true
 
-returns-2 : tie.Need-returns-2
+returns-2 : tie.Need-returns
 returns-2 c =
-    let k = c.before in
-    let t = k.before in
-    let s = t.before.before.before.before in
     c.none_ahead.ensures
-    ∙ rw (k.area_count.ensures.is s.args.span s.requires.1.1)
-    (leads_if s.args.image.now s.args.wanted _ _ t.if1.false)
+    ∙ rw (c.area_count.ensures.is c.args.span c.requires.1.1)
+    (leads_if c.args.image.now c.args.wanted _ _ c.if-span-wanted.false)
 
 pub leads_spec : {M : Type 1} → statement M
 leads_spec = tie.close (tie.spec returns (λ c κs. search rules) (λ c κs. search rules) returns-2)
