@@ -11,62 +11,39 @@ use Rattle.call_append.specs.Outcome.{to_directory, append_long, append_absent, 
 use Rattle.call_append.proofs.append_mounted.Statement.{statement}
 use Rattle.call_append.proofs.append_mounted.Tie as tie
 
--- the arguments, from where the text was found short enough; and the ways there
-abbrev lent : tie.Else1 → tie.Start
-lent e = e.before.before.before.before.before.before.before
-
-abbrev in-else : tie.After-find-path → tie.Else1
-in-else f = f.before.before
-
-short : (e : tie.Else1) → length (lent e).args.text.now ≤ most_appended
-short e = omega (arith, e.if1.false)
-
-abbrev sought : tie.After-known-told → tie.After-find-path
-sought k = k.before.before.before
+short : (e : tie.Else-text-gt-MOST_APPENDED) → length e.args.text.now ≤ most_appended
+short e = omega (arith, e.if-text-gt-MOST_APPENDED.false)
 
 -- the kind told is that of the id
-kind : (k : tie.After-known-told) → k.before.found.given.0.1.0 ≡ is_directory_id k.before.found.given.0.0
-kind k = subst Kinded k.before.found.given.1 (sought k).find-path.ensures.1
+kind : (k : tie.In-Inode) → k.in-Inode.directory ≡ is_directory_id k.in-Inode.file
+kind k = subst Kinded k.in-Inode.is k.find_path-found.ensures.1
 
-returns : tie.Need-returns
-returns c = λ ds h p. append_long h _ _ _ (omega (arith, c.if1.true))
+returns : tie.Need-returns-then-text-gt-MOST_APPENDED
+returns c = λ ds h p. append_long h _ _ _ (omega (arith, c.if-text-gt-MOST_APPENDED.true))
 
-returns-2 : tie.Need-returns-2
+returns-2 : tie.Need-returns-in_default
 returns-2 c =
-    let e = c.before in
-    let f = e.before.before in
-    let s = lent (in-else f) in
     λ ds h p.
-    append_absent h s.args.base.now s.args.path.now s.args.text.now (short (in-else f)) (meaning f.find-path.result) (f.find-path.ensures.0 ds h)
-    e.enum_told.given.0.0 (ap meaning e.enum_told.given.1) _ c.refusal.ensures
+    append_absent h c.args.base.now c.args.path.now c.args.text.now (short c.before.before.before) (meaning c.find_path-found.result) (c.find_path-found.ensures.0 ds h)
+    c.in_default.field-0 (ap meaning c.in_default.is) _ c.refusal.ensures
 
-returns-3 : tie.Need-returns-3
+returns-3 : tie.Need-returns-then-directory
 returns-3 c =
-    let k = c.before in
-    let f = sought k in
-    let s = lent (in-else f) in
     λ ds h p.
-    append_found h s.args.base.now s.args.path.now s.args.text.now (short (in-else f)) (meaning f.find-path.result) (f.find-path.ensures.0 ds h)
-    k.before.found.given.0.0 (ap meaning k.before.found.given.1)
-    (to_directory s.args.image.now ds s.args.text.now k.before.found.given.0.0 (sym (kind k) ∙ c.if2.true))
+    append_found h c.args.base.now c.args.path.now c.args.text.now (short c.before.before.before) (meaning c.find_path-found.result) (c.find_path-found.ensures.0 ds h)
+    c.in-Inode.file (ap meaning c.in-Inode.is)
+    (to_directory c.args.image.now ds c.args.text.now c.in-Inode.file (sym (kind c.before) ∙ c.if-directory.true))
 
-append-to-requires : tie.Need-append-to-requires
+append-to-requires : tie.Need-append_to-requires
 append-to-requires c κs =
-    let e = in-else (sought c.before.before) in
-    let s = lent e in
-    (s.pre.0, (s.pre.1, short e))
+    (c.requires.0, (c.requires.1, short c.before.before.before.before))
 
-returns-4 : tie.Need-returns-4
+returns-4 : tie.Need-returns
 returns-4 c =
-    let w = c.before.before in
-    let e = w.before.before in
-    let k = e.before in
-    let f = sought k in
-    let s = lent (in-else f) in
     λ ds h p.
-    append_found h s.args.base.now s.args.path.now s.args.text.now (short (in-else f)) (meaning f.find-path.result) (f.find-path.ensures.0 ds h)
-    k.before.found.given.0.0 (ap meaning k.before.found.given.1)
-    (w.append-to.ensures ds h p (sym (kind k) ∙ e.if2.false))
+    append_found h c.args.base.now c.args.path.now c.args.text.now (short c.before.before.before.before.before.before.before) (meaning c.find_path-found.result) (c.find_path-found.ensures.0 ds h)
+    c.in-Inode.file (ap meaning c.in-Inode.is)
+    (c.append_to.ensures ds h p (sym (kind c.before.before.before.before.before) ∙ c.if-directory.false))
 
 pub append_mounted_spec : {M : Type 1} → statement M
 append_mounted_spec =

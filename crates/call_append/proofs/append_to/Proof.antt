@@ -17,86 +17,55 @@ use Rattle.call_append.specs.Outcome.{out_broken, out_full, out_written}
 use Rattle.call_append.proofs.append_to.Statement.{statement}
 use Rattle.call_append.proofs.append_to.Tie as tie
 
--- the arguments, from where the last block was sought; and the ways there
-abbrev lent : tie.After-last-unless-broken → tie.Start
-lent l = l.before.before.before.before.before.before.before.before.before.before
-
-abbrev found-last : tie.After-known-told → tie.After-last-unless-broken
-found-last k = k.before.before.before
-
-abbrev known : tie.After-piece-size → tie.After-known-told
-known p = p.before.before
-
-abbrev start : tie.After-piece-size → tie.Start
-start p = lent (found-last (known p))
-
 -- the last block is that of the definition
-last_is : (l : tie.After-last-unless-broken) → let a = (lent l).args in
-    (ds : List Descriptor) → Holds a.image.now ds a.m a.tables.now → last_of l.last-unless-broken.result ≡ last_unless_broken a.image.now (placed_volume a.image.now ds) a.file
-last_is l ds h = l.last-unless-broken.ensures (placed_volume (lent l).args.image.now ds) (block_rows_lent h)
+last_is : (l : tie.After-last_unless_broken) → let a = l.args in
+    (ds : List Descriptor) → Holds a.image.now ds a.m a.tables.now → last_of l.last_unless_broken.result ≡ last_unless_broken a.image.now (placed_volume a.image.now ds) a.file
+last_is l ds h = l.last_unless_broken.ensures (placed_volume l.args.image.now ds) (block_rows_lent h)
 
 -- the number of pieces
-count_is : (c : tie.After-piece-count) → let a = (start c.before).args in c.piece-count.result ≡ length (pieces (size_for a.m a.tables.now) a.text.now)
+count_is : (c : tie.After-piece_count-count) → let a = c.args in c.piece_count-count.result ≡ length (pieces (size_for a.m a.tables.now) a.text.now)
 count_is c =
-    let p = c.before in
-    let a = (start p).args in
-    rw (← p.piece-size.ensures.0)
-    (c.piece-count.ensures ∙ sym (pieces_count p.piece-size.result p.piece-size.ensures.1.0 a.text.now))
+    let a = c.args in
+    rw (← c.piece_size-size.ensures.0)
+    (c.piece_count-count.ensures ∙ sym (pieces_count c.piece_size-size.result c.piece_size-size.ensures.1.0 a.text.now))
 
-count_few : (c : tie.After-piece-count) → c.piece-count.result ≤ most_pieces
+count_few : (c : tie.After-piece_count-count) → c.piece_count-count.result ≤ most_pieces
 count_few c =
-    let s = start c.before in
-    rw (count_is c) (few_pieces (shortest_of (spans_in s.args.m s.args.tables.now)) s.args.text.now (shortest_bound s.pre.0) s.pre.1.1)
+    rw (count_is c) (few_pieces (shortest_of (spans_in c.args.m c.args.tables.now)) c.args.text.now (shortest_bound c.requires.0) c.requires.1.1)
 
-last-unless-broken-requires : tie.Need-last-unless-broken-requires
+last-unless-broken-requires : tie.Need-last_unless_broken-requires
 last-unless-broken-requires c κs =
-    let s = c.before.before.before.before.before.before.before.before.before in
-    (blocks_lent s.requires.0, blocks_few s.requires.0)
+    (blocks_lent c.requires.0, blocks_few c.requires.0)
 
-returns : tie.Need-returns
+returns : tie.Need-returns-in_default
 returns c =
-    let l = c.before.before in
-    let s = lent l in
-    λ ds h p d. out_broken s.pre.0 h s.args.file s.args.text.now d (sym (ap last_of c.enum_told.given.1) ∙ last_is l ds h)
+    λ ds h p d. out_broken c.requires.0 h c.args.file c.args.text.now d (sym (ap last_of c.in_default.is) ∙ last_is c.before ds h)
 
-add-if1 : tie.Need-overflow-add-if1
-add-if1 c = let s = start c.before.before in omega (arith, count_few c.before, s.pre.0.blocks_few)
+add-if1 : tie.Need-overflow_add-m
+add-if1 c = omega (arith, count_few c.before, c.requires.0.blocks_few)
 
-returns-2 : tie.Need-returns-2
+returns-2 : tie.Need-returns-then-m-count-gt-MOST_BLOCKS
 returns-2 c =
-    let p = c.before.before in
-    let k = known p.before in
-    let l = found-last k in
-    let s = lent l in
     λ ds h q d.
-    out_full s.pre.0 h s.args.file s.args.text.now d k.before.last.given.0.0 (sym (ap last_of k.before.last.given.1) ∙ last_is l ds h)
-    p.piece-count.result (count_is p) (omega (arith, c.if1.true))
+    out_full c.requires.0 h c.args.file c.args.text.now d c.in-Start.last (sym (ap last_of c.in-Start.is) ∙ last_is c.before.before.before.before.before ds h)
+    c.piece_count-count.result (count_is c.before.before) (omega (arith, c.if-m-count-gt-MOST_BLOCKS.true))
 
-part-write-count-end : tie.Need-slice-bounds-write-count-end
-part-write-count-end c = let s = start c.before.before.before.before in omega (arith, s.pre.1.0.few)
+part-write-count-end : tie.Need-slice_bounds-write_count-end
+part-write-count-end c = omega (arith, c.requires.1.0.few)
 
-write-count-requires : tie.Need-write-count-requires
+write-count-requires : tie.Need-write_count-requires
 write-count-requires c κs =
-    let e = c.before.before in
-    let p = e.before.before in
-    let s = start p.before in
-    let z = p.before.piece-size.ensures in
-    let r = places_lent s.pre.1.0 in
-    (s.pre.0, (r.0, (r.1, record { some_room = z.1.0; small = z.1.1; count = rw z.0 (count_is p); few = count_few p; counted = omega (arith, e.if1.false) })))
+    let z = c.piece_size-size.ensures in
+    let r = places_lent c.requires.1.0 in
+    (c.requires.0, (r.0, (r.1, record { some_room = z.1.0; small = z.1.1; count = rw z.0 (count_is c.before.before.before.before); few = count_few c.before.before.before.before; counted = omega (arith, c.if-m-count-gt-MOST_BLOCKS.false) })))
 
-returns-3 : tie.Need-returns-3
+returns-3 : tie.Need-returns
 returns-3 c =
-    let w = c.before.before in
-    let e = w.before.before.before in
-    let p = e.before.before in
-    let k = known p.before in
-    let l = found-last k in
-    let s = lent l in
     λ ds h q d.
-    out_written s.pre.0 h s.args.file s.args.text.now d k.before.last.given.0.0
-    (sym (ap last_of k.before.last.given.1) ∙ last_is l ds h) p.piece-count.result (count_is p) (omega (arith, e.if1.false)) _ _ _
-    (names_lent s.args.image.now ds s.args.m s.args.places.now q)
-    (rw (← p.before.piece-size.ensures.0) (w.write-count.ensures ds h))
+    out_written c.requires.0 h c.args.file c.args.text.now d c.in-Start.last
+    (sym (ap last_of c.in-Start.is) ∙ last_is c.before.before.before.before.before.before.before.before.before.before ds h) c.piece_count-count.result (count_is c.before.before.before.before.before.before.before) (omega (arith, c.if-m-count-gt-MOST_BLOCKS.false)) _ _ _
+    (names_lent c.args.image.now ds c.args.m c.args.places.now q)
+    (rw (← c.piece_size-size.ensures.0) (c.write_count.ensures ds h))
 
 pub append_to_spec : {M : Type 1} → statement M
 append_to_spec =

@@ -6,16 +6,13 @@ use Rattle.call_append.specs.Last.{size_none, size_some}
 use Rattle.call_append.proofs.last_unless_broken.Statement.{statement}
 use Rattle.call_append.proofs.last_unless_broken.Tie as tie
 
-returns : tie.Need-returns
+returns : tie.Need-returns-in_default
 returns c =
-    let f = c.before.before in
-    λ v rows. size_none _ v _ (sym (ap size_of c.enum-told2.given.1) ∙ f.file-size.ensures.1 v rows)
+    λ v rows. size_none _ v _ (sym (ap size_of c.in_default.is) ∙ c.file_size.ensures.1 v rows)
 
-returns-2 : tie.Need-returns-2
+returns-2 : tie.Need-returns
 returns-2 c =
-    let t = c.before in
-    let f = t.before.before in
-    λ v rows. size_some _ v _ t.enum_told.given.0.0 (sym (ap size_of t.enum_told.given.1) ∙ f.file-size.ensures.1 v rows) _ (c.last_block.ensures v rows)
+    λ v rows. size_some _ v _ c.in-Whole.field-0 (sym (ap size_of c.in-Whole.is) ∙ c.file_size.ensures.1 v rows) _ (c.last_block.ensures v rows)
 
 pub last_unless_broken_spec : {M : Type 1} → statement M
 last_unless_broken_spec =
@@ -25,5 +22,5 @@ last_unless_broken_spec =
     (λ c. search rules)
     (λ c. search rules)
     returns
-    (λ c κs. c.before.before.before.before.before.before.requires.0.usable)
+    (λ c κs. c.requires.0.usable)
     returns-2)

@@ -17,10 +17,10 @@ start s = s.before.before.before.before.before
 shortest-is : (s : tie.After-shortest) → s.shortest.result ≡ shortest_of (spans_in (start s).args.m (start s).args.tables.now)
 shortest-is s = s.shortest.ensures ∙ ap shortest_of (lent spans_at (start s).args.m.files (start s).args.tables.now)
 
-size_is : (g : tie.After-greatest-block) → let s = start g.before in g.greatest-block.result ≡ size_for s.args.m s.args.tables.now
-size_is g = g.greatest-block.ensures ∙ ap greatest_block (shortest-is g.before)
+size_is : (g : tie.After-greatest_block) → let s = start g.before in g.greatest_block.result ≡ size_for s.args.m s.args.tables.now
+size_is g = g.greatest_block.ensures ∙ ap greatest_block (shortest-is g.before)
 
-greatest-block-requires : tie.Need-greatest-block-requires
+greatest-block-requires : tie.Need-greatest_block-requires
 greatest-block-requires c κs = rw (shortest-is c) (shortest_bound (start c).requires)
 
 returns : tie.Need-returns

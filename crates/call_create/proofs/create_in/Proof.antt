@@ -11,36 +11,24 @@ use Rattle.call_create.specs.Creating.{made, not_made}
 use Rattle.call_create.proofs.create_in.Statement.{statement}
 use Rattle.call_create.proofs.create_in.Tie as tie
 
--- the arguments, from where the id was chosen
-abbrev start : tie.After-unused-id → tie.Start
-start u = u.before.before.before.before.before.before.before.before
-
-unused-id-requires : tie.Need-unused-id-requires
+unused-id-requires : tie.Need-unused_id-id-requires
 unused-id-requires c κs =
-    let s = c.before.before.before.before.before.before.before in
-    let p = places_lent s.requires.1.0 in
-    (p.0, (p.1, c.first-id.ensures.1))
+    let p = places_lent c.requires.1.0 in
+    (p.0, (p.1, c.first_id.ensures.1))
 
-returns : tie.Need-returns
+returns : tie.Need-returns-then-number-ne0
 returns c =
-    let t = c.before in
-    let k = t.before.before.before in
-    let u = k.before.before in
-    let s = start u in
-    λ ds h l. not_made s.args.image.now (volume s.args.image.now ds) s.args.kind s.args.directory s.args.name.now
-    (spaces s.args.image.now (file_areas s.args.image.now ds)) u.before.first-id.result u.unused-id.result
-    u.before.first-id.ensures.0 (u.unused-id.ensures ∙ ap (unused_id u.before.first-id.result) (names_lent s.args.image.now ds s.args.m s.args.places.now l)) k.store-inode.result
-    (k.store-inode.ensures ds h).0 _ (k.store-inode.ensures ds h).1 t.if1.true c.not-created.result c.not-created.ensures
+    λ ds h l. not_made c.args.image.now (volume c.args.image.now ds) c.args.kind c.args.directory c.args.name.now
+    (spaces c.args.image.now (file_areas c.args.image.now ds)) c.first_id.result c.unused_id-id.result
+    c.first_id.ensures.0 (c.unused_id-id.ensures ∙ ap (unused_id c.first_id.result) (names_lent c.args.image.now ds c.args.m c.args.places.now l)) c.store_inode-number.result
+    (c.store_inode-number.ensures ds h).0 _ (c.store_inode-number.ensures ds h).1 c.if-number-ne0.true c.not_created.result c.not_created.ensures
 
-returns-2 : tie.Need-returns-2
+returns-2 : tie.Need-returns
 returns-2 c =
-    let k = c.before.before.before in
-    let u = k.before.before in
-    let s = start u in
-    λ ds h l. made s.args.image.now (volume s.args.image.now ds) s.args.kind s.args.directory s.args.name.now
-    (spaces s.args.image.now (file_areas s.args.image.now ds)) u.before.first-id.result u.unused-id.result
-    u.before.first-id.ensures.0 (u.unused-id.ensures ∙ ap (unused_id u.before.first-id.result) (names_lent s.args.image.now ds s.args.m s.args.places.now l)) k.store-inode.result
-    (k.store-inode.ensures ds h).0 _ (k.store-inode.ensures ds h).1 c.if1.false
+    λ ds h l. made c.args.image.now (volume c.args.image.now ds) c.args.kind c.args.directory c.args.name.now
+    (spaces c.args.image.now (file_areas c.args.image.now ds)) c.first_id.result c.unused_id-id.result
+    c.first_id.ensures.0 (c.unused_id-id.ensures ∙ ap (unused_id c.first_id.result) (names_lent c.args.image.now ds c.args.m c.args.places.now l)) c.store_inode-number.result
+    (c.store_inode-number.ensures ds h).0 _ (c.store_inode-number.ensures ds h).1 c.if-number-ne0.false
 
 pub create_in_spec : {M : Type 1} → statement M
 create_in_spec =

@@ -7,73 +7,32 @@ use Rattle.call_create.specs.Creating.{create_absent, create_fails, create_full,
 use Rattle.call_create.proofs.create_mounted.Statement.{statement}
 use Rattle.call_create.proofs.create_mounted.Tie as tie
 
--- the arguments, from where the parent was looked for; and the ways there
-abbrev start : tie.After-find-parent → tie.Start
-start f = f.before.before.before.before.before.before.before
-
-abbrev at_name : tie.After-name-refusal → tie.After-last-name
-at_name q = q.before.before
-
-abbrev at-found : tie.After-last-name → tie.After-found
-at-found n = n.before.before
-
-abbrev at-parent : tie.After-found → tie.After-find-parent
-at-parent k = k.before.before
-
-returns : tie.Need-returns
+returns : tie.Need-returns-in_default
 returns c =
-    let q = c.before in
-    let t = q.before in
-    let f = t.before.before in
-    let s = start f in
-    λ ds h l. create_absent s.pre.0 h s.args.base.now s.args.path.now s.args.kind (meaning f.find-parent.result) (f.find-parent.ensures.0 ds h)
-    t.enum_told.given.0.0 (ap meaning t.enum_told.given.1) q.refusal.result q.refusal.ensures c.not-created.result c.not-created.ensures
+    λ ds h l. create_absent c.requires.0 h c.args.base.now c.args.path.now c.args.kind (meaning c.find_parent-found.result) (c.find_parent-found.ensures.0 ds h)
+    c.in_default.field-0 (ap meaning c.in_default.is) c.refusal.result c.refusal.ensures c.not_created.result c.not_created.ensures
 
-last-name-requires : tie.Need-last-name-requires
+last-name-requires : tie.Need-last_name-name-requires
 last-name-requires c κs =
-    let k = c.before in
-    let f = at-parent k in
-    let s = start f in
-    below_found s.args.base.now s.args.path.now f.find-parent.result f.find-parent.ensures.1 k.found.given.0.0 _ k.found.given.1
+    below_found c.args.base.now c.args.path.now c.find_parent-found.result c.find_parent-found.ensures.1 c.in-Inode.directory _ c.in-Inode.is
 
-returns-2 : tie.Need-returns-2
+returns-2 : tie.Need-returns-then-refusal-ne0
 returns-2 c =
-    let t = c.before in
-    let q = t.before in
-    let n = at_name q in
-    let k = at-found n in
-    let f = at-parent k in
-    let s = start f in
-    λ ds h l. create_fails s.pre.0 h s.args.base.now s.args.path.now s.args.kind (meaning f.find-parent.result) (f.find-parent.ensures.0 ds h)
-    k.found.given.0.0 (ap meaning k.found.given.1) _ n.last_name.ensures.0 q.name-refusal.result (q.name-refusal.ensures ds h) t.if1.true
-    c.not-created2.result c.not-created2.ensures
+    λ ds h l. create_fails c.requires.0 h c.args.base.now c.args.path.now c.args.kind (meaning c.find_parent-found.result) (c.find_parent-found.ensures.0 ds h)
+    c.in-Inode.directory (ap meaning c.in-Inode.is) _ c.last_name-name.ensures.0 c.name_refusal-refusal.result (c.name_refusal-refusal.ensures ds h) c.if-refusal-ne0.true
+    c.not_created-then-refusal-ne0.result c.not_created-then-refusal-ne0.ensures
 
-returns-3 : tie.Need-returns-3
+returns-3 : tie.Need-returns-then-m-ge-MOST_INODES
 returns-3 c =
-    let t = c.before in
-    let e = t.before.before in
-    let q = e.before in
-    let n = at_name q in
-    let k = at-found n in
-    let f = at-parent k in
-    let s = start f in
-    λ ds h l. create_full s.pre.0 h s.args.base.now s.args.path.now s.args.kind (meaning f.find-parent.result) (f.find-parent.ensures.0 ds h)
-    k.found.given.0.0 (ap meaning k.found.given.1) _ n.last_name.ensures.0 q.name-refusal.result (q.name-refusal.ensures ds h) e.if1.false
-    t.if2.true c.not-created3.result c.not-created3.ensures
+    λ ds h l. create_full c.requires.0 h c.args.base.now c.args.path.now c.args.kind (meaning c.find_parent-found.result) (c.find_parent-found.ensures.0 ds h)
+    c.in-Inode.directory (ap meaning c.in-Inode.is) _ c.last_name-name.ensures.0 c.name_refusal-refusal.result (c.name_refusal-refusal.ensures ds h) c.if-refusal-ne0.false
+    c.if-m-ge-MOST_INODES.true c.not_created-then-m-ge-MOST_INODES.result c.not_created-then-m-ge-MOST_INODES.ensures
 
-returns-4 : tie.Need-returns-4
+returns-4 : tie.Need-returns
 returns-4 c =
-    let d = c.before.before in
-    let t = d.before.before in
-    let e = t.before.before in
-    let q = e.before in
-    let n = at_name q in
-    let k = at-found n in
-    let f = at-parent k in
-    let s = start f in
-    λ ds h l. create_stored s.pre.0 h s.args.base.now s.args.path.now s.args.kind (meaning f.find-parent.result) (f.find-parent.ensures.0 ds h)
-    k.found.given.0.0 (ap meaning k.found.given.1) _ n.last_name.ensures.0 q.name-refusal.result (q.name-refusal.ensures ds h) e.if1.false
-    t.if2.false d.create-in.result _ (d.create-in.ensures ds h l).0 (d.create-in.ensures ds h l).1
+    λ ds h l. create_stored c.requires.0 h c.args.base.now c.args.path.now c.args.kind (meaning c.find_parent-found.result) (c.find_parent-found.ensures.0 ds h)
+    c.in-Inode.directory (ap meaning c.in-Inode.is) _ c.last_name-name.ensures.0 c.name_refusal-refusal.result (c.name_refusal-refusal.ensures ds h) c.if-refusal-ne0.false
+    c.if-m-ge-MOST_INODES.false c.create_in.result _ (c.create_in.ensures ds h l).0 (c.create_in.ensures ds h l).1
 
 pub create_mounted_spec : {M : Type 1} → statement M
 create_mounted_spec =

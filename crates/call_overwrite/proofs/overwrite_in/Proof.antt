@@ -19,83 +19,60 @@ use borrow.Author.Rules.{rules}
 use Rattle.call_overwrite.proofs.overwrite_in.Statement.{statement}
 use Rattle.call_overwrite.proofs.overwrite_in.Tie as tie
 
--- the arguments, from where the file's blocks were listed; and that, from where they are known
-abbrev lent : tie.After-list-file → tie.Start
-lent l = l.before.before.before.before.before.before.before.before.before.before.before
-
-abbrev listing : tie.After-known-told → tie.After-list-file
-listing k = k.before.before.before.before.before
-
 -- how many blocks there are, and bytes
-abbrev count : tie.After-known-told → ℕ
-count k = k.before.n.given.0.0
+abbrev count : tie.In-Whole → ℕ
+count k = k.in-Whole.n
 
-abbrev bytes : tie.After-known-told → ℕ
-bytes k = k.before.n.given.0.1.0
+abbrev bytes : tie.In-Whole → ℕ
+bytes k = k.in-Whole.size
 
 -- the rows that were filled
-held : (k : tie.After-known-told) → let l = listing k in
-    Rows (lent l).args.image.now (count k) (bytes k) l.list-file.last.1.1.1.1.0 l.list-file.last.1.1.1.1.1.0
+held : (k : tie.In-Whole) → Rows k.args.image.now (count k) (bytes k) k.list_file.new.blocks k.list_file.new.sizes
 held k =
-    let l = listing k in
-    subst (λ (r : File). Filled (lent l).args.image.now r l.list-file.last.1.1.1.1.0 l.list-file.last.1.1.1.1.1.0)
-    k.before.n.given.1 l.list-file.ensures.0
+    subst (λ (r : File). Filled k.args.image.now r k.list_file.new.blocks k.list_file.new.sizes)
+    k.in-Whole.is k.list_file.ensures.0
 
-rows : (k : tie.After-known-told) → let l = listing k in
-    (count k ≤ length l.list-file.last.1.1.1.1.0) × (count k ≤ length l.list-file.last.1.1.1.1.1.0)
+rows : (k : tie.In-Whole) → (count k ≤ length k.list_file.new.blocks) × (count k ≤ length k.list_file.new.sizes)
 rows k =
-    let l = listing k in
-    (omega (arith, (held k).few, l.list-file.kept.1.1.1.1.0), omega (arith, (held k).few, l.list-file.kept.1.1.1.1.1.0))
+    (omega (arith, (held k).few, k.list_file.auto.blocks), omega (arith, (held k).few, k.list_file.auto.sizes))
 
-rows_long : (k : tie.After-known-told) → let l = listing k in
-    (length (take (count k) l.list-file.last.1.1.1.1.0) ≡ count k) × (length (take (count k) l.list-file.last.1.1.1.1.1.0) ≡ count k)
+rows_long : (k : tie.In-Whole) → (length (take (count k) k.list_file.new.blocks) ≡ count k) × (length (take (count k) k.list_file.new.sizes) ≡ count k)
 rows_long k = (length-take-le (count k) _ (rows k).0, length-take-le (count k) _ (rows k).1)
 
 -- what the file's blocks are
-told : (l : tie.After-list-file) (r : File) → l.list-file.result ≡ r → (ds : List Descriptor) → let a = (lent l).args in
+told : (l : tie.After-list_file) (r : File) → l.list_file.result ≡ r → (ds : List Descriptor) → let a = l.args in
     Holds a.image.now ds a.m a.tables.now
-    → file_blocks (by_place a.image.now) (placed_volume a.image.now ds) a.file ≡ file_of r l.list-file.new.1.1.1.1.0
+    → file_blocks (by_place a.image.now) (placed_volume a.image.now ds) a.file ≡ file_of r l.list_file.new.blocks
 told l r e ds h =
-    sym (l.list-file.ensures.1 (placed_volume (lent l).args.image.now ds) (block_rows_lent h)) ∙ ap (λ (q : File). file_of q l.list-file.new.1.1.1.1.0) e
+    sym (l.list_file.ensures.1 (placed_volume l.args.image.now ds) (block_rows_lent h)) ∙ ap (λ (q : File). file_of q l.list_file.new.blocks) e
 
-list-file-requires : tie.Need-list-file-requires
+list-file-requires : tie.Need-list_file-requires
 list-file-requires c κs =
-    let s = c.before.before.before.before.before.before.before.before.before.before in
-    (blocks_lent s.requires.0, (blocks_few s.requires.0, refl, refl))
+    (blocks_lent c.requires.0, (blocks_few c.requires.0, refl, refl))
 
-returns : tie.Need-returns
+returns : tie.Need-returns-in_default
 returns c =
-    let l = c.before.before.before.before in
-    let a = (lent l).args in
-    λ ds h d. in_broken a.image.now ds a.offset a.text.now a.file d (told l _ c.enum_told.given.1 ds h)
+    let a = c.args in
+    λ ds h d. in_broken a.image.now ds a.offset a.text.now a.file d (told c.before.before.before _ c.in_default.is ds h)
 
-returns-2 : tie.Need-returns-2
+returns-2 : tie.Need-returns-then-to-size
 returns-2 c =
-    let k = c.before in
-    let l = listing k in
-    let a = (lent l).args in
+    let a = c.args in
     λ ds h d.
-    in_past a.image.now ds a.offset a.text.now a.file d _ (told l _ k.before.n.given.1 ds h) (omega (arith, (held k).sized, c.if1.true))
+    in_past a.image.now ds a.offset a.text.now a.file d _ (told c.before.before.before.before _ c.in-Whole.is ds h) (omega (arith, (held c.before).sized, c.if-to-size.true))
 
-write-range-requires : tie.Need-write-range-requires
+write-range-requires : tie.Need-write_range-requires
 write-range-requires c κs =
-    let e = c.before.before.before in
-    let k = e.before in
-    let s = lent (listing k) in
-    let z = rows_sizes s.pre.0 (count k) (bytes k) _ _ (held k) in
-    (s.pre.0, ((held k).listed, (z.0, (omega (arith, (rows_long k).1, (held k).few), refl, omega (arith, z.1, e.if1.false)))))
+    let z = rows_sizes c.requires.0 (count c.before.before.before.before) (bytes c.before.before.before.before) _ _ (held c.before.before.before.before) in
+    (c.requires.0, ((held c.before.before.before.before).listed, (z.0, (omega (arith, (rows_long c.before.before.before.before).1, (held c.before.before.before.before).few), refl, omega (arith, z.1, c.if-to-size.false)))))
 
-returns-3 : tie.Need-returns-3
+returns-3 : tie.Need-returns
 returns-3 c =
-    let w = c.before.before in
-    let e = w.before.before.before.before in
-    let k = e.before in
-    let l = listing k in
-    let a = (lent l).args in
+    let a = c.args in
     λ ds h d.
-    let b = told l _ k.before.n.given.1 ds h in
-    in_written a.image.now ds a.offset a.text.now a.file d _ b (omega (arith, (held k).sized, e.if1.false)) _ _
-    (w.write-range.ensures ds h (all_placed a.image.now ds a.offset a.text.now a.file d _ b))
+    let b = told c.before.before.before.before.before.before.before.before.before.before _ c.in-Whole.is ds h in
+    in_written a.image.now ds a.offset a.text.now a.file d _ b (omega (arith, (held c.before.before.before.before.before.before.before).sized, c.if-to-size.false)) _ _
+    (c.write_range.ensures ds h (all_placed a.image.now ds a.offset a.text.now a.file d _ b))
 
 pub overwrite_in_spec : {M : Type 1} → statement M
 overwrite_in_spec =

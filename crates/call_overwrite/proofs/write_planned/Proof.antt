@@ -12,60 +12,40 @@ use borrow.Author.Rules.{rules}
 use Rattle.call_overwrite.proofs.write_planned.Statement.{statement}
 use Rattle.call_overwrite.proofs.write_planned.Tie as tie
 
--- the arguments, from where the sequences were asked for; and that, from where the places were
-abbrev lent : tie.After-any-greatest → tie.Start
-lent g = g.before.before.before.before.before.before.before.before
-
-abbrev asked : tie.After-plan-versions → tie.After-any-greatest
-asked p = p.before.before.before.before
-
 -- the answer is about what the definition changes
-greatest-is : (g : tie.After-any-greatest) (ds : List Descriptor) → let a = (lent g).args in
-    g.any-greatest.result ≡ any_greatest a.image.now ds a.blocks.now a.range.from a.text.now
+greatest-is : (g : tie.After-any_greatest) (ds : List Descriptor) → let a = g.args in
+    g.any_greatest.result ≡ any_greatest a.image.now ds a.blocks.now a.range.from a.text.now
 unfolding changes
 greatest-is g ds =
-    let s = lent g in
-    let a = s.args in
-    rw (← s.pre.1.1.1.1) (g.any-greatest.ensures (text_after (map (bytes_at a.image.now) a.blocks.now) a.range.from a.text.now))
+    let a = g.args in
+    rw (← g.requires.1.1.1.1) (g.any_greatest.ensures (text_after (map (bytes_at a.image.now) a.blocks.now) a.range.from a.text.now))
 
-returns : tie.Need-returns
-returns c = λ ds h p. none_follows _ ds _ _ _ (sym (greatest-is c.before ds) ∙ c.if1.true)
+returns : tie.Need-returns-then-any_greatest
+returns c = λ ds h p. none_follows _ ds _ _ _ (sym (greatest-is c.before ds) ∙ c.if-any_greatest.true)
 
-none_last : (p : tie.After-plan-versions) (ds : List Descriptor) → let a = (lent (asked p)).args in
+none_last : (p : tie.After-plan_versions) (ds : List Descriptor) → let a = p.args in
     any_greatest a.image.now ds a.blocks.now a.range.from a.text.now ≡ false
-none_last p ds = sym (greatest-is (asked p) ds) ∙ p.before.before.before.if1.false
+none_last p ds = sym (greatest-is p.before.before.before ds) ∙ p.if-any_greatest.false
 
-returns-2 : tie.Need-returns-2
+returns-2 : tie.Need-returns-else-plan_versions
 returns-2 c =
-    let p = c.before.before.before in
-    let s = lent (asked p) in
-    let q = s.pre.1.1.1 in
-    λ ds h a. no_place_lem _ ds _ _ _ _ _ s.pre.1.0 q.1 q.2 (none_last p ds)
-    (planned_none _ p.plan-versions.result _ (p.plan-versions.ensures.0 ds h) c.if2.false)
+    let q = c.requires.1.1.1 in
+    λ ds h a. no_place_lem _ ds _ _ _ _ _ c.requires.1.0 q.1 q.2 (none_last c.before.before.before ds)
+    (planned_none _ c.plan_versions.result _ (c.plan_versions.ensures.0 ds h) c.if-plan_versions.false)
 
-abbrev placed : tie.Then2 → tie.After-plan-versions
-placed t = t.before.before.before
-
-store-versions-requires : tie.Need-store-versions-requires
+store-versions-requires : tie.Need-store_versions-requires
 store-versions-requires c κs =
-    let t = c.before.before in
-    let p = placed t in
-    let s = lent (asked p) in
-    let q = s.pre.1.1.1 in
-    storable _ _ _ _ _ _ s.pre.1.0 q.1 q.2 _ s.pre.1.1.0
-    (planned_inside (length s.args.image.now) _ p.plan-versions.result _ p.plan-versions.ensures.1 t.if2.true)
+    let q = c.requires.1.1.1 in
+    storable _ _ _ _ _ _ c.requires.1.0 q.1 q.2 _ c.requires.1.1.0
+    (planned_inside (length c.args.image.now) _ c.plan_versions.result _ c.plan_versions.ensures.1 c.if-plan_versions.true)
 
-returns-3 : tie.Need-returns-3
+returns-3 : tie.Need-returns
 returns-3 c =
-    let w = c.before.before in
-    let t = w.before.before.before in
-    let p = placed t in
-    let s = lent (asked p) in
-    let q = s.pre.1.1.1 in
+    let q = c.requires.1.1.1 in
     λ ds h a.
-    let e = planned_some _ p.plan-versions.result _ (p.plan-versions.ensures.0 ds h) t.if2.true in
-    all_stored _ ds _ _ _ _ _ s.pre.1.0 q.1 q.2 (none_last p ds) _ e _
-    (w.store-versions.ensures (fresh _ ds _ _ _ _ s.args.text.now s.pre.1.0 q.1 q.2 h a (λ after. sym ((asked p).any-greatest.ensures after) ∙ p.before.before.before.if1.left) _ e))
+    let e = planned_some _ c.plan_versions.result _ (c.plan_versions.ensures.0 ds h) c.if-plan_versions.true in
+    all_stored _ ds _ _ _ _ _ c.requires.1.0 q.1 q.2 (none_last c.before.before.before.before.before.before.before ds) _ e _
+    (c.store_versions.ensures (fresh _ ds _ _ _ _ c.args.text.now c.requires.1.0 q.1 q.2 h a (λ after. sym (c.any_greatest.ensures after) ∙ c.if-any_greatest.false) _ e))
 
 pub write_planned_spec : {M : Type 1} → statement M
 write_planned_spec =

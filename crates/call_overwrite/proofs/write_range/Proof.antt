@@ -8,26 +8,21 @@ use Rattle.calls.specs.Mount.{most_blocks}
 use Rattle.call_overwrite.proofs.write_range.Statement.{statement}
 use Rattle.call_overwrite.proofs.write_range.Tie as tie
 
--- the arguments
-abbrev start : tie.After-write-planned-arg → tie.Start
-start a = a.before.before.before.before.before.before
-
 -- the front of a fresh array is as long as is asked for
 front : (k n : ℕ) → n ≤ k → length {A = ℕ} (take n (replicate k 0)) ≡ n
 front k n h = length-take-le n (replicate k 0) (rw (length-replicate {A = ℕ} k 0) h)
 
-write-planned-requires : tie.Need-write-planned-requires
+write-planned-requires : tie.Need-write_planned-requires
 write-planned-requires c κs =
-    let s = start c.before in
-    let q = s.pre.1.1.1 in
-    (s.pre.0, (s.pre.1.0, (s.pre.1.1.0, (front most_blocks (length s.args.sizes.now) q.0, q.1, q.2))))
+    let q = c.requires.1.1.1 in
+    (c.requires.0, (c.requires.1.0, (c.requires.1.1.0, (front most_blocks (length c.args.sizes.now) q.0, q.1, q.2))))
 
 pub write_range_spec : {M : Type 1} → statement M
 write_range_spec =
     tie.close
     (tie.spec
-    (λ c. (start c).requires.1.1.1.0)
-    (λ c. let s = start c.before in sym (front most_blocks (length s.args.sizes.now) s.pre.1.1.1.0))
+    (λ c. c.requires.1.1.1.0)
+    (λ c. sym (front most_blocks (length c.args.sizes.now) c.requires.1.1.1.0))
     write-planned-requires
     (λ c. search rules)
     (λ c. search rules))

@@ -6,23 +6,23 @@ use Rattle.call_rename.proofs.moves_into_itself.Statement.{statement}
 use Rattle.call_rename.proofs.moves_into_itself.Tie as tie
 
 -- the arguments, from where the inode was no root
-abbrev start : tie.Else1 → tie.Start
+abbrev start : tie.Else-id-eq-ROOT → tie.Start
 start e = e.before.before.before
 
-returns : tie.Need-returns
+returns : tie.Need-returns-then-id-eq-ROOT
 returns c =
     let s = c.before.before.before in
-    λ ds h. into_root s.args.image.now ds s.args.id s.args.directory c.if1.true
+    λ ds h. into_root s.args.image.now ds s.args.id s.args.directory c.if-id-eq-ROOT.true
 
 -- the test, from where the rows were lent
-abbrev at_test : tie.After-in-lineage-arg2 → tie.Else1
+abbrev at_test : tie.After-in_lineage-arg-2-1 → tie.Else-id-eq-ROOT
 at_test c = c.before.before.before.before
 
-returns-2 : tie.Need-returns-2
+returns-2 : tie.Need-returns
 returns-2 c =
     let e = at_test c.before in
     let s = start e in
-    λ ds h. into_lineage s.args.image.now ds s.args.id s.args.directory e.if1.left _ _ (rows_lent h) c.in-lineage.result c.in-lineage.ensures
+    λ ds h. into_lineage s.args.image.now ds s.args.id s.args.directory e.if-id-eq-ROOT.false _ _ (rows_lent h) c.in_lineage.result c.in_lineage.ensures
 
 pub moves_into_itself_spec : {M : Type 1} → statement M
 moves_into_itself_spec =

@@ -9,74 +9,37 @@ use Rattle.call_rename.specs.Renaming.{rename_bad, rename_absent, rename_nowhere
 use Rattle.call_rename.proofs.rename_mounted.Statement.{statement}
 use Rattle.call_rename.proofs.rename_mounted.Tie as tie
 
--- the arguments, from where the new path was judged
-abbrev start : tie.After-is-below-root → tie.Start
-start b = b.before.before.before.before.before.before
-
 -- the new path has a last name
-below : (t : tie.Then1) → let s = start t.before in not_below s.args.base.now s.args.new.now ≡ false
-below t = let b = t.before in let s = start b in (below_named s.args.base.now s.args.new.now b.is-below-root.result b.is-below-root.ensures t.if1.true).0
+below : (t : tie.Then-is_below_root) → not_below t.args.base.now t.args.new.now ≡ false
+below t = (below_named t.args.base.now t.args.new.now t.is_below_root.result t.is_below_root.ensures t.if-is_below_root.true).0
 
-returns : tie.Need-returns
+returns : tie.Need-returns-else-is_below_root
 returns c =
-    let b = c.before in
-    let s = start b in
-    λ ds h. rename_bad h s.args.base.now s.args.old.now s.args.new.now (not_below_lem s.args.base.now s.args.new.now b.is-below-root.result b.is-below-root.ensures c.if1.false)
+    λ ds h. rename_bad h c.args.base.now c.args.old.now c.args.new.now (not_below_lem c.args.base.now c.args.new.now c.is_below_root.result c.is_below_root.ensures c.if-is_below_root.false)
 
--- the ways back: from the old path's inode to the test of the new path, and from the new parent to that inode
-abbrev at_test : tie.After-find-path → tie.Then1
-at_test f = f.before.before
-
-abbrev at_old : tie.After-found → tie.After-find-path
-at_old k = k.before.before
-
-abbrev at-found : tie.After-find-parent → tie.After-found
-at-found g = g.before.before.before
-
-abbrev at-parent : tie.After-above → tie.After-find-parent
-at-parent a = a.before.before
-
-returns-2 : tie.Need-returns-2
+returns-2 : tie.Need-returns-in_default
 returns-2 c =
-    let t = c.before in
-    let f = t.before.before in
-    let s = start (at_test f).before in
-    λ ds h. rename_absent h s.args.base.now s.args.old.now s.args.new.now (below (at_test f))
-    (meaning f.find-path.result) (f.find-path.ensures.0 ds h)
-    t.enum_told.given.0.0 (ap meaning t.enum_told.given.1) c.refusal.result c.refusal.ensures
+    λ ds h. rename_absent h c.args.base.now c.args.old.now c.args.new.now (below c.before.before.before)
+    (meaning c.find_path-found.result) (c.find_path-found.ensures.0 ds h)
+    c.in_default.field-0 (ap meaning c.in_default.is) c.refusal.result c.refusal.ensures
 
-returns-3 : tie.Need-returns-3
+returns-3 : tie.Need-returns-in_default-above
 returns-3 c =
-    let t = c.before in
-    let g = t.before.before in
-    let k = at-found g in
-    let f = at_old k in
-    let s = start (at_test f).before in
-    λ ds h. rename_nowhere h s.args.base.now s.args.old.now s.args.new.now (below (at_test f))
-    (meaning f.find-path.result) (f.find-path.ensures.0 ds h) k.found.given.0.0 (ap meaning k.found.given.1)
-    (meaning g.find-parent.result) (g.find-parent.ensures.0 ds h)
-    t.enum-told2.given.0.0 (ap meaning t.enum-told2.given.1) c.refusal2.result c.refusal2.ensures
+    λ ds h. rename_nowhere h c.args.base.now c.args.old.now c.args.new.now (below c.before.before.before.before.before)
+    (meaning c.find_path-found.result) (c.find_path-found.ensures.0 ds h) c.in-Inode.id (ap meaning c.in-Inode.is)
+    (meaning c.find_parent-above.result) (c.find_parent-above.ensures.0 ds h)
+    c.in_default-above.field-0 (ap meaning c.in_default-above.is) c.refusal-in_default-above.result c.refusal-in_default-above.ensures
 
-last-name-requires : tie.Need-last-name-requires
+last-name-requires : tie.Need-last_name-name-requires
 last-name-requires c κs =
-    let a = c.before in
-    let g = at-parent a in
-    let s = start (at_test (at_old (at-found g))).before in
-    below_found s.args.base.now s.args.new.now g.find-parent.result g.find-parent.ensures.1 a.above.given.0.0 _ a.above.given.1
+    below_found c.args.base.now c.args.new.now c.find_parent-above.result c.find_parent-above.ensures.1 c.in-Inode-above.directory _ c.in-Inode-above.is
 
-returns-4 : tie.Need-returns-4
+returns-4 : tie.Need-returns
 returns-4 c =
-    let w = c.before.before in
-    let n = w.before.before in
-    let a = n.before.before in
-    let g = at-parent a in
-    let k = at-found g in
-    let f = at_old k in
-    let s = start (at_test f).before in
-    λ ds h. rename_moved h s.args.base.now s.args.old.now s.args.new.now (below (at_test f))
-    (meaning f.find-path.result) (f.find-path.ensures.0 ds h) k.found.given.0.0 (ap meaning k.found.given.1)
-    (meaning g.find-parent.result) (g.find-parent.ensures.0 ds h) a.above.given.0.0 (ap meaning a.above.given.1)
-    _ n.last_name.ensures.0 w.move-inode.result _ (w.move-inode.ensures ds h)
+    λ ds h. rename_moved h c.args.base.now c.args.old.now c.args.new.now (below c.before.before.before.before.before.before.before.before.before)
+    (meaning c.find_path-found.result) (c.find_path-found.ensures.0 ds h) c.in-Inode.id (ap meaning c.in-Inode.is)
+    (meaning c.find_parent-above.result) (c.find_parent-above.ensures.0 ds h) c.in-Inode-above.directory (ap meaning c.in-Inode-above.is)
+    _ c.last_name-name.ensures.0 c.move_inode.result _ (c.move_inode.ensures ds h)
 
 pub rename_mounted_spec : {M : Type 1} → statement M
 rename_mounted_spec =

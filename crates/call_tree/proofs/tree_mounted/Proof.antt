@@ -16,71 +16,57 @@ use Rattle.call_tree.specs.Outcome.{found_inode, root_found, rows_list, entries_
 use Rattle.call_tree.proofs.tree_mounted.Statement.{statement}
 use Rattle.call_tree.proofs.tree_mounted.Tie as tie
 
--- the arguments
-abbrev start : tie.After-find → tie.Start
-start c = c.before.before.before.before.before.before.before.before.before.before.before
-
 -- what was found for the root
-root_is : (c : tie.After-find) → let a = (start c).args in let t = a.tables.now in let n = a.m.inodes in
+root_is : (c : tie.After-find) → let a = c.args in let t = a.tables.now in let n = a.m.inodes in
     spot_of c.find.result
     ≡ found (length (take (inode_ids_at + n - inode_ids_at) (drop inode_ids_at t))) (take (inode_ids_at + n - inode_ids_at) (drop inode_ids_at t)) (take (inode_spots_at + n - inode_spots_at) (drop inode_spots_at t)) root_id
 root_is c = c.find.ensures
 
 -- is its inode, where the tables hold the volume
-root_counts : (c : tie.After-find) → let a = (start c).args in (ds : _) → Holds a.image.now ds a.m a.tables.now
+root_counts : (c : tie.After-find) → let a = c.args in (ds : _) → Holds a.image.now ds a.m a.tables.now
     → inode_of (by_place a.image.now) (placed_volume a.image.now ds) root_id ≡ spot_of c.find.result
 root_counts c ds h = (rows_lent h).counts root_id ∙ sym (root_is c)
 
 -- there is a row for each inode
-as_many : (c : tie.After-find) → let a = (start c).args in
+as_many : (c : tie.After-find) → let a = c.args in
     length (take (inode_spots_at + a.m.inodes - inode_spots_at) (drop inode_spots_at a.tables.now)) ≡ a.m.inodes
 as_many c =
-    let s = start c in
-    let t = s.args.tables.now in
-    let n = s.args.m.inodes in
-    omega (arith, length-take (inode_spots_at + n - inode_spots_at) (drop inode_spots_at t), length-drop inode_spots_at t, s.pre.0.long, s.pre.0.inodes_few)
+    let t = c.args.tables.now in
+    let n = c.args.m.inodes in
+    omega (arith, length-take (inode_spots_at + n - inode_spots_at) (drop inode_spots_at t), length-drop inode_spots_at t, c.requires.0.long, c.requires.0.inodes_few)
 
-returns : tie.Need-returns
+returns : tie.Need-returns-in_default
 returns c =
-    let t = c.before in
-    let f = t.before.before in
-    λ ds h. absurd (root_found (start f).args.image.now ds h.number (root_counts f ds h ∙ ap spot_of t.enum_told.given.1))
+    λ ds h. absurd (root_found c.args.image.now ds h.number (root_counts c.before.before ds h ∙ ap spot_of c.in_default.is))
 
-show-ordered-requires : tie.Need-show-ordered-requires
+show-ordered-requires : tie.Need-show_ordered-length-requires
 show-ordered-requires c κs =
-    let r = c.before.before.before.before.before in
-    let f = r.before.before in
-    let s = start f in
-    let t = inodes_lent s.pre.0 in
-    let l = as_many f in (
+    let t = inodes_lent c.requires.0 in
+    let l = as_many c.before.before.before.before.before in (
       table_inodes t,
       (
-        omega (arith, l, s.pre.0.inodes_few),
+        omega (arith, l, c.requires.0.inodes_few),
         (
-          blocks_lent s.pre.0,
+          blocks_lent c.requires.0,
           (
-            blocks_few s.pre.0,
+            blocks_few c.requires.0,
             (
-              omega (arith, l, s.pre.0.inodes_few, s.pre.1),
-              found_inode t root_id r.root.given.0.0 (sym (root_is f) ∙ ap spot_of r.root.given.1),
+              omega (arith, l, c.requires.0.inodes_few, c.requires.1),
+              found_inode t root_id c.in-At.root (sym (root_is c.before.before.before.before.before) ∙ ap spot_of c.in-At.is),
             ),
           ),
         ),
       ),
     )
 
-returns-2 : tie.Need-returns-2
+returns-2 : tie.Need-returns
 returns-2 c =
-    let w = c.before.before.before.before in
-    let r = w.before.before.before.before.before.before in
-    let f = r.before.before in
-    let s = start f in
-    let image = s.args.image.now in
+    let image = c.args.image.now in
     λ ds h. tree_answers image ds h.number _ _ _
-    (w.show-ordered.ensures.1 (placed_volume image ds)
-    (rows_list image (placed_volume image ds) _ _ _ _ (inodes_lent s.pre.0).usable.pairs (rows_lent h) (block_rows_lent h))
-    (root_counts f ds h ∙ ap spot_of r.root.given.1)
-    (omega (arith, as_many f, entries_few image ds, inodes_number s.pre.0 h)))
+    (c.show_ordered-length.ensures.1 (placed_volume image ds)
+    (rows_list image (placed_volume image ds) _ _ _ _ (inodes_lent c.requires.0).usable.pairs (rows_lent h) (block_rows_lent h))
+    (root_counts c.before.before.before.before.before.before.before.before.before.before ds h ∙ ap spot_of c.in-At.is)
+    (omega (arith, as_many c.before.before.before.before.before.before.before.before.before.before, entries_few image ds, inodes_number c.requires.0 h)))
 
 pub tree_mounted_spec : {M : Type 1} → statement M
 tree_mounted_spec =
@@ -96,7 +82,7 @@ tree_mounted_spec =
     (λ c. search rules)
     (λ c. search rules)
     (λ c. search rules)
-    (λ c κs. (inodes_lent c.before.before.before.before.before.before.before.before.before.before.requires.0).usable.pairs)
+    (λ c κs. (inodes_lent c.requires.0).usable.pairs)
     (λ c. search rules)
     (λ c. search rules)
     (λ c κs. search rules)
@@ -108,7 +94,7 @@ tree_mounted_spec =
     (λ c. search rules)
     (λ c. search rules)
     show-ordered-requires
-    (λ c. record { fits = omega (arith, c.before.before.before.before.show-ordered.ensures.0) })
-    (λ c. c.before.before.before.before.show-ordered.auto.1.1.1.1.0)
-    (λ c. c.before.before.before.before.show-ordered.auto.1.1.1.1.1.0)
+    (λ c. record { fits = omega (arith, c.show_ordered-length.ensures.0) })
+    (λ c. c.show_ordered-length.auto.order)
+    (λ c. c.show_ordered-length.auto.text)
     returns-2)

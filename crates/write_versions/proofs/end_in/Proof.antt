@@ -10,5 +10,5 @@ end_in_spec =
     (tie.spec
     (λ c. search rules)
     (λ c. search rules)
-    (λ c. omega (arith, c.if1.true))
-    (λ c. omega (arith, c.if1.false)))
+    (λ c. omega (arith, c.if-s-n.true))
+    (λ c. omega (arith, c.if-s-n.false)))

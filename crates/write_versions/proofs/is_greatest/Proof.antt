@@ -8,15 +8,15 @@ use borrow.Author.Rules.{rules}
 use Rattle.write_versions.proofs.is_greatest.Statement.{statement}
 use Rattle.write_versions.proofs.is_greatest.Tie as tie
 
-returns : tie.Need-returns
+returns : tie.Need-returns-then-holds
 returns c =
     let t = c.before in
     let s = t.before.before.before in
-    rw (sym t.before.holds.ensures ∙ t.if1.true, (place_views s.args.image.now).sequence s.args.p, c.sequence-at.ensures)
+    rw (sym t.before.holds.ensures ∙ t.if-holds.true, (place_views s.args.image.now).sequence s.args.p, c.sequence_at.ensures)
     (eqb_comm ((by_place s.args.image.now).sequence s.args.p) last_sequence)
 
-returns-2 : tie.Need-returns-2
-returns-2 c = rw (sym c.before.holds.ensures ∙ c.if1.false)
+returns-2 : tie.Need-returns
+returns-2 c = rw (sym c.before.holds.ensures ∙ c.if-holds.false)
 
 pub is_greatest_spec : {M : Type 1} → statement M
 is_greatest_spec = tie.close (tie.spec (λ c κs. search rules) (λ c κs. search rules) returns returns-2)

@@ -6,14 +6,8 @@ use Rattle.write_versions.proofs.store_version.Tie as tie
 
 returns : tie.Need-returns
 returns c =
-    let w = c.before.before in
-    let previous = w.before.before in
-    let owner = previous.before.before in
-    let next = owner.before.before in
-    let sequence = next.before in
-    let id = sequence.before.before in
-    λ v. version_stored v _ _ id.load32.result sequence.load322.result next.next-sequence.result owner.load323.result previous.load324.result _
-    id.load32.ensures sequence.load322.ensures owner.load323.ensures previous.load324.ensures next.next-sequence.ensures w.write-changed.ensures
+    λ v. version_stored v _ _ c.load32.result c.load32-2.result c.next_sequence.result c.load32-3.result c.load32-4.result _
+    c.load32.ensures c.load32-2.ensures c.load32-3.ensures c.load32-4.ensures c.next_sequence.ensures c.write_changed.ensures
 
 pub store_version_spec : {M : Type 1} → statement M
 store_version_spec =
