@@ -112,6 +112,7 @@ module _ (image : Bytes) (s : Descriptor) where
       → (keep near (places_in image fs) ≡ record_places s.offset (records_of image s))
       × (keep far (places_in image fs) ≡ places_in image (keep (is_other s) fs))
   unfolding places_in keep is_other
+  parted [] t long m = elim m [ ]
   parted (d ∷ fs) t long (Memᴰ.head e) =
       let apart : (x : Descriptor) → Memᴰ x fs → Clear x s = λ x m. clear_sym s x (rw (sym e) at ((split_first d fs t).0 x m)) in
       let pos : 0 < s.length = rw e (long d (Memᴰ.head refl)) in

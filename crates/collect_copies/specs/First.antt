@@ -88,6 +88,7 @@ module _ (image : Bytes) where
 
   pub first_mem : (l : List ℕ) {p : ℕ} → Memᴰ p (first_at image l) → Memᴰ p l
   unfolding first_at
+  first_mem [] {p = p} m = elim m [ ]
   first_mem (q ∷ l) (Memᴰ.head e) = Memᴰ.head e
   first_mem (q ∷ l) (Memᴰ.tail m) = Memᴰ.tail (first_mem l (keep_mem _ (first_at image l) m).0)
 

@@ -15,6 +15,7 @@ use Rattle.collect_copies.specs.First.{first_snoc, first_mem, few_copied}
 
 -- the records at the places of a list lie in the image
 lies_mem : (image : Bytes) (ps : List ℕ) → AllLie image ps (length ps) → {p : ℕ} → Memᴰ p ps → Lies image p
+lies_mem image [] h {p = p} m = elim m [ ]
 lies_mem image (q ∷ ps) h (Memᴰ.head e) = rw e (h 0 (omega arith))
 lies_mem image (q ∷ ps) h (Memᴰ.tail m) = lies_mem image ps (λ i l. h (suc i) (omega arith)) m
 

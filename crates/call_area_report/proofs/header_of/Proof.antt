@@ -14,45 +14,31 @@ use borrow.Author.Rules.{rules}
 use Rattle.call_area_report.proofs.header_of.Statement.{statement}
 use Rattle.call_area_report.proofs.header_of.Tie as tie
 
--- the kind, and the arguments
-abbrev at-kind : tie.After-wide2 → tie.After-area-kind
-at-kind w = w.before.before.before.before
-
-abbrev start : tie.After-area-kind → tie.Start
-start k = k.before.before
-
 -- a good area is longer than its header
-header : (k : tie.After-area-kind) → (start k).args.offset + area_header_size ≤ length (start k).args.image.now
+header : (k : tie.After-area_kind-kind) → k.args.offset + area_header_size ≤ length k.args.image.now
 header k =
-    let s = start k in
-    let f = fits (length s.args.image.now) (area_of s.args.offset s.args.span) s.pre in
+    let f = fits (length k.args.image.now) (area_of k.args.offset k.args.span) k.requires in
     omega (arith, f.long, f.inside)
 
-id_is : (w : tie.After-wide2) → let s = start (at-kind w) in w.before.before.wide.result ≡ id_of s.args.image.now (area_of s.args.offset s.args.span)
+id_is : (w : tie.After-wide-count) → w.wide-id.result ≡ id_of w.args.image.now (area_of w.args.offset w.args.span)
 id_is w =
-    let x = w.before.before in
-    let s = start (at-kind w) in
-    x.wide.ensures.0 ∙ x.before.area-id.ensures.is s.args.span (omega (arith, (fits (length s.args.image.now) (area_of s.args.offset s.args.span) s.pre).long))
+    w.wide-id.ensures.0 ∙ w.area_id.ensures.is w.args.span (omega (arith, (fits (length w.args.image.now) (area_of w.args.offset w.args.span) w.requires).long))
 
-count_is : (w : tie.After-wide2) → let s = start (at-kind w) in w.wide2.result ≡ count_of s.args.image.now (area_of s.args.offset s.args.span)
+count_is : (w : tie.After-wide-count) → w.wide-count.result ≡ count_of w.args.image.now (area_of w.args.offset w.args.span)
 count_is w =
-    let s = start (at-kind w) in
-    w.wide2.ensures.0 ∙ w.before.area_count.ensures.is s.args.span (omega (arith, (fits (length s.args.image.now) (area_of s.args.offset s.args.span) s.pre).long))
+    w.wide-count.ensures.0 ∙ w.area_count.ensures.is w.args.span (omega (arith, (fits (length w.args.image.now) (area_of w.args.offset w.args.span) w.requires).long))
 
-returns : tie.Need-returns
+returns : tie.Need-returns-in-File
 returns c =
-    let w = c.before.before in
-    says _ _ File (sym (at-kind w).area-kind.ensures ∙ c.enum_told.given.1) _ _ (id_is w) (count_is w)
+    says _ _ File (sym c.area_kind-kind.ensures ∙ c.in-File.is) _ _ (id_is c.before) (count_is c.before)
 
-returns-2 : tie.Need-returns-2
+returns-2 : tie.Need-returns-in-Scratch
 returns-2 c =
-    let w = c.before.before in
-    says _ _ Scratch (sym (at-kind w).area-kind.ensures ∙ c.enum-told2.given.1) _ _ (id_is w) (count_is w)
+    says _ _ Scratch (sym c.area_kind-kind.ensures ∙ c.in-Scratch.is) _ _ (id_is c.before) (count_is c.before)
 
-returns-3 : tie.Need-returns-3
+returns-3 : tie.Need-returns-in-Invalid
 returns-3 c =
-    let w = c.before.before in
-    says _ _ Invalid (sym (at-kind w).area-kind.ensures ∙ c.enum-told3.given.1) _ _ (id_is w) (count_is w)
+    says _ _ Invalid (sym c.area_kind-kind.ensures ∙ c.in-Invalid.is) _ _ (id_is c.before) (count_is c.before)
 
 pub header_of_spec : {M : Type 1} → statement M
 header_of_spec =

@@ -15,40 +15,28 @@ use Rattle.call_collect.specs.Mounted.{source_none, source_some}
 use Rattle.call_collect.proofs.collect_mounted.Statement.{statement}
 use Rattle.call_collect.proofs.collect_mounted.Tie as tie
 
--- the arguments, from where the source was chosen
-abbrev start : tie.After-choose-source → tie.Start
-start k = k.before.before.before.before.before.before.before
-
 -- what was chosen
-chosen : (k : tie.After-choose-source) → let a = (start k).args in
-    area_at (starts_in a.m a.tables.now) (spans_in a.m a.tables.now) k.choose-source.result
+chosen : (k : tie.After-choose_source-source) → let a = k.args in
+    area_at (starts_in a.m a.tables.now) (spans_in a.m a.tables.now) k.choose_source-source.result
     ≡ source_of a.image.now (described (starts_in a.m a.tables.now) (spans_in a.m a.tables.now)) a.m.scratch
 chosen k =
-    let a = (start k).args in
-    both (λ (x y : List ℕ). area_at x y k.choose-source.result ≡ source_of a.image.now (described x y) a.m.scratch)
-    (sym (lent_front a.m.files a.tables.now)) (sym (lent spans_at a.m.files a.tables.now)) k.choose-source.ensures
+    let a = k.args in
+    both (λ (x y : List ℕ). area_at x y k.choose_source-source.result ≡ source_of a.image.now (described x y) a.m.scratch)
+    (sym (lent_front a.m.files a.tables.now)) (sym (lent spans_at a.m.files a.tables.now)) k.choose_source-source.ensures
 
-collect-from-requires : tie.Need-collect-from-requires
+collect-from-requires : tie.Need-collect_from-requires
 collect-from-requires c κs =
-    let t = c.before in
-    let s = start t.before in
-    (s.pre.0, (s.pre.1, t.if1.true))
+    (c.requires.0, (c.requires.1, c.if-source-n.true))
 
-returns : tie.Need-returns
+returns : tie.Need-returns-then-source-n
 returns c =
-    let w = c.before.before in
-    let t = w.before.before in
-    let k = t.before in
-    let s = start k in
     λ ds h p.
-    let e = w.collect-from.ensures ds h p in
-    source_some h s.pre.0 k.choose-source.result (chosen k) t.if1.true _ _ e.0 e.1
+    let e = c.collect_from.ensures ds h p in
+    source_some h c.requires.0 c.choose_source-source.result (chosen c.before.before.before.before.before) c.if-source-n.true _ _ e.0 e.1
 
-returns-2 : tie.Need-returns-2
+returns-2 : tie.Need-returns
 returns-2 c =
-    let k = c.before in
-    let s = start k in
-    λ ds h p. source_none h s.pre.0 k.choose-source.result (chosen k) (omega (arith, c.if1.false))
+    λ ds h p. source_none h c.requires.0 c.choose_source-source.result (chosen c.before) (omega (arith, c.if-source-n.false))
 
 pub collect_mounted_spec : {M : Type 1} → statement M
 collect_mounted_spec =
@@ -61,7 +49,7 @@ collect_mounted_spec =
     (λ c. search rules)
     (λ c. search rules)
     (λ c. search rules)
-    (λ c κs. fit_lent c.before.before.before.before.before.before.requires.0)
+    (λ c κs. fit_lent c.requires.0)
     collect-from-requires
     (λ c. search rules)
     returns

@@ -8,29 +8,24 @@ use Rattle.call_format.proofs.format.Statement.{statement}
 use Rattle.call_format.proofs.format.Tie as tie
 
 -- the pairs that are lent
-front : (g : tie.After-count-good-areas) → g.count-good-areas.result * 2 - 0 ≡ g.count-good-areas.result * 2
+front : (g : tie.After-count_good_areas-n) → g.count_good_areas-n.result * 2 - 0 ≡ g.count_good_areas-n.result * 2
 front g = omega arith
 
-returns : tie.Need-returns
-returns c = let g = c.before in format_bad _ _ _ g.count-good-areas.ensures c.if1.true
+returns : tie.Need-returns-then-n-eq0
+returns c = format_bad _ _ _ c.count_good_areas-n.ensures c.if-n-eq0.true
 
-returns-2 : tie.Need-returns-2
-returns-2 c = let g = c.before.before in format_few _ _ _ g.count-good-areas.ensures c.before.if1.false c.if2.true
+returns-2 : tie.Need-returns-then-n-eq1
+returns-2 c = format_few _ _ _ c.count_good_areas-n.ensures c.if-n-eq0.false c.if-n-eq1.true
 
-format-areas-requires : tie.Need-format-areas-requires
+format-areas-requires : tie.Need-format_areas-requires
 format-areas-requires c κs =
-    let t = c.before.before in
-    let g = t.before.before in
-    rw (front g)
-    (format_lent _ _ _ g.count-good-areas.ensures t.before.if1.false t.if2.false)
+    rw (front c.before.before.before.before)
+    (format_lent _ _ _ c.count_good_areas-n.ensures c.if-n-eq0.false c.if-n-eq1.false)
 
-returns-3 : tie.Need-returns-3
+returns-3 : tie.Need-returns
 returns-3 c =
-    let f = c.before.before in
-    let t = f.before.before.before in
-    let g = t.before.before in
-    format_done _ _ _ g.count-good-areas.ensures t.before.if1.false t.if2.false _
-    (rw (front g) at f.format-areas.ensures)
+    format_done _ _ _ c.count_good_areas-n.ensures c.if-n-eq0.false c.if-n-eq1.false _
+    (rw (front c.before.before.before.before.before.before.before) at c.format_areas.ensures)
 
 pub format_spec : {M : Type 1} → statement M
 format_spec =

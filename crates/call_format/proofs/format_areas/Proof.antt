@@ -6,19 +6,14 @@ use borrow.Author.Rules.{rules}
 use Rattle.call_format.proofs.format_areas.Statement.{statement}
 use Rattle.call_format.proofs.format_areas.Tie as tie
 
-write-root-requires : tie.Need-write-root-requires
+write-root-requires : tie.Need-write_root-requires
 write-root-requires c κs =
-    let w = c.before.before.before in
-    let s = w.before.before.before.before.before in
-    (lent_kept w.write-areas.auto.0 s.requires.0, s.requires.1)
+    (lent_kept c.write_areas.auto.image c.requires.0, c.requires.1)
 
 returns : tie.Need-returns
 unfolding formatted
 returns c =
-    let r = c.before.before in
-    let w = r.before.before.before.before in
-    let m = w.before.before in
-    r.write_root.ensures ∙ rw (w.write-areas.ensures, m.longest.ensures)
+    c.write_root.ensures ∙ rw (c.write_areas.ensures, c.longest-most.ensures)
 
 pub format_areas_spec : {M : Type 1} → statement M
 format_areas_spec =

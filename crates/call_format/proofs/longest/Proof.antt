@@ -6,20 +6,20 @@ use Rattle.call_format.specs.Areas.{Growing, growing_begins, growing_longer, gro
 use Rattle.call_format.proofs.longest.Statement.{statement}
 use Rattle.call_format.proofs.longest.Tie as tie
 
-abbrev invariant-loop : tie.invariant-loop
+abbrev invariant-loop : tie.invariant-loop-i
 invariant-loop pairs most₀ i₀ most i = Growing pairs most i
 
-abbrev decreases-loop : tie.decreases-loop
+abbrev decreases-loop : tie.decreases-loop-i
 decreases-loop pairs most₀ i₀ most i = length pairs - i
 
-loop-again : tie.Need-loop-preserved invariant-loop decreases-loop
-loop-again c = let l = c.before.before in growing_longer _ _ _ l.before.loop.invariant (omega arith) c.if1.true
+loop-again : tie.Need-loop-i-preserved-then-most-length invariant-loop decreases-loop
+loop-again c = let l = c.before.before in growing_longer _ _ _ l.before.loop-i.invariant (omega arith) c.if-most-length.true
 
-loop-again-2 : tie.Need-loop-preserved-2 invariant-loop decreases-loop
-loop-again-2 c = let l = c.before.before in growing_not _ _ _ l.before.loop.invariant (omega arith) (omega (arith, c.if1.false))
+loop-again-2 : tie.Need-loop-i-preserved invariant-loop decreases-loop
+loop-again-2 c = let l = c.before.before in growing_not _ _ _ l.before.loop-i.invariant (omega arith) (omega (arith, c.if-most-length.false))
 
 returns : tie.Need-returns invariant-loop decreases-loop
-returns c = growing_ends _ _ _ c.before.loop.invariant (omega (arith, c.loop-test.false))
+returns c = growing_ends _ _ _ c.before.loop-i.invariant (omega (arith, c.loop-i-test.false))
 
 pub longest_spec : {M : Type 1} → statement M
 longest_spec =

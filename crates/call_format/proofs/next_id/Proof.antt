@@ -4,11 +4,11 @@ use borrow.Author.Rules.{rules}
 use Rattle.call_format.proofs.next_id.Statement.{statement}
 use Rattle.call_format.proofs.next_id.Tie as tie
 
-sub-result : tie.Need-overflow-sub-result
-sub-result c = omega (arith, c.before.before.requires.1 c.if2.true)
+sub-result : tie.Need-overflow_sub-result
+sub-result c = omega (arith, c.before.before.requires.1 c.if-placed.true)
 
-returns-2 : tie.Need-returns-2
-returns-2 c = simp (c.before.if1.false, c.if2.true)
+returns-2 : tie.Need-returns-then-placed
+returns-2 c = simp (c.before.if-scratch.false, c.if-placed.true)
 
 pub next_id_spec : {M : Type 1} → statement M
 next_id_spec =

@@ -10,57 +10,39 @@ use borrow.Author.Rules.{rules}
 use Rattle.call_format.proofs.write_areas.Statement.{statement}
 use Rattle.call_format.proofs.write_areas.Tie as tie
 
-abbrev invariant-loop : tie.invariant-loop
+abbrev invariant-loop : tie.invariant-loop-i
 invariant-loop image₀ pairs most placed₀ i₀ image placed i = Writing image₀ pairs most image placed i
 
-abbrev decreases-loop : tie.decreases-loop
+abbrev decreases-loop : tie.decreases-loop-i
 decreases-loop image₀ pairs most placed₀ i₀ image placed i = length pairs - i
 
-abbrev start : tie.At-loop invariant-loop decreases-loop → tie.Start invariant-loop decreases-loop
-start l = l.before.before.before
-
-loop-holds : tie.Need-loop-init invariant-loop decreases-loop
+loop-holds : tie.Need-loop-i-init invariant-loop decreases-loop
 loop-holds c = writing_begins _ _ _
 
 -- the area of a turn is in the list, has room for its header and lies in the image
-module _ (c : tie.In-loop invariant-loop decreases-loop) where
-  here : c.before.loop.i * 2 + 1 < length (start c.before).args.pairs.now
-  here = omega (arith, c.loop-test.true)
+module _ (c : tie.In-loop-i invariant-loop decreases-loop) where
+  here : c.loop-i.i * 2 + 1 < length c.args.pairs.now
+  here = omega (arith, c.loop-i-test.true)
 
-  room : (get_or (start c.before).args.pairs.now (c.before.loop.i * 2) 0 + get_or (start c.before).args.pairs.now (c.before.loop.i * 2 + 1) 0 ≤ length c.before.loop.image)
-      × (area_header_size ≤ get_or (start c.before).args.pairs.now (c.before.loop.i * 2 + 1) 0) × (length c.before.loop.image ≤ largest_image)
-  room = writing_room _ _ _ _ _ _ c.before.loop.invariant (start c.before).pre here
+  room : (get_or c.args.pairs.now (c.loop-i.i * 2) 0 + get_or c.args.pairs.now (c.loop-i.i * 2 + 1) 0 ≤ length c.loop-i.image)
+      × (area_header_size ≤ get_or c.args.pairs.now (c.loop-i.i * 2 + 1) 0) × (length c.loop-i.image ≤ largest_image)
+  room = writing_room _ _ _ _ _ _ c.loop-i.invariant c.requires here
 
--- the turn, from where the area was written
-abbrev written : tie.After-write-area invariant-loop decreases-loop → tie.After-is-scratch invariant-loop decreases-loop
-written w = w.before.before.before
+write-area-requires : tie.Need-write_area-requires invariant-loop decreases-loop
+write-area-requires c κs = room c.before.before.before.before.before
 
-abbrev turn : tie.After-is-scratch invariant-loop decreases-loop → tie.In-loop invariant-loop decreases-loop
-turn s = s.before.before.before
-
-write-area-requires : tie.Need-write-area-requires invariant-loop decreases-loop
-write-area-requires c κs = room (turn c.before.before)
-
-loop-again : tie.Need-loop-preserved invariant-loop decreases-loop
+loop-again : tie.Need-loop-i-preserved-then-scratch invariant-loop decreases-loop
 loop-again c =
-    let w = c.before.before.before in
-    let s = written w in
-    let n = turn s in
-    let l = n.before in
-    rw (w.write-area.ensures, w.before.next_id.ensures, c.if1.true)
-    (writing_scratch _ _ _ _ _ _ l.loop.inv (start l).pre (here n) (sym s.is-scratch.ensures ∙ c.if1.true))
+    rw (c.write_area.ensures, c.next_id.ensures, c.if-scratch.true)
+    (writing_scratch _ _ _ _ _ _ c.loop-i.invariant c.requires (here c.before.before.before.before.before.before.before.before.before) (sym c.is_scratch-scratch.ensures ∙ c.if-scratch.true))
 
-loop-again-2 : tie.Need-loop-preserved-2 invariant-loop decreases-loop
+loop-again-2 : tie.Need-loop-i-preserved invariant-loop decreases-loop
 loop-again-2 c =
-    let w = c.before.before.before in
-    let s = written w in
-    let n = turn s in
-    let l = n.before in
-    rw (w.write-area.ensures, w.before.next_id.ensures, c.if1.false)
-    (writing_file _ _ _ _ _ _ l.loop.inv (start l).pre (here n) (sym s.is-scratch.ensures ∙ c.if1.false))
+    rw (c.write_area.ensures, c.next_id.ensures, c.if-scratch.false)
+    (writing_file _ _ _ _ _ _ c.loop-i.invariant c.requires (here c.before.before.before.before.before.before.before.before.before) (sym c.is_scratch-scratch.ensures ∙ c.if-scratch.false))
 
 returns : tie.Need-returns invariant-loop decreases-loop
-returns c = writing_ends _ _ _ _ _ _ c.before.loop.invariant (start c.before).pre (omega (arith, c.loop-test.false))
+returns c = writing_ends _ _ _ _ _ _ c.loop-i.invariant c.requires (omega (arith, c.loop-i-test.false))
 
 pub write_areas_spec : {M : Type 1} → statement M
 write_areas_spec =
@@ -85,5 +67,5 @@ write_areas_spec =
     (λ c. omega arith)
     (λ c. omega arith)
     loop-again-2
-    (λ c. c.before.loop.invariant.long)
+    (λ c. c.loop-i.invariant.long)
     returns)

@@ -9,22 +9,18 @@ use Rattle.call_read.proofs.lookup_answer.Statement.{statement}
 use Rattle.call_read.proofs.lookup_answer.Tie as tie
 
 -- the kind told is that of the id
-kind : (k : tie.After-found) → k.found.given.0.1.0 ≡ is_directory_id k.found.given.0.0
-kind k = subst Kinded k.found.given.1 k.before.before.requires
+kind : (k : tie.In-Inode) → k.in-Inode.directory ≡ is_directory_id k.in-Inode.id
+kind k = subst Kinded k.in-Inode.is k.requires
 
-returns : tie.Need-returns
+returns : tie.Need-returns-in_default
 returns c =
-    let r = c.before in
-    let e = r.before in
     c.looked_up.ensures
-    ∙ lookup_absent (meaning e.before.before.args.found) e.enum_told.given.0.0 (ap meaning e.enum_told.given.1) r.refusal.result r.refusal.ensures
+    ∙ lookup_absent (meaning c.args.found) c.in_default.field-0 (ap meaning c.in_default.is) c.refusal.result c.refusal.ensures
 
-returns-2 : tie.Need-returns-2
+returns-2 : tie.Need-returns
 returns-2 c =
-    let n = c.before in
-    let k = n.before.before in
-    c.looked-up2.ensures
-    ∙ lookup_found (meaning k.before.before.args.found) k.found.given.0.0 (ap meaning k.found.given.1) n.kind_number.result (n.kind_number.ensures ∙ ap (λ (d : Bool). cond d 0 1) (kind k))
+    c.looked_up-2.ensures
+    ∙ lookup_found (meaning c.args.found) c.in-Inode.id (ap meaning c.in-Inode.is) c.kind_number.result (c.kind_number.ensures ∙ ap (λ (d : Bool). cond d 0 1) (kind c.before.before))
 
 pub lookup_answer_spec : {M : Type 1} → statement M
 lookup_answer_spec =

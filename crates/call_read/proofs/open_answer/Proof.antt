@@ -7,28 +7,24 @@ use Rattle.call_read.specs.Answers.{open_absent, open_directory, open_file}
 use Rattle.call_read.proofs.open_answer.Statement.{statement}
 use Rattle.call_read.proofs.open_answer.Tie as tie
 
-returns : tie.Need-returns
+returns : tie.Need-returns-in_default
 returns c =
-    let r = c.before in
-    let e = r.before in
     c.opened.ensures
-    ∙ open_absent (meaning e.before.before.args.found) e.enum_told.given.0.0 (ap meaning e.enum_told.given.1) r.refusal.result r.refusal.ensures
+    ∙ open_absent (meaning c.args.found) c.in_default.field-0 (ap meaning c.in_default.is) c.refusal.result c.refusal.ensures
 
 -- the kind told is that of the id
-kind : (k : tie.After-found) → k.found.given.0.1.0 ≡ is_directory_id k.found.given.0.0
-kind k = subst Kinded k.found.given.1 k.before.before.requires
+kind : (k : tie.In-Inode) → k.in-Inode.directory ≡ is_directory_id k.in-Inode.id
+kind k = subst Kinded k.in-Inode.is k.requires
 
-returns-2 : tie.Need-returns-2
+returns-2 : tie.Need-returns-then-directory
 returns-2 c =
-    let k = c.before.before.before in
-    c.opened2.ensures
-    ∙ open_directory (meaning k.before.before.args.found) k.found.given.0.0 (ap meaning k.found.given.1) (sym (kind k) ∙ c.before.if1.true)
+    c.opened-then-directory.ensures
+    ∙ open_directory (meaning c.args.found) c.in-Inode.id (ap meaning c.in-Inode.is) (sym (kind c.before.before) ∙ c.if-directory.true)
 
-returns-3 : tie.Need-returns-3
+returns-3 : tie.Need-returns
 returns-3 c =
-    let k = c.before.before.before in
-    c.opened3.ensures
-    ∙ open_file (meaning k.before.before.args.found) k.found.given.0.0 (ap meaning k.found.given.1) (sym (kind k) ∙ c.before.if1.false)
+    c.opened-2.ensures
+    ∙ open_file (meaning c.args.found) c.in-Inode.id (ap meaning c.in-Inode.is) (sym (kind c.before.before) ∙ c.if-directory.false)
 
 pub open_answer_spec : {M : Type 1} → statement M
 open_answer_spec =

@@ -7,47 +7,29 @@ use borrow.Author.Rules.{rules}
 use Rattle.call_read.proofs.read_mounted.Statement.{statement}
 use Rattle.call_read.proofs.read_mounted.Tie as tie
 
--- the arguments, from where the inode was judged
-abbrev start : tie.After-is-live → tie.Start
-start l = l.before.before.before.before.before.before.before.before
+is-live-requires : tie.Need-is_live-requires
+is-live-requires c κs = inodes_lent c.requires
 
-is-live-requires : tie.Need-is-live-requires
-is-live-requires c κs = inodes_lent c.before.before.before.before.before.before.before.requires
-
-returns : tie.Need-returns
+returns : tie.Need-returns-else-is_live
 returns c =
-    let l = c.before.before in
-    let s = start l in
-    λ ds h. read_is h s.args.id s.args.position s.args.buffer.now
-    (reads_nothing (sym (l.is_live.ensures (placed_volume s.args.image.now ds) (rows_lent h)) ∙ c.before.if1.false) c.not-read.ensures)
+    λ ds h. read_is h c.args.id c.args.position c.args.buffer.now
+    (reads_nothing (sym (c.is_live.ensures (placed_volume c.args.image.now ds) (rows_lent h)) ∙ c.if-is_live.false) c.not_read.ensures)
 
-returns-2 : tie.Need-returns-2
+returns-2 : tie.Need-returns-then-is_directory_id
 returns-2 c =
-    let d = c.before.before in
-    let t = d.before in
-    let l = t.before in
-    let s = start l in
-    λ ds h. read_is h s.args.id s.args.position s.args.buffer.now
-    (reads_directory (sym (l.is_live.ensures (placed_volume s.args.image.now ds) (rows_lent h)) ∙ t.if1.true)
-    (sym d.is-directory-id.ensures ∙ c.before.if2.true) c.not-read2.ensures)
+    λ ds h. read_is h c.args.id c.args.position c.args.buffer.now
+    (reads_directory (sym (c.is_live.ensures (placed_volume c.args.image.now ds) (rows_lent h)) ∙ c.if-is_live.true)
+    (sym c.is_directory_id.ensures ∙ c.if-is_directory_id.true) c.not_read-then-is_directory_id.ensures)
 
-read-file-requires : tie.Need-read-file-requires
+read-file-requires : tie.Need-read_file-requires
 read-file-requires c κs =
-    let e = c.before.before.before.before.before in
-    let s = start e.before.before.before in
-    (blocks_lent s.pre, blocks_few s.pre)
+    (blocks_lent c.requires, blocks_few c.requires)
 
-returns-3 : tie.Need-returns-3
+returns-3 : tie.Need-returns
 returns-3 c =
-    let f = c.before.before in
-    let e = f.before.before.before.before.before.before in
-    let d = e.before in
-    let t = d.before in
-    let l = t.before in
-    let s = start l in
-    λ ds h. read_is h s.args.id s.args.position s.args.buffer.now
-    (reads_file (sym (l.is_live.ensures (placed_volume s.args.image.now ds) (rows_lent h)) ∙ t.if1.true)
-    (sym d.is-directory-id.ensures ∙ e.if2.false) (f.read-file.ensures (placed_volume s.args.image.now ds) (block_rows_lent h)))
+    λ ds h. read_is h c.args.id c.args.position c.args.buffer.now
+    (reads_file (sym (c.is_live.ensures (placed_volume c.args.image.now ds) (rows_lent h)) ∙ c.if-is_live.true)
+    (sym c.is_directory_id.ensures ∙ c.if-is_directory_id.false) (c.read_file.ensures (placed_volume c.args.image.now ds) (block_rows_lent h)))
 
 pub read_mounted_spec : {M : Type 1} → statement M
 read_mounted_spec =

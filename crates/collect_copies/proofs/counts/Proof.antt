@@ -11,43 +11,33 @@ use Rattle.collect_copies.specs.Steps.{kind_block, kind_inode}
 use Rattle.collect_copies.proofs.counts.Statement.{statement}
 use Rattle.collect_copies.proofs.counts.Tie as tie
 
--- the arguments, from where the kind was asked
-abbrev start : tie.After-is-block-at → tie.Start
-start k = k.before.before.before
-
-counts-in-requires : tie.Need-counts-in-requires
+counts-in-requires : tie.Need-counts_in-requires
 counts-in-requires c κs =
-    let s = start c.before.before.before in
-    let k = s.args.blocks in
-    let t = s.args.tables.now in
-    (both (Usable s.args.image.now) (lent block_ids_at k t) (lent block_spots_at k t) s.pre.0.blocks, s.pre.1)
+    let k = c.args.blocks in
+    let t = c.args.tables.now in
+    (both (Usable c.args.image.now) (lent block_ids_at k t) (lent block_spots_at k t) c.requires.0.blocks, c.requires.1)
 
-returns : tie.Need-returns
+returns : tie.Need-returns-then-is_block_at
 returns c =
-    let y = c.before.before.before in
-    let s = start y.before in
-    let k = s.args.blocks in
-    let t = s.args.tables.now in
-    c.counts-in.ensures
-    ∙ ap₂ (λ (a b : List ℕ). counts_in s.args.image.now (record { ids = a; spots = b }) s.args.p) (lent block_ids_at k t) (lent block_spots_at k t)
-    ∙ kind_block s.args.image.now (tables_of s.args.inodes k t) s.args.p (sym y.before.is-block-at.ensures ∙ y.if1.true)
+    let k = c.args.blocks in
+    let t = c.args.tables.now in
+    c.counts_in.ensures
+    ∙ ap₂ (λ (a b : List ℕ). counts_in c.args.image.now (record { ids = a; spots = b }) c.args.p) (lent block_ids_at k t) (lent block_spots_at k t)
+    ∙ kind_block c.args.image.now (tables_of c.args.inodes k t) c.args.p (sym c.is_block_at.ensures ∙ c.if-is_block_at.true)
 
-counts-in-requires-2 : tie.Need-counts-in-requires-2
+counts-in-requires-2 : tie.Need-counts_in-requires-2
 counts-in-requires-2 c κs =
-    let s = start c.before.before.before in
-    let n = s.args.inodes in
-    let t = s.args.tables.now in
-    (both (Usable s.args.image.now) (lent inode_ids_at n t) (lent inode_spots_at n t) s.pre.0.inodes, s.pre.1)
+    let n = c.args.inodes in
+    let t = c.args.tables.now in
+    (both (Usable c.args.image.now) (lent inode_ids_at n t) (lent inode_spots_at n t) c.requires.0.inodes, c.requires.1)
 
-returns-2 : tie.Need-returns-2
+returns-2 : tie.Need-returns
 returns-2 c =
-    let y = c.before.before.before in
-    let s = start y.before in
-    let n = s.args.inodes in
-    let t = s.args.tables.now in
-    c.counts-in2.ensures
-    ∙ ap₂ (λ (a b : List ℕ). counts_in s.args.image.now (record { ids = a; spots = b }) s.args.p) (lent inode_ids_at n t) (lent inode_spots_at n t)
-    ∙ kind_inode s.args.image.now (tables_of n s.args.blocks t) s.args.p (sym y.before.is-block-at.ensures ∙ y.if1.false)
+    let n = c.args.inodes in
+    let t = c.args.tables.now in
+    c.counts_in-2.ensures
+    ∙ ap₂ (λ (a b : List ℕ). counts_in c.args.image.now (record { ids = a; spots = b }) c.args.p) (lent inode_ids_at n t) (lent inode_spots_at n t)
+    ∙ kind_inode c.args.image.now (tables_of n c.args.blocks t) c.args.p (sym c.is_block_at.ensures ∙ c.if-is_block_at.false)
 
 pub counts_spec : {M : Type 1} → statement M
 counts_spec =

@@ -11,45 +11,38 @@ use Rattle.collect_copies.specs.Steps.{counts_none, counts_one}
 use Rattle.collect_copies.proofs.counts_in.Statement.{statement}
 use Rattle.collect_copies.proofs.counts_in.Tie as tie
 
--- the arguments, from where the id was read
-abbrev start : tie.After-id-at → tie.Start
-start k = k.before.before.before.before
-
 -- what the rows have for the record's id
-there : (f : tie.After-find) → let a = (start f.before).args in
+there : (f : tie.After-find) → let a = f.args in
     spot_of f.find.result ≡ found (length a.ids.now) a.ids.now a.spots.now (le32 a.image.now (a.p + 4))
 there f =
-    let a = (start f.before).args in
-    f.find.ensures ∙ ap (found (length a.ids.now) a.ids.now a.spots.now) f.before.id-at.ensures
+    let a = f.args in
+    f.find.ensures ∙ ap (found (length a.ids.now) a.ids.now a.spots.now) f.id_at.ensures
 
-one : (k : tie.After-known-told) → let a = (start k.before.before.before.before).args in
-    found (length a.ids.now) a.ids.now a.spots.now (le32 a.image.now (a.p + 4)) ≡ some k.before.q.given.0.0
-one k = sym (there k.before.before.before) ∙ ap spot_of k.before.q.given.1
+one : (k : tie.In-At) → let a = k.args in
+    found (length a.ids.now) a.ids.now a.spots.now (le32 a.image.now (a.p + 4)) ≡ some k.in-At.q
+one k = sym (there k.before) ∙ ap spot_of k.in-At.is
 
-returns : tie.Need-returns
+returns : tie.Need-returns-in_default
 returns c =
-    let f = c.before.before in
-    let a = (start f.before).args in
-    counts_none a.image.now (record { ids = a.ids.now; spots = a.spots.now }) a.p (sym (there f) ∙ ap spot_of c.enum_told.given.1)
+    let a = c.args in
+    counts_none a.image.now (record { ids = a.ids.now; spots = a.spots.now }) a.p (sym (there c.before) ∙ ap spot_of c.in_default.is)
 
-same-bytes-requires : tie.Need-same-bytes-requires
+same-bytes-requires : tie.Need-same_bytes-requires
 same-bytes-requires c κs =
-    let s = start c.before.before.before.before in
-    (s.pre.1, found_in s.pre.0 _ c.before.q.given.0.0 (one c))
+    (c.requires.1, found_in c.requires.0 _ c.in-At.q (one c))
 
-returns-2 : tie.Need-returns-2
+returns-2 : tie.Need-returns
 returns-2 c =
-    let k = c.before in
-    let a = (start k.before.before.before.before).args in
+    let a = c.args in
     c.same_bytes.ensures
-    ∙ counts_one a.image.now (record { ids = a.ids.now; spots = a.spots.now }) a.p k.before.q.given.0.0 (one k)
+    ∙ counts_one a.image.now (record { ids = a.ids.now; spots = a.spots.now }) a.p c.in-At.q (one c.before)
 
 pub counts_in_spec : {M : Type 1} → statement M
 counts_in_spec =
     tie.close
     (tie.spec
     (λ c κs. search rules)
-    (λ c κs. (start c).requires.0.pairs)
+    (λ c κs. c.requires.0.pairs)
     (λ c. search rules)
     (λ c. search rules)
     returns

@@ -12,46 +12,33 @@ use Rattle.collect_copies.specs.Steps.{copied_elsewhere, copied_older, copied_co
 use Rattle.collect_copies.proofs.is_copied.Statement.{statement}
 use Rattle.collect_copies.proofs.is_copied.Tie as tie
 
--- the arguments, from where the place was tested
-abbrev start : tie.After-is-inside → tie.Start
-start k = k.before.before.before.before
-
 abbrev rows : tie.Start → Tables
 rows s = tables_of s.args.inodes s.args.blocks s.args.tables.now
 
-returns : tie.Need-returns
+returns : tie.Need-returns-else-is_inside
 returns c =
-    let s = start c.before in
-    copied_elsewhere s.args.image.now s.args.offset s.args.span s.args.places.now (rows s) s.args.p (sym c.before.is-inside.ensures ∙ c.if1.false)
+    copied_elsewhere c.args.image.now c.args.offset c.args.span c.args.places.now (rows c.before.before.before.before.before) c.args.p (sym c.is_inside.ensures ∙ c.if-is_inside.false)
 
-returns-2 : tie.Need-returns-2
+returns-2 : tie.Need-returns-else-counts
 returns-2 c =
-    let k = c.before in
-    let t = k.before in
-    let s = start t.before in
-    copied_older s.args.image.now s.args.offset s.args.span s.args.places.now (rows s) s.args.p
-    (sym t.before.is-inside.ensures ∙ t.if1.true) (sym k.counts.ensures ∙ c.if2.false)
+    copied_older c.args.image.now c.args.offset c.args.span c.args.places.now (rows c.before.before.before.before.before.before.before) c.args.p
+    (sym c.is_inside.ensures ∙ c.if-is_inside.true) (sym c.counts.ensures ∙ c.if-counts.false)
 
-is-dropped-requires : tie.Need-is-dropped-requires
+is-dropped-requires : tie.Need-is_dropped-requires
 is-dropped-requires c κs =
-    let s = start c.before.before.before.before.before in
-    let n = s.args.inodes in
-    let t = s.args.tables.now in
-    (s.pre.0, (both (Usable s.args.image.now) (lent inode_ids_at n t) (lent inode_spots_at n t) s.pre.1.0.inodes, s.pre.1.1))
+    let n = c.args.inodes in
+    let t = c.args.tables.now in
+    (c.requires.0, (both (Usable c.args.image.now) (lent inode_ids_at n t) (lent inode_spots_at n t) c.requires.1.0.inodes, c.requires.1.1))
 
-returns-3 : tie.Need-returns-3
+returns-3 : tie.Need-returns
 returns-3 c =
-    let e = c.before.before.before in
-    let k = e.before in
-    let t = k.before in
-    let s = start t.before in
-    let n = s.args.inodes in
-    let l = s.args.tables.now in
-    ap not (c.is-dropped.ensures
-    ∙ ap₂ (λ (a b : List ℕ). dropped s.args.image.now s.args.offset s.args.span s.args.places.now (record { ids = a; spots = b }) s.args.p)
+    let n = c.args.inodes in
+    let l = c.args.tables.now in
+    ap not (c.is_dropped.ensures
+    ∙ ap₂ (λ (a b : List ℕ). dropped c.args.image.now c.args.offset c.args.span c.args.places.now (record { ids = a; spots = b }) c.args.p)
     (lent inode_ids_at n l) (lent inode_spots_at n l))
-    ∙ copied_counts s.args.image.now s.args.offset s.args.span s.args.places.now (rows s) s.args.p
-    (sym t.before.is-inside.ensures ∙ t.if1.true) (sym k.counts.ensures ∙ e.if2.true)
+    ∙ copied_counts c.args.image.now c.args.offset c.args.span c.args.places.now (rows c.before.before.before.before.before.before.before.before.before.before) c.args.p
+    (sym c.is_inside.ensures ∙ c.if-is_inside.true) (sym c.counts.ensures ∙ c.if-counts.true)
 
 pub is_copied_spec : {M : Type 1} → statement M
 is_copied_spec =
@@ -59,7 +46,7 @@ is_copied_spec =
     (tie.spec
     (λ c κs. search rules)
     returns
-    (λ c κs. let s = start c.before in (s.pre.1.0, s.pre.1.1))
+    (λ c κs. (c.requires.1.0, c.requires.1.1))
     returns-2
     (λ c. search rules)
     (λ c. search rules)

@@ -12,35 +12,27 @@ use Rattle.collect_copies.specs.Steps.{dropped_not, dropped_if}
 use Rattle.collect_copies.proofs.is_dropped.Statement.{statement}
 use Rattle.collect_copies.proofs.is_dropped.Tie as tie
 
--- the arguments, from where the fate was asked
-abbrev start : tie.After-is-dead → tie.Start
-start d = d.before.before.before.before.before.before.before
-
 -- what was answered of the fate
-told : (d : tie.After-is-dead) → let a = (start d).args in
+told : (d : tie.After-is_dead) → let a = d.args in
     d.is_dead.result ≡ is_dead (fate_by (by_place a.image.now) (length a.ids.now) a.ids.now a.spots.now (bearer a.image.now a.p))
 told d =
-    let a = (start d).args in
-    let f = d.before in
+    let a = d.args in
     d.is_dead.ensures
-    ∙ ap is_dead (f.fate-of.ensures ∙ ap (fate_by (by_place a.image.now) (length a.ids.now) a.ids.now a.spots.now) f.before.bearer.ensures)
+    ∙ ap is_dead (d.fate_of-fate.ensures ∙ ap (fate_by (by_place a.image.now) (length a.ids.now) a.ids.now a.spots.now) d.bearer.ensures)
 
-returns : tie.Need-returns
+returns : tie.Need-returns-else-is_dead
 returns c =
-    let a = (start c.before).args in
+    let a = c.args in
     dropped_not a.image.now a.offset a.span a.places.now (record { ids = a.ids.now; spots = a.spots.now }) a.p
-    (sym (told c.before) ∙ c.if1.false)
+    (sym (told c.before) ∙ c.if-is_dead.false)
 
-returns-2 : tie.Need-returns-2
+returns-2 : tie.Need-returns
 returns-2 c =
-    let b = c.before in
-    let k = b.before in
-    let t = k.before in
-    let a = (start t.before).args in
-    c.is-unheld.ensures
-    ∙ ap₂ (λ (i : ℕ) (x : Bool). unheld a.image.now a.offset a.span a.places.now i x) k.id-at.ensures b.is-block-at.ensures
+    let a = c.args in
+    c.is_unheld.ensures
+    ∙ ap₂ (λ (i : ℕ) (x : Bool). unheld a.image.now a.offset a.span a.places.now i x) c.id_at.ensures c.is_block_at.ensures
     ∙ dropped_if a.image.now a.offset a.span a.places.now (record { ids = a.ids.now; spots = a.spots.now }) a.p
-    (sym (told t.before) ∙ t.if1.true)
+    (sym (told c.before.before.before.before) ∙ c.if-is_dead.true)
 
 pub is_dropped_spec : {M : Type 1} → statement M
 is_dropped_spec =

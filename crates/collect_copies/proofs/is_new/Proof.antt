@@ -12,42 +12,30 @@ use Rattle.collect_copies.specs.Copied.{none_same}
 use Rattle.collect_copies.proofs.is_new.Statement.{statement}
 use Rattle.collect_copies.proofs.is_new.Tie as tie
 
-abbrev invariant-loop : tie.invariant-loop
+abbrev invariant-loop : tie.invariant-loop-i
 invariant-loop image listed p i₀ i = all (λ q. not ((by_place image).same q p)) (drop i listed) ≡ none_same image listed p
 
-abbrev decreases-loop : tie.decreases-loop
+abbrev decreases-loop : tie.decreases-loop-i
 decreases-loop image listed p i₀ i = length listed - i
 
--- the arguments, from the head of the loop
-abbrev start : tie.At-loop invariant-loop decreases-loop → tie.Start invariant-loop decreases-loop
-start l = l.before.before.before
-
-loop-holds : tie.Need-loop-init invariant-loop decreases-loop
+loop-holds : tie.Need-loop-i-init invariant-loop decreases-loop
 unfolding none_same
 loop-holds c = refl
 
-same-bytes-requires : tie.Need-same-bytes-requires invariant-loop decreases-loop
+same-bytes-requires : tie.Need-same_bytes-requires invariant-loop decreases-loop
 same-bytes-requires c κs =
-    let t = c.before in
-    let s = start t.before in
-    (s.pre.0 t.before.loop.i t.loop-test.true, s.pre.1)
+    (c.requires.0 c.loop-i.i c.loop-i-test.true, c.requires.1)
 
-returns : tie.Need-returns invariant-loop decreases-loop
+returns : tie.Need-returns-then-same_bytes invariant-loop decreases-loop
 returns c =
-    let k = c.before in
-    let t = k.before.before in
-    let l = t.before in
-    ask_fails (all_asks _) l.loop.invariant (drop_step _ _ t.loop-test.true) (ap not (sym k.same_bytes.ensures ∙ c.if1.true))
+    ask_fails (all_asks _) c.loop-i.invariant (drop_step _ _ c.loop-i-test.true) (ap not (sym c.same_bytes.ensures ∙ c.if-same_bytes.true))
 
-loop-again : tie.Need-loop-preserved invariant-loop decreases-loop
+loop-again : tie.Need-loop-i-preserved invariant-loop decreases-loop
 loop-again c =
-    let k = c.before in
-    let t = k.before.before in
-    let l = t.before in
-    ask_passes (all_asks _) l.loop.invariant (drop_step _ _ t.loop-test.true) (ap not (sym k.same_bytes.ensures ∙ c.if1.false))
+    ask_passes (all_asks _) c.loop-i.invariant (drop_step _ _ c.loop-i-test.true) (ap not (sym c.same_bytes.ensures ∙ c.if-same_bytes.false))
 
-returns-2 : tie.Need-returns-2 invariant-loop decreases-loop
-returns-2 c = let l = c.before in ask_ends (all_asks _) l.loop.invariant (drop_of_length-le _ c.loop-test.false)
+returns-2 : tie.Need-returns invariant-loop decreases-loop
+returns-2 c = ask_ends (all_asks _) c.loop-i.invariant (drop_of_length-le _ c.loop-i-test.false)
 
 pub is_new_spec : {M : Type 1} → statement M
 is_new_spec =
@@ -58,7 +46,7 @@ is_new_spec =
     loop-holds
     (λ c. search rules)
     (λ c. search rules)
-    (λ c. omega (arith, c.shared-slice-known3.given c.before.before.loop.i))
+    (λ c. omega (arith, c.shared_slice_known-in-loop-i-1.given c.loop-i.i))
     same-bytes-requires
     returns
     (λ c. search rules)

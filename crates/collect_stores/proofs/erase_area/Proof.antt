@@ -9,14 +9,10 @@ use Rattle.collect_stores.proofs.erase_area.Tie as tie
 
 returns : tie.Need-returns
 returns c =
-    let q = c.before.before in
-    let e = q.before.before.before.before.before in
-    let w = e.before.before.before in
-    let s = w.before.before.before.before.before in
-    reset_done s.args.image.now s.args.offset s.args.span s.requires.0 s.requires.1 (replicate 24 0) _ _ _ refl
-    (rw add-sub_cancel_left at w.put.ensures)
-    e.erase.ensures
-    q.put2.ensures
+    reset_done c.args.image.now c.args.offset c.args.span c.requires.0 c.requires.1 (replicate 24 0) _ _ _ refl
+    (rw add-sub_cancel_left at c.put.ensures)
+    c.erase.ensures
+    c.put-2.ensures
 
 pub erase_area_spec : {M : Type 1} → statement M
 erase_area_spec =

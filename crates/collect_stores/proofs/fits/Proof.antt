@@ -9,63 +9,46 @@ use Rattle.collect_stores.specs.Fits.{Fitting, fitting_begins, fitting_full, fit
 use Rattle.collect_stores.proofs.fits.Statement.{statement}
 use Rattle.collect_stores.proofs.fits.Tie as tie
 
-abbrev invariant-loop : tie.invariant-loop
+abbrev invariant-loop : tie.invariant-loop-i
 invariant-loop image area places span at₀ i₀ at i = Fitting image area places at i
 
-abbrev decreases-loop : tie.decreases-loop
+abbrev decreases-loop : tie.decreases-loop-i
 decreases-loop image area places span at₀ i₀ at i = length places - i
 
--- the arguments, from the head of the loop; the turn, from where the size was asked
-abbrev lent : tie.At-loop invariant-loop decreases-loop → tie.Start invariant-loop decreases-loop
-lent l = l.before.before.before.before
-
-abbrev turn : tie.After-size-at invariant-loop decreases-loop → tie.In-loop invariant-loop decreases-loop
-turn k = k.before.before
-
-loop-holds : tie.Need-loop-init invariant-loop decreases-loop
-loop-holds c = fitting_begins _ _ _ c.before.before.before.requires.1
+loop-holds : tie.Need-loop-i-init invariant-loop decreases-loop
+loop-holds c = fitting_begins _ _ _ c.requires.1
 
 -- a place fits 16 bits
-cast-p : tie.Need-overflow-cast-p invariant-loop decreases-loop
-cast-p c = omega (arith, c.shared-slice-known3.given c.before.before.loop.i)
+cast-p : tie.Need-overflow_cast-p invariant-loop decreases-loop
+cast-p c = omega (arith, c.shared_slice_known-in-loop-i-1.given c.loop-i.i)
 
-size-at-requires : tie.Need-size-at-requires invariant-loop decreases-loop
-size-at-requires c κs = let t = c.before in (lent t.before).pre.0 t.before.loop.i t.loop-test.true
+size-at-requires : tie.Need-size_at-size-requires invariant-loop decreases-loop
+size-at-requires c κs = c.requires.0 c.loop-i.i c.loop-i-test.true
 
-add-end : tie.Need-overflow-add-end invariant-loop decreases-loop
+add-end : tie.Need-overflow_add-end invariant-loop decreases-loop
 add-end c =
-    let t = turn c in
-    let l = t.before in
-    omega (arith, l.loop.inv.within, c.size-at.ensures, (lent l).pre.0 l.loop.i t.loop-test.taken, l.before.struct_known.given, l.before.before.before)
+    omega (arith, c.loop-i.invariant.within, c.size_at-size.ensures, c.requires.0 c.loop-i.i c.loop-i-test.true, c.struct_known-1.given, c)
 
-returns : tie.Need-returns invariant-loop decreases-loop
+returns : tie.Need-returns-then-end-span invariant-loop decreases-loop
 returns c =
-    let k = c.before in
-    let t = turn k in
-    fitting_full _ _ _ _ _ t.before.loop.inv t.loop-test.taken (omega (arith, k.size-at.ensures, c.if1.true))
+    fitting_full _ _ _ _ _ c.loop-i.invariant c.loop-i-test.true (omega (arith, c.size_at-size.ensures, c.if-end-span.true))
 
 -- the record of the turn ends in the area
-room : (e : tie.Else1 invariant-loop decreases-loop) → let l = (turn e.before).before in let a = (lent l).args in
-    l.loop.at + size_at a.image.now (get_or a.places.now l.loop.i 0) ≤ a.area.length
-room e = omega (arith, e.before.size-at.ensures, e.if1.false)
+room : (e : tie.Else-end-span invariant-loop decreases-loop) → let a = e.args in
+    e.loop-i.at + size_at a.image.now (get_or a.places.now e.loop-i.i 0) ≤ a.area.length
+room e = omega (arith, e.size_at-size.ensures, e.if-end-span.false)
 
-returns-2 : tie.Need-returns-2 invariant-loop decreases-loop
+returns-2 : tie.Need-returns-else-disjoint invariant-loop decreases-loop
 returns-2 c =
-    let d = c.before in
-    let e = d.before in
-    let t = turn e.before in
-    fitting_common _ _ _ _ _ t.before.loop.inv t.loop-test.taken (room e) (via (rw e.before.size-at.ensures at d.disjoint.ensures) c.if2.false)
+    fitting_common _ _ _ _ _ c.loop-i.invariant c.loop-i-test.true (room c.before.before) (via (rw c.size_at-size.ensures at c.disjoint.ensures) c.if-disjoint.false)
 
-loop-again : tie.Need-loop-preserved invariant-loop decreases-loop
+loop-again : tie.Need-loop-i-preserved invariant-loop decreases-loop
 loop-again c =
-    let d = c.before in
-    let e = d.before in
-    let t = turn e.before in
-    rw e.before.size-at.ensures
-    (fitting_on _ _ _ _ _ t.before.loop.inv t.loop-test.taken (room e) (via (rw e.before.size-at.ensures at d.disjoint.ensures) c.if2.true))
+    rw c.size_at-size.ensures
+    (fitting_on _ _ _ _ _ c.loop-i.invariant c.loop-i-test.true (room c.before.before) (via (rw c.size_at-size.ensures at c.disjoint.ensures) c.if-disjoint.true))
 
-returns-3 : tie.Need-returns-3 invariant-loop decreases-loop
-returns-3 c = let l = c.before in fitting_ends _ _ _ _ _ l.loop.invariant c.loop-test.false
+returns-3 : tie.Need-returns invariant-loop decreases-loop
+returns-3 c = fitting_ends _ _ _ _ _ c.loop-i.invariant c.loop-i-test.false
 
 pub fits_spec : {M : Type 1} → statement M
 fits_spec =

@@ -12,30 +12,30 @@ use Rattle.volume_laws.specs.Steps.{drop_step, all_asks, ask_passes, ask_fails, 
 use Rattle.collect_stores.proofs.is_blank.Statement.{statement}
 use Rattle.collect_stores.proofs.is_blank.Tie as tie
 
-abbrev invariant-loop : tie.invariant-loop
+abbrev invariant-loop : tie.invariant-loop-i
 invariant-loop area i₀ i = all (λ b. eqb b ERASED) (drop i area) ≡ is_blank area
 
-abbrev decreases-loop : tie.decreases-loop
+abbrev decreases-loop : tie.decreases-loop-i
 decreases-loop area i₀ i = length area - i
 
-loop-holds : tie.Need-loop-init invariant-loop decreases-loop
+loop-holds : tie.Need-loop-i-init invariant-loop decreases-loop
 unfolding is_blank
 loop-holds c = refl
 
-returns : tie.Need-returns invariant-loop decreases-loop
+returns : tie.Need-returns-then-area-i invariant-loop decreases-loop
 returns c =
     let n = c.before.before in
     let l = n.before in
-    ask_fails (all_asks _) l.loop.invariant (drop_step _ l.loop.i n.loop-test.true) (ne_eqb _ ERASED c.if1.true)
+    ask_fails (all_asks _) l.loop-i.invariant (drop_step _ l.loop-i.i n.loop-i-test.true) (ne_eqb _ ERASED c.if-area-i.true)
 
-loop-again : tie.Need-loop-preserved invariant-loop decreases-loop
+loop-again : tie.Need-loop-i-preserved invariant-loop decreases-loop
 loop-again c =
     let n = c.before.before in
     let l = n.before in
-    ask_passes (all_asks _) l.loop.invariant (drop_step _ l.loop.i n.loop-test.true) (eq-eqb _ ERASED c.if1.false)
+    ask_passes (all_asks _) l.loop-i.invariant (drop_step _ l.loop-i.i n.loop-i-test.true) (eq-eqb _ ERASED c.if-area-i.false)
 
-returns-2 : tie.Need-returns-2 invariant-loop decreases-loop
-returns-2 c = let l = c.before in ask_ends (all_asks _) l.loop.invariant (drop_of_length-le _ c.loop-test.false)
+returns-2 : tie.Need-returns invariant-loop decreases-loop
+returns-2 c = let l = c.before in ask_ends (all_asks _) l.loop-i.invariant (drop_of_length-le _ c.loop-i-test.false)
 
 pub is_blank_spec : {M : Type 1} → statement M
 is_blank_spec =

@@ -8,17 +8,11 @@ use Rattle.collect_stores.proofs.move_records.Tie as tie
 
 returns : tie.Need-returns
 returns c =
-    let w = c.before.before in
-    let f = w.before.before.before.before in
-    let n = f.before.before in
-    let k = n.before in
-    let i = k.before.before in
-    let s = i.before.before.before.before in
-    stores_move s.args.image.now s.args.scratch _ s.args.places.now s.requires _ _ _ _
-    f.fill-scratch.ensures
-    w.write-area.ensures
-    (i.area-id.ensures.is s.args.span s.requires.header)
-    (n.next-count.ensures ∙ ap next_count (k.area_count.ensures.is s.args.span s.requires.header))
+    stores_move c.args.image.now c.args.scratch _ c.args.places.now c.requires _ _ _ _
+    c.fill_scratch.ensures
+    c.write_area.ensures
+    (c.area_id-id.ensures.is c.args.span c.requires.header)
+    (c.next_count-count.ensures ∙ ap next_count (c.area_count.ensures.is c.args.span c.requires.header))
 
 pub move_records_spec : {M : Type 1} → statement M
 move_records_spec =

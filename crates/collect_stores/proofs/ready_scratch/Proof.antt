@@ -9,26 +9,16 @@ use Rattle.collect_stores.specs.Reset.{ready_blank, ready_reset}
 use Rattle.collect_stores.proofs.ready_scratch.Statement.{statement}
 use Rattle.collect_stores.proofs.ready_scratch.Tie as tie
 
--- the arguments, from where the area was tested, and what the test told
-abbrev start : tie.After-is-blank → tie.Start
-start k = k.before.before.before.before
+tested : (k : tie.After-is_blank) → k.is_blank.result ≡ is_blank (area_bytes k.args.image.now (area_of k.args.offset k.args.span))
+tested k = rw (add-sub_cancel_left k.args.offset k.args.span) at k.is_blank.ensures
 
-tested : (k : tie.After-is-blank) → k.is-blank.result ≡ is_blank (area_bytes (start k).args.image.now (area_of (start k).args.offset (start k).args.span))
-tested k = rw (add-sub_cancel_left (start k).args.offset (start k).args.span) at k.is-blank.ensures
-
-returns : tie.Need-returns
+returns : tie.Need-returns-then-is_blank
 returns c =
-    let k = c.before in
-    let s = start k in
-    ready_blank s.args.image.now s.args.offset s.args.span s.pre.0 s.pre.1 (sym (tested k) ∙ c.if1.true)
+    ready_blank c.args.image.now c.args.offset c.args.span c.requires.0 c.requires.1 (sym (tested c.before) ∙ c.if-is_blank.true)
 
-returns-2 : tie.Need-returns-2
+returns-2 : tie.Need-returns
 returns-2 c =
-    let w = c.before.before in
-    let e = w.before.before in
-    let k = e.before in
-    let s = start k in
-    ready_reset s.args.image.now s.args.offset s.args.span s.pre.0 s.pre.1 (sym (tested k) ∙ e.if1.false) _ w.erase-area.ensures
+    ready_reset c.args.image.now c.args.offset c.args.span c.requires.0 c.requires.1 (sym (tested c.before.before.before.before.before) ∙ c.if-is_blank.false) _ c.erase_area.ensures
 
 pub ready_scratch_spec : {M : Type 1} → statement M
 ready_scratch_spec =

@@ -6,10 +6,10 @@ use borrow.Author.Rules.{rules}
 use Rattle.program_area_lists.proofs.numbers.Statement.{statement}
 use Rattle.program_area_lists.proofs.numbers.Tie as tie
 
-abbrev invariant-loop : tie.invariant-loop
+abbrev invariant-loop : tie.invariant-loop-i
 invariant-loop numbers₀ i₀ numbers i = (i ≤ 20) × (length numbers ≡ 40)
 
-abbrev decreases-loop : tie.decreases-loop
+abbrev decreases-loop : tie.decreases-loop-i
 decreases-loop numbers₀ i₀ numbers i = 20 - i
 
 pub numbers_spec : {M : Type 1} → statement M

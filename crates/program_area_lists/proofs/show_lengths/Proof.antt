@@ -6,10 +6,10 @@ use borrow.Author.Rules.{rules}
 use Rattle.program_area_lists.proofs.show_lengths.Statement.{statement}
 use Rattle.program_area_lists.proofs.show_lengths.Tie as tie
 
-abbrev invariant-loop : tie.invariant-loop
+abbrev invariant-loop : tie.invariant-loop-i
 invariant-loop image list i₀ t5 i = (i ≤ 21) × (length list ≡ 40)
 
-abbrev decreases-loop : tie.decreases-loop
+abbrev decreases-loop : tie.decreases-loop-i
 decreases-loop image list i₀ t5 i = 21 - i
 
 pub show_lengths_spec : {M : Type 1} → statement M

@@ -4,10 +4,10 @@ use borrow.Author.Rules.{rules}
 use Rattle.program_area_lists.proofs.show_marks.Statement.{statement}
 use Rattle.program_area_lists.proofs.show_marks.Tie as tie
 
-abbrev invariant-loop : tie.invariant-loop
+abbrev invariant-loop : tie.invariant-loop-i
 invariant-loop image i₀ t4 i = i ≤ 20
 
-abbrev decreases-loop : tie.decreases-loop
+abbrev decreases-loop : tie.decreases-loop-i
 decreases-loop image i₀ t4 i = 20 - i
 
 pub show_marks_spec : {M : Type 1} → statement M

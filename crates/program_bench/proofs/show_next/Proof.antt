@@ -4,9 +4,9 @@ use borrow.Author.Rules.{rules}
 use Rattle.program_bench.proofs.show_next.Statement.{statement}
 use Rattle.program_bench.proofs.show_next.Tie as tie
 
-next-record-requires : tie.Need-next-record-requires
+next-record-requires : tie.Need-next_record-next-requires
 next-record-requires c κs =
-    (c.before.before.before.before.requires, record { within = c.if1.false; inside = omega arith; erased = λ j h b. absurd (omega arith) })
+    (c.before.before.before.before.requires, record { within = c.if-area-at.false; inside = omega arith; erased = λ j h b. absurd (omega arith) })
 
 pub show_next_spec : {M : Type 1} → statement M
 show_next_spec =
