@@ -9,4 +9,4 @@ area_report_of_spec =
     (tie.spec
     (λ c. search rules)
     (λ c κs. search rules)
-    (λ c. c.before.report-area.ensures))
+    (λ c. c.before.report_area.ensures))

@@ -5,31 +5,18 @@ use borrow.Author.Rules.{rules}
 use Rattle.call_entries.proofs.collect_of.Statement.{statement}
 use Rattle.call_entries.proofs.collect_of.Tie as tie
 
--- the mount, and the arguments
-abbrev at-mount : tie.After-struct-known → tie.After-mount
-at-mount k = k.before.before.before
-
-abbrev start : tie.After-mount → tie.Start
-start m = m.before.before.before.before.before.before.before.before
-
-returns : tie.Need-returns
+returns : tie.Need-returns-then-m-ne0
 returns c =
-    let m = at-mount c.before in
-    let s = start m in
-    collect_refused m.mount.ensures c.if1.true
+    collect_refused c.mount-m.ensures c.if-m-ne0.true
 
-collect-mounted-requires : tie.Need-collect-mounted-requires
+collect-mounted-requires : tie.Need-collect_mounted-requires
 collect-mounted-requires c κs =
-    let e = c.before.before.before in
-    let m = (at-mount e.before).mount.ensures in
-    (m.safe e.if1.false, m.safe_places e.if1.false)
+    let m = c.mount-m.ensures in
+    (m.safe c.if-m-ne0.false, m.safe_places c.if-m-ne0.false)
 
-returns-2 : tie.Need-returns-2
+returns-2 : tie.Need-returns
 returns-2 c =
-    let u = c.before.before in
-    let e = u.before.before.before.before in
-    let m = at-mount e.before in
-    u.collect-mounted.ensures (area_list (start m).args.t2.numbers) (m.mount.ensures.holds e.if1.false) (m.mount.ensures.holds_places e.if1.false)
+    c.collect_mounted.ensures (area_list c.args.t2.numbers) (c.mount-m.ensures.holds c.if-m-ne0.false) (c.mount-m.ensures.holds_places c.if-m-ne0.false)
 
 pub collect_of_spec : {M : Type 1} → statement M
 collect_of_spec =

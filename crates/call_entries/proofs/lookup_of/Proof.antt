@@ -9,10 +9,8 @@ use Rattle.call_entries.proofs.lookup_of.Tie as tie
 
 returns : tie.Need-returns
 returns c =
-    let f = c.before in
-    let s = f.before.before.before.before in
-    c.lookup-answer.ensures
-    ∙ lookup_is s.args.image.now (area_list s.args.areas.numbers) s.args.base.now s.args.path.now (meaning f.find-of.result) f.find-of.ensures.0
+    c.lookup_answer.ensures
+    ∙ lookup_is c.args.image.now (area_list c.args.areas.numbers) c.args.base.now c.args.path.now (meaning c.find_of.result) c.find_of.ensures.0
 
 pub lookup_of_spec : {M : Type 1} → statement M
-lookup_of_spec = tie.close (tie.spec (λ c κs. search rules) (λ c κs. c.find-of.ensures.1) returns)
+lookup_of_spec = tie.close (tie.spec (λ c κs. search rules) (λ c κs. c.find_of.ensures.1) returns)

@@ -5,30 +5,17 @@ use borrow.Author.Rules.{rules}
 use Rattle.call_entries.proofs.read_at_of.Statement.{statement}
 use Rattle.call_entries.proofs.read_at_of.Tie as tie
 
--- the mount, and the arguments
-abbrev at-mount : tie.After-struct-known → tie.After-mount
-at-mount k = k.before.before.before
-
-abbrev start : tie.After-mount → tie.Start
-start m = m.before.before.before.before.before.before.before.before
-
-returns : tie.Need-returns
+returns : tie.Need-returns-then-m-ne0
 returns c =
-    let t = c.before in
-    let m = at-mount t.before in
-    let s = start m in
-    let r = read_refused m.mount.ensures s.args.id s.args.position s.args.buffer.now t.if1.true c.not-read.ensures in
+    let r = read_refused c.mount-m.ensures c.args.id c.args.position c.args.buffer.now c.if-m-ne0.true c.not_read.ensures in
     (r.answer, r.bytes)
 
-read-mounted-requires : tie.Need-read-mounted-requires
-read-mounted-requires c κs = let e = c.before.before in (at-mount e.before).mount.ensures.safe e.if1.false
+read-mounted-requires : tie.Need-read_mounted-requires
+read-mounted-requires c κs = c.mount-m.ensures.safe c.if-m-ne0.false
 
-returns-2 : tie.Need-returns-2
+returns-2 : tie.Need-returns
 returns-2 c =
-    let f = c.before.before in
-    let e = f.before.before.before in
-    let m = at-mount e.before in
-    let r = f.read-mounted.ensures (area_list (start m).args.t2.numbers) (m.mount.ensures.holds e.if1.false) in
+    let r = c.read_mounted.ensures (area_list c.args.t2.numbers) (c.mount-m.ensures.holds c.if-m-ne0.false) in
     (r.answer, r.bytes)
 
 pub read_at_of_spec : {M : Type 1} → statement M

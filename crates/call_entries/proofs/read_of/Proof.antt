@@ -20,27 +20,24 @@ moved : (g : Given) (h : Handle) (r : ReadAnswer) → r ≡ read_answer g → re
 moved (given bytes headers) h r e = rw e
 moved (refused n) h r e = let z : h.position + 0 ≡ h.position = omega arith in rw (e, z)
 
-abbrev start : tie.After-read-at-of → tie.Start
-start r = r.before.before.before.before
-
 abbrev gives : tie.Start → Given
 gives s = read_given s.args.image.now (area_list s.args.areas.numbers) s.args.h.id s.args.h.position (length s.args.buffer.now)
 
-add-t11 : tie.Need-overflow-add-t11
+add-t11 : tie.Need-overflow_add-handle
 add-t11 c =
-    let r : tie.After-read-at-of = c.before.before.before in
+    let r : tie.After-read_at_of-answer = c in
     let s = start r in
     record {
-      fits = ends-fit (gives s) s.args.h.position r.read-at-of.result (omega arith)
+      fits = ends-fit (gives s) s.args.h.position r.read_at_of-answer.result (omega arith)
           (read_ends s.args.image.now (area_list s.args.areas.numbers) s.args.h.id s.args.h.position (length s.args.buffer.now))
-          r.read-at-of.ensures.0;
+          r.read_at_of-answer.ensures.0;
     }
 
 returns : tie.Need-returns
 returns c =
-    let r : tie.After-read-at-of = c.before.before.before in
+    let r : tie.After-read_at_of-answer = c in
     let s = start r in
-    (r.read-at-of.ensures.0, (moved (gives s) s.args.h r.read-at-of.result r.read-at-of.ensures.0, r.read-at-of.ensures.1))
+    (r.read_at_of-answer.ensures.0, (moved (gives s) s.args.h r.read_at_of-answer.result r.read_at_of-answer.ensures.0, r.read_at_of-answer.ensures.1))
 
 pub read_of_spec : {M : Type 1} → statement M
 read_of_spec = tie.close (tie.spec (λ c κs. search rules) add-t11 (λ c. search rules) returns)

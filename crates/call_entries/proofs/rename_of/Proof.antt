@@ -5,28 +5,16 @@ use borrow.Author.Rules.{rules}
 use Rattle.call_entries.proofs.rename_of.Statement.{statement}
 use Rattle.call_entries.proofs.rename_of.Tie as tie
 
--- the mount, and the arguments
-abbrev at-mount : tie.After-struct-known → tie.After-mount
-at-mount k = k.before.before.before
-
-abbrev start : tie.After-mount → tie.Start
-start m = m.before.before.before.before.before.before.before.before.before.before.before
-
-returns : tie.Need-returns
+returns : tie.Need-returns-then-m-ne0
 returns c =
-    let m = at-mount c.before in
-    let s = start m in
-    rename_refused m.mount.ensures s.args.base.now s.args.old.now s.args.new.now c.if1.true
+    rename_refused c.mount-m.ensures c.args.base.now c.args.old.now c.args.new.now c.if-m-ne0.true
 
-rename-mounted-requires : tie.Need-rename-mounted-requires
-rename-mounted-requires c κs = let e = c.before.before in (at-mount e.before).mount.ensures.safe e.if1.false
+rename-mounted-requires : tie.Need-rename_mounted-requires
+rename-mounted-requires c κs = c.mount-m.ensures.safe c.if-m-ne0.false
 
-returns-2 : tie.Need-returns-2
+returns-2 : tie.Need-returns
 returns-2 c =
-    let u = c.before.before in
-    let e = u.before.before.before in
-    let m = at-mount e.before in
-    u.rename-mounted.ensures (area_list (start m).args.t2.numbers) (m.mount.ensures.holds e.if1.false)
+    c.rename_mounted.ensures (area_list c.args.t2.numbers) (c.mount-m.ensures.holds c.if-m-ne0.false)
 
 pub rename_of_spec : {M : Type 1} → statement M
 rename_of_spec =

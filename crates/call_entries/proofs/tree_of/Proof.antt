@@ -6,29 +6,17 @@ use borrow.Author.Rules.{rules}
 use Rattle.call_entries.proofs.tree_of.Statement.{statement}
 use Rattle.call_entries.proofs.tree_of.Tie as tie
 
--- the mount, and the arguments
-abbrev at-mount : tie.After-struct-known → tie.After-mount
-at-mount k = k.before.before.before
-
-abbrev start : tie.After-mount → tie.Start
-start m = m.before.before.before.before.before.before.before.before
-
-returns : tie.Need-returns
+returns : tie.Need-returns-then-m-ne0
 returns c =
-    let t = c.before in
-    let m = at-mount t.before in
-    let r = tree_refused m.mount.ensures.number t.if1.true (start m).args.text.now in
+    let r = tree_refused c.mount-m.ensures.number c.if-m-ne0.true c.args.text.now in
     (c.not_listed.ensures ∙ r.answer, r.buffer)
 
-tree-mounted-requires : tie.Need-tree-mounted-requires
-tree-mounted-requires c κs = let e = c.before.before.before in ((at-mount e.before).mount.ensures.safe e.if1.false, refl)
+tree-mounted-requires : tie.Need-tree_mounted-requires
+tree-mounted-requires c κs = (c.mount-m.ensures.safe c.if-m-ne0.false, refl)
 
-returns-2 : tie.Need-returns-2
+returns-2 : tie.Need-returns
 returns-2 c =
-    let f = c.before.before.before in
-    let e = f.before.before.before.before in
-    let m = at-mount e.before in
-    let r = f.tree-mounted.ensures (area_list (start m).args.t2.numbers) (m.mount.ensures.holds e.if1.false) in
+    let r = c.tree_mounted.ensures (area_list c.args.t2.numbers) (c.mount-m.ensures.holds c.if-m-ne0.false) in
     (r.answer, r.buffer)
 
 pub tree_of_spec : {M : Type 1} → statement M

@@ -5,28 +5,16 @@ use borrow.Author.Rules.{rules}
 use Rattle.call_entries.proofs.unlink_of.Statement.{statement}
 use Rattle.call_entries.proofs.unlink_of.Tie as tie
 
--- the mount, and the arguments
-abbrev at-mount : tie.After-struct-known → tie.After-mount
-at-mount k = k.before.before.before
-
-abbrev start : tie.After-mount → tie.Start
-start m = m.before.before.before.before.before.before.before.before.before.before
-
-returns : tie.Need-returns
+returns : tie.Need-returns-then-m-ne0
 returns c =
-    let m = at-mount c.before in
-    let s = start m in
-    unlink_refused m.mount.ensures s.args.base.now s.args.path.now c.if1.true
+    unlink_refused c.mount-m.ensures c.args.base.now c.args.path.now c.if-m-ne0.true
 
-unlink-mounted-requires : tie.Need-unlink-mounted-requires
-unlink-mounted-requires c κs = let e = c.before.before in (at-mount e.before).mount.ensures.safe e.if1.false
+unlink-mounted-requires : tie.Need-unlink_mounted-requires
+unlink-mounted-requires c κs = c.mount-m.ensures.safe c.if-m-ne0.false
 
-returns-2 : tie.Need-returns-2
+returns-2 : tie.Need-returns
 returns-2 c =
-    let u = c.before.before in
-    let e = u.before.before.before in
-    let m = at-mount e.before in
-    u.unlink-mounted.ensures (area_list (start m).args.t2.numbers) (m.mount.ensures.holds e.if1.false)
+    c.unlink_mounted.ensures (area_list c.args.t2.numbers) (c.mount-m.ensures.holds c.if-m-ne0.false)
 
 pub unlink_of_spec : {M : Type 1} → statement M
 unlink_of_spec =
