@@ -26,14 +26,14 @@ use Rattle.calls.specs.declared.Descriptor.{Descriptor}
 use Rattle.calls.specs.declared.Handle.{Handle}
 use Rattle.calls_laws.specs.Checks.{passes}
 use Rattle.demand2.specs.Found.{resolved}
-use Rattle.demand2.specs.Format.{format}
-use Rattle.demand2.specs.Create.{create_goes}
-use Rattle.demand2.specs.Append.{append_goes}
-use Rattle.demand2.specs.Unlink.{unlink_goes}
-use Rattle.demand2.specs.Refused.{refused_calls}
-use Rattle.demand2_rename.specs.Rename.{rename_goes}
-use Rattle.demand2_overwrite.specs.Overwrite.{overwrite_goes}
-use Rattle.demand2_collect.specs.Collect.{collect}
+use Rattle.demand2.proofs.Format.{format}
+use Rattle.demand2.proofs.Create.{create_goes}
+use Rattle.demand2.proofs.Append.{append_goes}
+use Rattle.demand2.proofs.Unlink.{unlink_goes}
+use Rattle.demand2.proofs.Refused.{refused_calls}
+use Rattle.demand2_rename.proofs.Rename.{rename_goes}
+use Rattle.demand2_overwrite.proofs.Overwrite.{overwrite_goes}
+use Rattle.demand2_collect.proofs.Collect.{collect}
 use Rattle.demand1.specs.Table.{new_versions}
 use Rattle.demand1.specs.Words.{OnlyStored, OnlyOne, OnlyRead, OnlyTree, AcceptedCalls, Demand1}
 use Rattle.demand1.specs.Exactly.{exactly}

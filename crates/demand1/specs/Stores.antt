@@ -20,8 +20,10 @@ use Rattle.calls.specs.declared.Descriptor.{Descriptor}
 use Rattle.calls_laws.specs.Checks.{area_fits}
 use Rattle.calls_laws.specs.Storing.{kept_fit}
 use Rattle.image_laws.specs.Laws.{length_put, byte_outside, part_length, part_byte}
-use Rattle.demand2.specs.Store.{free_place, file_listed, area_length}
-use Rattle.demand2.specs.NewRecord.{WrittenOne, one_placed}
+use Rattle.demand2.specs.Store.{free_place}
+use Rattle.demand2.proofs.Store.{file_listed, area_length}
+use Rattle.demand2.specs.NewRecord.{WrittenOne}
+use Rattle.demand2.proofs.NewRecord.{one_placed}
 use Rattle.demand1.specs.Words.{ChangedOnly, InStore, OverErased, OnlyStored, OnlyOne}
 
 -- ---- free space is erased, in any area

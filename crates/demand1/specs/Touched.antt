@@ -18,7 +18,8 @@ use Rattle.calls.specs.Append.{is_broken}
 use Rattle.calls.specs.Storing.{is_among}
 use Rattle.calls.specs.Overwrite.{holds_byte, Change, changes_from, changes, new_version, text_after, blocks_in}
 use Rattle.calls_laws.specs.Unused.{among, not_among}
-use Rattle.demand2_overwrite.specs.Blocks.{held, change_at, Holder, holds_true, holds_false, change_holds}
+use Rattle.demand2_overwrite.specs.Blocks.{held, change_at, Holder}
+use Rattle.demand2_overwrite.proofs.Blocks.{holds_true, holds_false, change_holds}
 use Rattle.demand1.specs.Table.{Touched, NewRecords, no_more, none_for, one_for}
 use Rattle.demand1.specs.Mounting.{Means}
 

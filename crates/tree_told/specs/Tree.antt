@@ -8,7 +8,7 @@ use Rattle.calls.specs.declared.Descriptor.{Descriptor}
 use Rattle.calls_laws.specs.Checks.{passes}
 use Rattle.calls_laws.specs.Records.{volume_sound}
 use Rattle.demand2.specs.Found.{root_there, root_lives}
-use Rattle.demand2.specs.Mounted.{ids_few}
+use Rattle.demand2.proofs.Mounted.{ids_few}
 use Rattle.tree_told.specs.Words.{TreeTold}
 use Rattle.tree_told.specs.Told.{lines_told}
 use Rattle.tree_told.specs.Text.{text_told}

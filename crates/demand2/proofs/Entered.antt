@@ -15,7 +15,8 @@ use Rattle.volume.specs.Tree.{found, is_entry, is_child, children, walk, lookup_
 use Rattle.volume_laws.specs.Tests.{true→T, not_T→false, and_T}
 use Rattle.volume_laws.specs.Lists.{same_eq}
 use Rattle.volume_laws.specs.Tree.{only_same, children_mem, live_child}
-use Rattle.demand2.specs.Added.{Changed, split, child_same}
+use Rattle.demand2.specs.Added.{Changed}
+use Rattle.demand2.proofs.Added.{split, child_same}
 use Rattle.demand2.specs.Found.{sole_child, no_child}
 use Rattle.demand2.specs.Lineage.{lookup_along}
 

@@ -14,10 +14,12 @@ use Rattle.calls.specs.declared.Descriptor.{Descriptor}
 use Rattle.calls_laws.specs.Checks.{header_file, header_scratch}
 use Rattle.collect_laws.proofs.Source.{eligible_file}
 use Rattle.collect_laws.proofs.Mounted.{scratch_is, file_is}
-use Rattle.demand2.specs.Store.{SameHeaders, same_area}
-use Rattle.demand2_collect.specs.Collect.{collect}
+use Rattle.demand2.specs.Store.{SameHeaders}
+use Rattle.demand2.proofs.Store.{same_area}
+use Rattle.demand2_collect.proofs.Collect.{collect}
 use Rattle.collect_turns.specs.Words.{TakesTurns, is_same_area, times, Run, ends, keeps, collects, InOrder, Fair}
-use Rattle.collect_turns.specs.Turn.{same_self, other_area, raised, turn, turns_kept, joined, least}
+use Rattle.collect_turns.specs.Turn.{raised}
+use Rattle.collect_turns.proofs.Turn.{same_self, other_area, turn, turns_kept, joined, least}
 
 -- ---- headers kept
 

@@ -19,10 +19,12 @@ use Rattle.calls.specs.Areas.{file_areas}
 use Rattle.calls.specs.Mount.{accepted_records, volume, most_inodes, most_blocks, shared_area_id, too_many_ids, no_root}
 use Rattle.calls.specs.declared.Descriptor.{Descriptor}
 use Rattle.calls_laws.specs.Checks.{Passes}
-use Rattle.demand2.specs.Store.{OneStored, file_listed, same_file_areas, same_scratch_areas, same_area_ids, same_described, records_old}
-use Rattle.demand2.specs.Store.{records_new, records_only}
+use Rattle.demand2.specs.Store.{OneStored}
+use Rattle.demand2.proofs.Store.{file_listed, same_file_areas, same_scratch_areas, same_area_ids, same_described, records_old}
+use Rattle.demand2.proofs.Store.{records_new, records_only}
 use Rattle.demand2.specs.Found.{root_there}
-use Rattle.demand2.specs.Added.{Same, Added, added_agree}
+use Rattle.demand2.specs.Added.{Same, Added}
+use Rattle.demand2.proofs.Added.{added_agree}
 
 -- ---- check 6 before
 

@@ -18,7 +18,8 @@ use Rattle.volume_laws.specs.Lists.{keep_mem, mem_keep, mem_all, all_cong}
 use Rattle.volume_laws.specs.Once.{Alike, nodup_keep, alike_only, alike_all, alike_length}
 use Rattle.volume_laws.specs.Counting.{Agree, counting_mem, counting_absent, ids_of_lem}
 use Rattle.volume_laws.proofs.Contents.{owns_there, owned_owns, blocks_same}
-use Rattle.demand2.specs.Added.{Added, Changed, split, added_changed}
+use Rattle.demand2.specs.Added.{Added, Changed}
+use Rattle.demand2.proofs.Added.{split, added_changed}
 
 -- w is v and the new block r, whose id no block of v names
 module _ {A : Type 0} (F : View A) (v w : Volume A) (r : A) (a : Added F v.blocks w.blocks r) (ag : Agree F v.blocks)
