@@ -1,20 +1,18 @@
--- Demand 2 for format, create, append and unlink. What each call promises is in the file named after it; the other files are their proof, in
--- the order in which they build on one another, but for the records that those promises cite: Store.RecordFits, FirstWithRoom and OneStored,
--- Places.Written and AreaGrown, Unused.Unused, NewRecord.WrittenOne, Cut.Sized, Pieces.NextBlock and Chained, and Smallest of the laws of calls.
--- lists of bytes
+-- Demand 2 for format, create, append and unlink, proved: each file by the definitions in the file of its name in specs, in the order in which
+-- they build on one another.
 -- one record stored in an area, in an image, and several one after the other
--- ids and names
--- one more record in a volume
--- the calls
 pub mod Store
 pub mod Places
+-- ids and names
 pub mod Unused
+-- one more record in a volume
 pub mod Added
 pub mod Newer
 pub mod Entered
 pub mod Mounted
 pub mod NewRecord
 pub mod Rewritten
+-- the calls
 pub mod NewInode
 pub mod EmptyFile
 pub mod Create
