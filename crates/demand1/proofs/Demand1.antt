@@ -36,9 +36,9 @@ use Rattle.demand2_overwrite.proofs.Overwrite.{overwrite_goes}
 use Rattle.demand2_collect.proofs.Collect.{collect}
 use Rattle.demand1.specs.Table.{new_versions}
 use Rattle.demand1.specs.Words.{OnlyStored, OnlyOne, OnlyRead, OnlyTree, AcceptedCalls, Demand1}
-use Rattle.demand1.specs.Exactly.{exactly}
-use Rattle.demand1.specs.Numbers.{numbers}
-use Rattle.demand1.specs.Stores.{only_stored, only_one}
+use Rattle.demand1.proofs.Exactly.{exactly}
+use Rattle.demand1.proofs.Numbers.{numbers}
+use Rattle.demand1.proofs.Stores.{only_stored, only_one}
 
 -- ---- a read
 

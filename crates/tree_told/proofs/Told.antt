@@ -22,11 +22,11 @@ use Rattle.volume_laws.specs.Sort.{Sorted, sorted_keep, sorted_sort, bytes_then_
 use Rattle.volume_laws.specs.Counting.{counting_mem}
 use Rattle.volume_laws.specs.Climb.{fate_own, fate_parent, live_not_dead, live_some}
 use Rattle.volume_laws.specs.Sound.{Sound, parent_directory}
-use Rattle.volume_laws.specs.Listing.{ids_shown, line_ids, tree_once, mem_entries, above, Below, child, depth_on}
+use Rattle.volume_laws.specs.Listing.{ids_shown, line_ids, tree_once, mem_entries, above, Below, depth_on}
 use Rattle.demand2.specs.Found.{goes_on}
 use Rattle.tree_told.specs.Words.{lines_of, is_line_of, depth_of, line_of_inode, StandsBefore, Child, LiesBelow, CutShort, Earlier, ends, lower, equal, InOrder, Around, LinesTold}
 use Rattle.tree_told.specs.Places.{inside_mem, Precedes, precedes_either, precedes_sorted, precedes_once, precedes_ids, stands, stands_precedes}
-use Rattle.tree_told.specs.Deeper.{deeper_only}
+use Rattle.tree_told.proofs.Deeper.{deeper_only}
 use Rattle.tree_told.specs.Shown.{above_lives, tree_piece, under, under_below, below_under, above_lineage, lineage_above, line_lives, entries_lines}
 
 -- ---- lines of one inode

@@ -10,9 +10,9 @@ use Rattle.calls_laws.specs.Records.{volume_sound}
 use Rattle.demand2.specs.Found.{root_there, root_lives}
 use Rattle.demand2.proofs.Mounted.{ids_few}
 use Rattle.tree_told.specs.Words.{TreeTold}
-use Rattle.tree_told.specs.Told.{lines_told}
-use Rattle.tree_told.specs.Text.{text_told}
-use Rattle.tree_told.specs.Size.{name_short, data_short, text_short}
+use Rattle.tree_told.proofs.Told.{lines_told}
+use Rattle.tree_told.proofs.Text.{text_told}
+use Rattle.tree_told.proofs.Size.{name_short, data_short, text_short}
 
 -- T-07
 pub tree_told : (image : Bytes) (ds : List Descriptor) → mount_number image ds ≡ 0 → TreeTold image ds

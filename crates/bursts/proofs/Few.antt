@@ -10,8 +10,9 @@ use Rattle.bursts.specs.Words.{bit_at, altered_bits, Few, Damaged}
 use Rattle.bursts.specs.Feed.{feed}
 use Rattle.bursts.specs.Bits.{bits, bits_bits, length_bits, bits_at, feed_bits, take_bit}
 use Rattle.bursts.specs.Codeword.{codeword, Checked, code_long, code_bytes, code_zero}
-use Rattle.bursts.specs.Accepted.{before, after}
-use Rattle.bursts.specs.Magics.{lawful, Turned, turned, neither}
+use Rattle.bursts.proofs.Accepted.{before, after}
+use Rattle.bursts.specs.Magics.{Turned}
+use Rattle.bursts.proofs.Magics.{lawful, turned, neither}
 use Rattle.bursts.specs.Distance.{other, dist, dist_append, two_apart}
 use Rattle.bursts.specs.Parity.{even_apart}
 

@@ -16,7 +16,7 @@ use Rattle.calls.specs.AreaReport.{area_report, area_report_number, area_report_
 use Rattle.calls.specs.declared.Descriptor.{Descriptor}
 use Rattle.calls_laws.specs.Checks.{passed_first, area_fits}
 use Rattle.damage_told.specs.Words.{Ascending, none, next, AreaTold, AreaReportTold}
-use Rattle.damage_told.specs.Told.{area_told}
+use Rattle.damage_told.proofs.Told.{area_told}
 
 -- ---- stretch k of some
 

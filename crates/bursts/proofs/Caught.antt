@@ -4,9 +4,9 @@ use Rattle.std.proofs.Common.{arith}
 use Rattle.format.specs.Bytes.{Bytes}
 use Rattle.format.specs.Record.{Kind, declared_size, acceptable, record_size}
 use Rattle.bursts.specs.Words.{Damaged, altered_bits, Sure, a_burst, a_header_burst, few_bits}
-use Rattle.bursts.specs.Magics.{refused}
-use Rattle.bursts.specs.Bursts.{burst_caught, header_caught}
-use Rattle.bursts.specs.Few.{altered_even, few_caught}
+use Rattle.bursts.proofs.Magics.{refused}
+use Rattle.bursts.proofs.Bursts.{burst_caught, header_caught}
+use Rattle.bursts.proofs.Few.{altered_even, few_caught}
 
 -- "then it isn't acceptable": no acceptable record, of either kind, starts there, whatever stands behind it
 pub caught : (k : Kind) (t s : Bytes) → Damaged k t s → Sure k (declared_size k t) t s → record_size s ≡ 0

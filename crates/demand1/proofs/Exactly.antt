@@ -52,10 +52,10 @@ use Rattle.demand1.specs.Table.{Row, ◌given_when◌, Answers, mount_rows, walk
 use Rattle.demand1.specs.Table.{BadPath, broken_row, end_row, source_row, format_rows, area_report_rows, lookup_rows, open_rows, read_rows, create_rows, append_rows}
 use Rattle.demand1.specs.Table.{text_rows, new_versions, overwrite_rows, name_rows, rewrite_rows, IntoItself, unlink_rows, rename_rows}
 use Rattle.demand1.specs.Table.{Exactly}
-use Rattle.demand1.specs.Stores.{fit_inside, space_of}
+use Rattle.demand1.proofs.Stores.{fit_inside, space_of}
 use Rattle.demand1.specs.Paths.{named_names, path_means}
 use Rattle.demand1.specs.Walk.{child_means, child_listed, found_or, walk_answers}
-use Rattle.demand1.specs.Touched.{whole_blocks, past_means, touched_means, versions_mean}
+use Rattle.demand1.proofs.Touched.{whole_blocks, past_means, touched_means, versions_mean}
 use Rattle.demand1.specs.Mounting.{Means, ltb_means, leb_means, eqb_means, is_means, fails_means, or_means, step, done, list_means, mount_answers}
 
 -- ---- rows one after the other

@@ -11,8 +11,9 @@ use Rattle.format_laws.specs.Record.{inode_reserved_lem}
 use Rattle.bursts.specs.Words.{bit_at, Altered, Burst, Part, covered_header, check_field, body, Wholly, IsKind, is_inode, is_block, Damaged}
 use Rattle.bursts.specs.Bits.{take_bit, crc_burst}
 use Rattle.bursts.specs.Codeword.{Place, in_header, in_body, in_high, in_low, place_of, placed_at, codeword, Checked, code_long, code_bytes, place_bit, code_zero}
-use Rattle.bursts.specs.Accepted.{before, after}
-use Rattle.bursts.specs.Magics.{lawful, Turned, turned, neither}
+use Rattle.bursts.proofs.Accepted.{before, after}
+use Rattle.bursts.specs.Magics.{Turned}
+use Rattle.bursts.proofs.Magics.{lawful, turned, neither}
 
 -- a bit that is not altered
 unaltered : (n : ℕ) (t s : Bytes) (p : ℕ) → p < n * 8 → (Altered n t s p → ⊥) → bit_at t p ≡ bit_at s p
