@@ -3,12 +3,8 @@ pub mod Words
 pub mod Feed
 pub mod Bits
 pub mod Codeword
-pub mod Accepted
 pub mod Magics
-pub mod Bursts
 pub mod Distance
 pub mod Parity
-pub mod Few
-pub mod Caught
 pub mod Decide
 pub mod Example

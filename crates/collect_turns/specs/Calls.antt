@@ -12,8 +12,9 @@ use Rattle.calls.specs.Overwrite.{overwrite_of, image_overwritten}
 use Rattle.calls.specs.Collect.{collect_of, image_collected}
 use Rattle.calls.specs.declared.Descriptor.{Descriptor}
 use Rattle.demand2.specs.Store.{SameHeaders}
-use Rattle.demand2_collect.specs.Collect.{collect}
-use Rattle.demand2_collect.specs.Demand2.{Demand2, demand2}
+use Rattle.demand2_collect.proofs.Collect.{collect}
+use Rattle.demand2_collect.specs.Demand2.{Demand2}
+use Rattle.demand2_collect.proofs.Demand2.{demand2}
 use Rattle.collect_turns.specs.Words.{Run, collects}
 
 -- accepted or refused; names, data and image are bytes

@@ -4,7 +4,6 @@ pub mod Words
 pub mod Order
 -- one collection, and any number of them
 pub mod Turn
-pub mod Turns
 -- by the counts in the headers
 pub mod Shares
 -- the calls that may stand between collections

@@ -3,9 +3,5 @@ pub mod Words
 -- the parts of an area, and their bytes
 pub mod Runs
 pub mod Free
--- one area, and the report
-pub mod Told
 -- descriptors not in order of offset
 pub mod Example
--- one area, as its report tells it
-pub mod Area

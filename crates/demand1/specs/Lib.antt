@@ -7,7 +7,3 @@ pub mod Stores
 pub mod Mounting
 pub mod Paths
 pub mod Walk
-pub mod Touched
-pub mod Exactly
-pub mod Numbers
-pub mod Demand1

@@ -31,9 +31,10 @@ use Rattle.calls.specs.Storing.{is_among}
 use Rattle.calls.specs.declared.Descriptor.{Descriptor}
 use Rattle.calls_laws.specs.Checks.{InArea}
 use Rattle.calls_laws.specs.Unused.{among, not_among}
-use Rattle.demand2.specs.Places.{Distinct, files_distinct}
-use Rattle.demand2.specs.Format.{own_ids}
-use Rattle.demand2_collect.specs.Collect.{once_long, labels_differ}
+use Rattle.demand2.specs.Places.{Distinct}
+use Rattle.demand2.proofs.Places.{files_distinct}
+use Rattle.demand2.proofs.Format.{own_ids}
+use Rattle.demand2_collect.proofs.Collect.{once_long, labels_differ}
 use Rattle.demand1.specs.Table.{Row, ◌given_when◌, Answers, NoOverlap, GoodList, mount_rows}
 
 -- ---- tests and what they mean

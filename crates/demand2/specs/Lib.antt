@@ -15,14 +15,11 @@ pub mod Added
 pub mod Found
 pub mod Lineage
 pub mod Newer
-pub mod Entered
-pub mod Mounted
 pub mod NewRecord
 pub mod Rewritten
 -- the calls
 pub mod NewInode
 pub mod Create
-pub mod NewBlock
 pub mod Cut
 pub mod Pieces
 pub mod Append

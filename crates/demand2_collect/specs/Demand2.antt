@@ -1,16 +1,13 @@
 -- Demand 2, whole: for any image and any area list, what each call leaves.
-use Rattle.std.specs.Prelude.{ℕ, ◌+◌, ◌≤◌, ◌<◌, ◌≡◌, ◌≢◌, ◌⊎◌, length}
-use Rattle.std.proofs.Common.{◌∙◌, inl, inr, arith}
+use Rattle.std.specs.Prelude.{ℕ, ◌+◌, ◌≤◌, ◌≡◌, ◌≢◌, length}
 use Rattle.std.proofs.Math.Option.{Option, some}
 use mathlib.Core.List.{List, [], map, Memᴰ}
-use Rattle.std.proofs.Math.Decide.{ℕ_discrete}
 use Rattle.format.specs.Bytes.{Bytes}
 use Rattle.format.specs.Record.{record_id, record_sequence}
 use Rattle.format_laws.specs.Crc.{Octets}
 use Rattle.volume.specs.View.{by_bytes}
-use Rattle.volume.specs.Counting.{counting, inode_of, block_of}
+use Rattle.volume.specs.Counting.{inode_of, block_of}
 use Rattle.volume.specs.Contents.{file_blocks, text_of}
-use Rattle.volume_laws.specs.Counting.{Agree, counting_mem, counting_top, counting_some, counting_is}
 use Rattle.calls.specs.Mount.{volume, mount_number}
 use Rattle.calls.specs.Format.{format_number, image_formatted}
 use Rattle.calls.specs.Create.{create_of, image_created}
@@ -21,17 +18,15 @@ use Rattle.calls.specs.Rewrite.{last_sequence}
 use Rattle.calls.specs.Overwrite.{changes, text_after, new_version, overwrite_of, image_overwritten}
 use Rattle.calls.specs.Collect.{collect_of, image_collected}
 use Rattle.calls.specs.declared.Descriptor.{Descriptor}
-use Rattle.calls_laws.specs.Checks.{passes}
-use Rattle.demand2.specs.Mounted.{agreed_inodes, agreed_blocks}
-use Rattle.demand2.specs.Format.{AfterFormat, format}
-use Rattle.demand2.specs.Create.{AfterCreate, create}
-use Rattle.demand2.specs.Append.{AfterAppend, append, append_nothing}
-use Rattle.demand2.specs.Unlink.{AfterUnlink, unlink}
-use Rattle.demand2_rename.specs.Rename.{AfterRename, rename}
+use Rattle.demand2.specs.Format.{AfterFormat}
+use Rattle.demand2.specs.Create.{AfterCreate}
+use Rattle.demand2.specs.Append.{AfterAppend}
+use Rattle.demand2.specs.Unlink.{AfterUnlink}
+use Rattle.demand2_rename.specs.Rename.{AfterRename}
 use Rattle.demand2_overwrite.specs.Blocks.{Holder, BlocksAfter}
-use Rattle.demand2_overwrite.specs.Overwrite.{AfterOverwrite, overwrite, overwrite_nothing, versions_meant}
-use Rattle.demand2.specs.Refused.{RefusedCalls, refused_calls}
-use Rattle.demand2_collect.specs.Collect.{AfterCollect, collect}
+use Rattle.demand2_overwrite.specs.Overwrite.{AfterOverwrite}
+use Rattle.demand2.specs.Refused.{RefusedCalls}
+use Rattle.demand2_collect.specs.Collect.{AfterCollect}
 
 -- r is one of the records rs, bears the id i, and none of that id has a greater sequence
 pub record Greatest (rs : List Bytes) (i : ℕ) (r : Bytes) : Type 0 where
@@ -46,21 +41,6 @@ pub record GreatestCounts (mount : ℕ) (rs : List Bytes) (c : ℕ → Option By
   pub each : (r : Bytes) → Memᴰ r rs → (s : Bytes) × (c (record_id r) ≡ some s)
   -- and of a volume that mounts exactly that record
   pub exactly : mount ≡ 0 → (i : ℕ) (r : Bytes) → Greatest rs i r → c i ≡ some r
-
-greatest_counts : (mount : ℕ) (rs : List Bytes) → (mount ≡ 0 → Agree by_bytes rs) → GreatestCounts mount rs (counting by_bytes rs)
-greatest_counts mount rs agreed = record {
-  greatest = λ i r e. let m = counting_mem by_bytes rs i r e in record { there = m.0; own_id_lem = m.1; top = counting_top by_bytes rs i r e };
-  each = counting_some by_bytes rs;
-  exactly = sole;
-}
-  where
-    sole : mount ≡ 0 → (i : ℕ) (r : Bytes) → Greatest rs i r → counting by_bytes rs i ≡ some r
-    sole z i r g = rw (← g.own_id_lem) (counting_is by_bytes rs r g.there (λ s m e. rival s m e (ℕ_discrete (record_sequence s) (record_sequence r))))
-      where
-        rival : (s : Bytes) → Memᴰ s rs → record_id s ≡ record_id r → Dec (record_sequence s ≡ record_sequence r)
-            → (s ≡ r) ⊎ (record_sequence s < record_sequence r)
-        rival s m e (yes q) = inl (agreed z s r m g.there e q)
-        rival s m e (no q) = inr (omega (arith, g.top s m (e ∙ g.own_id_lem)))
 
 pub record Demand2 (image : Bytes) (ds : List Descriptor) : Type 0 where
   -- "for each object the greatest sequence number counts"
@@ -93,20 +73,3 @@ pub record Demand2 (image : Bytes) (ds : List Descriptor) : Type 0 where
   pub collects : collect_of image ds ≡ 0 → AfterCollect image (image_collected image ds) ds
   -- and of each refused one
   pub refused : RefusedCalls image ds
-
-pub demand2 : (image : Bytes) (ds : List Descriptor) → Demand2 image ds
-demand2 image ds = record {
-  inodes = greatest_counts (mount_number image ds) (volume image ds).inodes (λ z. agreed_inodes image ds (passes image ds z));
-  blocks = greatest_counts (mount_number image ds) (volume image ds).blocks (λ z. agreed_blocks image ds (passes image ds z));
-  formats = format image ds;
-  creates = create image ds;
-  appends = append image ds;
-  appends_nothing = append_nothing image ds;
-  unlinks = unlink image ds;
-  renames = rename image ds;
-  overwrites = overwrite image ds;
-  overwrites_nothing = overwrite_nothing image ds;
-  overwrites_need = versions_meant image ds;
-  collects = collect image ds;
-  refused = refused_calls image ds;
-}

@@ -38,10 +38,10 @@ use Rattle.collect_laws.proofs.Source.{source_found}
 use Rattle.collect_laws.specs.Header.{header_with_id, renamed_size, renamed_id, renamed_file}
 use Rattle.collect_laws.specs.Stores.{filled_scratch, filled_long}
 use Rattle.collect_laws.proofs.Mounted.{scratch_is, file_is, copied_survive, copied_fit, collected_is}
-use Rattle.demand2.specs.Store.{same_area, area_length}
-use Rattle.demand2.specs.Places.{area_lengths}
+use Rattle.demand2.proofs.Store.{same_area, area_length}
+use Rattle.demand2.proofs.Places.{area_lengths}
 use Rattle.demand2.specs.Octet.{octets_erased, octets_put, record_octets}
-use Rattle.demand2.specs.Format.{empty_length, empty_scratch, octets_empty}
+use Rattle.demand2.proofs.Format.{empty_length, empty_scratch, octets_empty}
 use Rattle.demand2_collect.specs.Copies.{Moved}
 use Rattle.demand2_collect.specs.Filled.{reads_back}
 

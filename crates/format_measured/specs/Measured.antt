@@ -1,25 +1,11 @@
 -- Document 01, "Measured on the bench": the cases marked (P), one table under one theorem.
-use Rattle.std.specs.Prelude.{ℕ, ◌≤◌, ◌≡◌, refl, Bool, true, false, List, [], ◌∷◌, map, replicate}
-use Rattle.std.proofs.Common.{arith}
-use Rattle.format.specs.Bytes.{Bytes, le16, le32}
-use Rattle.format.specs.Crc.{crc_bit, crc_byte, crc_over, check}
-use Rattle.format.specs.Ids.{NONE, is_directory_id, is_file_id, is_inode_id, is_block_id}
-use Rattle.format.specs.Record.{
-  name_good,
-  inode_rule,
-  inode_rules,
-  previous_rule,
-  block_rule,
-  block_rules,
-  check_right,
-  well_formed,
-  acceptable,
-  record_size,
-}
-use Rattle.format.specs.Encoding.{inode_front, block_front, sealed, inode_bytes, block_bytes}
+use Rattle.std.specs.Prelude.{ℕ, ◌≤◌, ◌≡◌, Bool, true, false, List, [], ◌∷◌, map, replicate}
+use Rattle.format.specs.Bytes.{Bytes}
+use Rattle.format.specs.Ids.{NONE}
+use Rattle.format.specs.Record.{record_size}
+use Rattle.format.specs.Encoding.{inode_bytes, block_bytes}
 use Rattle.format.specs.BlockSize.{greatest_block}
-use Rattle.volume.specs.Lists.{all}
-use Rattle.volume.specs.Path.{split_byte, segments, good_segment, good_segments, is_absolute, absolute_names, good_absolute, good_relative, good_path}
+use Rattle.volume.specs.Path.{good_path}
 
 -- the record of a file below the root, with a name of n bytes
 abbrev file_named : ℕ → Bytes
@@ -70,12 +56,3 @@ pub record Measured : Type 0 where
   pub table : map (λ c. c.is) cases ≡ map (λ c. c.measured) cases
   -- "and more"
   pub beyond : (n : ℕ) → 4168 ≤ n → greatest_block n ≡ 2048
-
-pub measured : Measured
-unfolding greatest_block le16 le32 crc_bit crc_byte crc_over check is_directory_id is_file_id is_inode_id is_block_id name_good inode_rule inode_rules
-    previous_rule block_rule block_rules check_right well_formed acceptable record_size inode_front block_front sealed inode_bytes block_bytes all
-    split_byte segments good_segment good_segments is_absolute absolute_names good_absolute good_relative good_path
-measured = record {
-  table = refl;
-  beyond = λ n h. omega arith;
-}

@@ -5,11 +5,8 @@ pub mod Places
 -- what stands around an inode's line, and where "deeper" stands
 pub mod Shown
 pub mod Deeper
--- the lines
-pub mod Told
 -- the text and the call
 pub mod Text
 pub mod Size
 -- the theorem
-pub mod Tree
 pub mod Example

@@ -1,0 +1,2 @@
+-- The measured cases that are proved.
+pub mod Measured
