@@ -1,4 +1,4 @@
-//! Links the archive that `rt staticlib nffs` writes. NFFS_ARCHIVE names its folder; without it
+//! Links the archive that `tools/archive nffs` writes. NFFS_ARCHIVE names its folder; without it
 //! the repository's target/staticlib is taken.
 
 use std::env;
@@ -15,7 +15,7 @@ fn main() {
     println!("cargo::rerun-if-changed={}", archive.display());
     if !archive.is_file() {
         println!(
-            "cargo::error={} is not there: run `rt staticlib nffs`, or set NFFS_ARCHIVE",
+            "cargo::error={} is not there: run `tools/archive nffs`, or set NFFS_ARCHIVE",
             archive.display()
         );
         return;

@@ -17,7 +17,6 @@ usage: nffs COMMAND IMAGE [WORDS] [OPTIONS]
   report IMAGE                mount, count inodes, live ones, damage and its bytes, and where the
                               first of it is, as OFFSET+LENGTH
   tree IMAGE                  what is live, a line for each: depth as spaces, name, a file's size
-  ls IMAGE [PATH]             the lines of what lies in a directory, or the root, or that of a file
   lookup IMAGE PATH           kind and id (hexadecimal) of what PATH leads to
   cat IMAGE PATH              write a file to standard output; from --from on, --length bytes
   export IMAGE FOLDER [PATH]  copy what lies below PATH, or all, into FOLDER

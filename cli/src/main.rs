@@ -27,13 +27,12 @@ use std::process::ExitCode;
 
 /// The commands: how many words follow the image, their own options, what they do.
 #[rustfmt::skip]
-static COMMANDS: [Command; 18] = [
+static COMMANDS: [Command; 17] = [
     Command { name: "check", words: (0, 0), options: &["--json"], run: check::check },
     Command { name: "map", words: (0, 0), options: &["--json", "--stretches"], run: map::map },
     Command { name: "areas", words: (0, 0), options: &[], run: files::areas_seen },
     Command { name: "report", words: (0, 0), options: &[], run: files::report },
     Command { name: "tree", words: (0, 0), options: &[], run: listing::tree },
-    Command { name: "ls", words: (0, 1), options: &[], run: listing::ls },
     Command { name: "lookup", words: (1, 1), options: &[], run: files::lookup },
     Command { name: "cat", words: (1, 1), options: &["--from", "--length"], run: files::cat },
     Command { name: "export", words: (1, 2), options: &["--replace"], run: folders::export },

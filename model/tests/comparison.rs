@@ -104,7 +104,6 @@ fn pasted() -> Case {
                 offset: 9,
                 data: bytes("4242"),
             },
-            Call::Tree { length: 5 },
         ],
     }
 }
@@ -113,15 +112,13 @@ fn pasted() -> Case {
 fn a_pasted_case() {
     let (case, mut tally) = (pasted(), Tally::default());
     assert!(run(&case, &Model, &Model, &mut tally).is_none());
-    assert_eq!(tally.calls, 9);
+    assert_eq!(tally.calls, 8);
     assert_eq!(tally.answers.get(&("Read", 13)), Some(&1));
     assert_eq!(tally.answers.get(&("AreaReport", 1)), Some(&1));
     // The one file area has damage.
     assert_eq!(tally.answers.get(&("Rename", 15)), Some(&1));
     assert_eq!(tally.answers.get(&("Overwrite", 0)), Some(&1));
-    assert_eq!(tally.answers.get(&("Tree", 0)), Some(&1));
     let shown = show(&case, &Model, &Model);
-    assert!(shown.contains("        Call::Tree { length: 5 },\n"));
     let base = "base: bytes(\"2f\")";
     assert!(shown
         .contains(&format!("Call::Rename {{ {base}, old: bytes(\"61\"), new: bytes(\"62\") }},")));
@@ -129,4 +126,15 @@ fn a_pasted_case() {
     assert!(shown.contains(&format!(
         "Call::Overwrite {{ {base}, {path}, offset: 9, data: bytes(\"4242\") }},"
     )));
+}
+
+#[test]
+fn a_pasted_listing() {
+    let (mut case, mut tally) = (pasted(), Tally::default());
+    case.calls.push(Call::Tree { length: 5 });
+    assert!(run(&case, &Model, &Model, &mut tally).is_none());
+    assert_eq!(tally.calls, 9);
+    assert_eq!(tally.answers.get(&("Tree", 0)), Some(&1));
+    let shown = show(&case, &Model, &Model);
+    assert!(shown.contains("        Call::Tree { length: 5 },\n"));
 }

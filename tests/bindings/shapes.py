@@ -6,7 +6,9 @@ import sys
 from pathlib import Path
 
 top = Path(__file__).resolve().parents[2]
-rattle = (top / "crates/nffs/src/lib.rt").read_text()
+# the crate whose exports the archive has
+archived = top / "crates/nffs_c/src/lib.rt"
+rattle = (archived if archived.is_file() else top / "crates/nffs/src/lib.rt").read_text()
 answers = (top / "crates/calls/src/lib.rt").read_text()
 whole = (top / "include/nffs.h").read_text()
 header = whole.replace("NFFS_ANSWERS ", "")
@@ -71,7 +73,7 @@ def in_rust(t, lent):
     return ("*mut " if lent else "") + STRUCTS[t][1]
 
 
-exports = re.findall(r'#\[no_mangle\]\s*pub extern "C" fn (\w+)(?:<[^>]*>)?\((.*?)\)\s*->\s*(\w+)', rattle, re.S)
+exports = re.findall(r'#\[unsafe\(no_mangle\)\]\s*pub extern "C" fn (\w+)(?:<[^>]*>)?\((.*?)\)\s*->\s*(\w+)', rattle, re.S)
 bare = re.sub(r"/\*.*?\*/", "", header, flags=re.S)
 prototypes = {
     name: ([re.sub(r"\w+$", "", p.strip()).strip() for p in args.split(",")], answer)
@@ -157,7 +159,8 @@ for known, name in ((areas_most, "MOST_AREAS"), (limit("MOST_APPENDED", answers)
     check(f"{name}, C", known, limit(f"NFFS_{name}", bare))
     check(f"{name}, Rust", known, limit(f"pub const {name}", crate))
 # the bound is a theorem's
-tree_most = re.findall(r"length \(treeText .*\) ≤ (\d+)$", (top / "crates/tree_told/specs/Words.antt").read_text(), re.M)
+words = next(path for folder in ("specs", "proofs") if (path := top / "crates/tree_told" / folder / "Words.antt").is_file())
+tree_most = re.findall(r"length \(tree_text .*\) ≤ (\d+)$", words.read_text(), re.M)
 check("TREE_MOST, C", tree_most, limit("NFFS_TREE_MOST", bare))
 check("TREE_MOST, Rust", tree_most, limit("pub const TREE_MOST", crate))
 check("the longest text, docs/LINKING.md", [f"{int(n):,}" for n in tree_most], re.findall(r"([\d,]+) bytes \(`NFFS_TREE_MOST`", linking))

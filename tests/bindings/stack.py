@@ -1,10 +1,10 @@
 """The stack that each exported call of an archive needs at most, from its code, the return address included.
 
 stack.py ARCHIVE prints 'call bytes'. Through each function the depth of the stack is followed along every jump; a call adds what its
-callee needs, and what is used below the stack pointer (the red zone) is counted in. Functions that call each other in turn are counted as
-often as FRAMES says, and a call that would be one more is taken as never made. What cannot be followed so, as any other recursion, jumps
-through tables, a computed stack pointer or a return at another depth than the entry's, is an error. What memset and the like need of their
-own, outside the archive, comes on top.
+callee needs, and what is used below the stack pointer (the red zone) is counted in. The loop by which a frame longer than a page is touched page
+by page is known by its form. Functions that call each other in turn are counted as often as FRAMES says, and a call that would be one more is taken
+as never made. What cannot be followed so, as any other recursion, jumps through tables, a computed stack pointer or a return at another depth than
+the entry's, is an error. What memset and the like need of their own, outside the archive, comes on top.
 """
 
 import functools
@@ -59,6 +59,15 @@ def below(operands):
     return max((int(by, 16) for by in re.findall(r"-(0x[0-9a-f]+)\(%rsp", operands)), default=0)
 
 
+def touched(code, i):
+    """The bytes of a frame that is longer than a page, where the instructions from here on touch each page of it in turn."""
+    lines = [" ".join(line[1:3]) for line in code[i : i + 6]]
+    form = re.match(r"mov %rsp,(%r\d+)\nsub \$(0x[0-9a-f]+),\1\nsub \$(0x[0-9a-f]+),%rsp\nmovq \$0x0,\(%rsp\)\ncmp \1,%rsp\njne ([0-9a-f]+) <", "\n".join(lines))
+    if not form or int(form[4], 16) != code[i + 2][0] or int(form[2], 16) % int(form[3], 16):
+        return 0
+    return int(form[2], 16)
+
+
 def depths(code):
     """The depth before each instruction that is reached."""
     place = {at: i for i, (at, *_) in enumerate(code)}
@@ -71,6 +80,10 @@ def depths(code):
             continue
         done.add(i)
         _, name, operands, symbol = code[i]
+        if by := touched(code, i):
+            depth.update({k: d + by for k in range(i + 1, i + 6)})
+            todo.append((i + 6, d + by))
+            continue
         if name.startswith("j") and symbol is None:
             target = re.match(r"([0-9a-f]+) <", operands)
             if not target:

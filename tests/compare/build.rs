@@ -1,4 +1,4 @@
-//! With the feature `check`: finds the archives that `rt staticlib crc16_alone` and `rt staticlib mount_alone` write. NFFS_ARCHIVE names their
+//! With the feature `check`: finds the archives that `tools/archive crc16_alone mount_alone` writes. NFFS_ARCHIVE names their
 //! folder; without it the repository's target/staticlib is taken. CRC16_BEFORE, if set, names the folder of libcrc16_before.a, the check of another
 //! commit (`check-times`).
 
@@ -27,8 +27,8 @@ fn main() {
         Some(named) => PathBuf::from(named),
         None => PathBuf::from(env::var_os("CARGO_MANIFEST_DIR").expect("cargo sets this")).join("../../target/staticlib"),
     };
-    found(&folder, "libcrc16_alone.a", "run `rt staticlib crc16_alone`, or set NFFS_ARCHIVE");
-    found(&folder, "libmount_alone.a", "run `rt staticlib mount_alone`, or set NFFS_ARCHIVE");
+    found(&folder, "libcrc16_alone.a", "run `tools/archive crc16_alone`, or set NFFS_ARCHIVE");
+    found(&folder, "libmount_alone.a", "run `tools/archive mount_alone`, or set NFFS_ARCHIVE");
     if let Some(folder) = env::var_os("CRC16_BEFORE") {
         found(Path::new(&folder), "libcrc16_before.a", "run `tests/compare/check-times COMMIT`");
         println!("cargo::rustc-cfg=before");

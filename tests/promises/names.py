@@ -37,8 +37,8 @@ def texts(crate, folder, ending):
 
 
 def read_specs(crate):
-    """The public names of a crate's specs, the fields of its records as Record.field, and its text."""
-    names, whole = set(), "\n".join(texts(crate, "specs", ".antt"))
+    """The public names of a crate's definitions and theorems, in specs or proofs, the fields of its records as Record.field, and their text."""
+    names, whole = set(), "\n".join(texts(crate, "specs", ".antt") + texts(crate, "proofs", ".antt"))
     record, depth = None, 0
     for line in whole.split("\n"):
         indent = len(line) - len(line.lstrip())
@@ -60,7 +60,7 @@ def read_code(crate):
     """Functions, constants and types of a crate's code, those of an impl as Type::name."""
     names, owner = set(), None
     for line in "\n".join(texts(crate, "src", ".rt")).split("\n"):
-        impl = re.match(r"impl (\w+) \{", line)
+        impl = re.match(r"impl(?:<[^>]*>)? (\w+)(?:<[^>]*>)? \{", line)
         owner = impl[1] if impl else None if line.startswith("}") else owner
         said = re.match(r'\s*(?:pub )?(?:extern "C" )?(?:fn|const|struct|enum) (\w+)', line)
         if said:
@@ -94,7 +94,7 @@ def ticked(where, at, name, record):
         return record, None
     names, whole = SPECS[at]
     if name.endswith(".antt"):
-        check("file", where, f"{at} {name}", (TOP / "crates" / at / "specs" / name).is_file())
+        check("file", where, f"{at} {name}", any((TOP / "crates" / at / folder / name).is_file() for folder in ("specs", "proofs")))
     elif " : " in name:
         check("theorem", where, f"{at} {name}", f"\npub {name}\n" in whole)
     elif name.startswith("."):

@@ -222,8 +222,9 @@ fn ids_are_collected_level_by_level() {
 }
 
 /// Words of no command that can be run, and what is said of them.
-const NO_COMMANDS: [(&[&str], &str); 33] = [
+const NO_COMMANDS: [(&[&str], &str); 32] = [
     (&[], "no command"),
+    (&["ls", "image"], "no command ls"),
     (&["dir", "image"], "no command dir"),
     (&["report"], "report: no image"),
     (&["format", "other"], "format: no --areas"),
@@ -245,8 +246,6 @@ const NO_COMMANDS: [(&[&str], &str); 33] = [
     (&["map"], "map: no image"),
     (&["tree", "image", "/a"], "tree: too many words"),
     (&["tree", "image", "--json"], "tree takes no --json"),
-    (&["ls"], "ls: no image"),
-    (&["ls", "image", "/a", "/b"], "ls: too many words"),
     (&["report", "image", "--all"], "no option --all"),
     (&["report", "image", "-x"], "no option -x"),
     (&["check", "image", "--json=1"], "--json takes no value"),

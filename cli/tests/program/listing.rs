@@ -1,4 +1,4 @@
-//! What is live, line by line: `tree` and `ls`.
+//! What is live, line by line: `tree`.
 
 use crate::folder::{Folder, PROGRAM};
 use crate::records::{block, image, image_of, inode, NONE};
@@ -17,25 +17,17 @@ fn lines_of(folder: &Folder, records: &[Vec<u8>]) -> Vec<String> {
     String::from_utf8(tree_of(folder, records)).unwrap().lines().map(str::to_string).collect()
 }
 
-/// What `ls` says that cannot list a directory.
-fn unlisted(folder: &Folder, path: &str) -> String {
-    folder.bad(&["ls", "image", path, "-q"], b"", 2)
-}
-
 #[test]
 fn the_areas_of_document_01() {
     let folder = Folder::formatted("listing_01");
     assert_eq!(folder.text(&["tree", "image"]), "/\n");
-    assert_eq!(folder.text(&["ls", "image"]), "");
     folder.good(&["put", "image", "/a"], &[0x41; 10]);
     folder.good(&["append", "image", "/a"], &[0x41; 5]);
     assert_eq!(folder.text(&["tree", "image"]), "/\n a 15\n");
-    assert_eq!(folder.text(&["ls", "image"]), "a 15\n");
     let mut bytes = folder.bytes("image");
     bytes[4096 + 70] ^= 1;
     folder.write("image", &bytes);
     assert_eq!(folder.text(&["tree", "image"]), "/\n a broken\n");
-    assert_eq!(folder.text(&["ls", "image", "/a"]), "a broken\n");
 }
 
 #[test]
@@ -49,34 +41,16 @@ fn each_directory_before_what_lies_in_it_in_order_of_names() {
     }
     let tree = "/\n Log 4\n lo 3\n log 4\n tables\n  dose 12\n  old\n   dose 16\n z\n";
     assert_eq!(folder.text(&["tree", "image"]), tree);
-    for (path, lines) in [
-        ("/", "Log 4\nlo 3\nlog 4\ntables\nz\n"),
-        ("/tables", "dose 12\nold\n"),
-        ("/tables/old", "dose 16\n"),
-        ("/tables/old/dose", "dose 16\n"),
-        ("/lo", "lo 3\n"),
-        ("/z", ""),
-    ] {
-        assert_eq!(folder.text(&["ls", "image", path]), lines, "{path}");
-    }
-    for (path, number) in [("/none", 9), ("/log/x", 11), ("tables", 8), ("/tables/", 8)] {
-        let said = folder.refused(&["ls", "image", path, "-q"], b"");
-        let words = format!("nffs: ls image {path}: refused with {number}, ");
-        assert!(said.starts_with(&words), "{said}");
-    }
 }
 
 #[test]
 fn a_volume_that_does_not_mount_is_refused_and_nothing_printed() {
     let folder = Folder::new("listing_refused");
     folder.write("image", &image(&[])[4096..]);
-    for words in [&["tree", "image"][..], &["ls", "image"], &["ls", "image", "/a"]] {
-        let output = folder.run(&[words, &["-q"]].concat(), b"");
-        assert_eq!((output.status.code(), &output.stdout[..]), (Some(1), &b""[..]));
-        let said = String::from_utf8(output.stderr).unwrap();
-        let words = format!("nffs: {}: refused with 3, no file area", words.join(" "));
-        assert!(said.starts_with(&words), "{said}");
-    }
+    let output = folder.run(&["tree", "image", "-q"], b"");
+    assert_eq!((output.status.code(), &output.stdout[..]), (Some(1), &b""[..]));
+    let said = String::from_utf8(output.stderr).unwrap();
+    assert!(said.starts_with("nffs: tree image: refused with 3, no file area"), "{said}");
 }
 
 #[test]
@@ -101,10 +75,6 @@ fn two_of_one_name_are_both_there_and_what_is_not_live_is_not() {
     let lines =
         "/\n now 0\n other\n other 4\n twice\n  in the first 0\n twice\n  in the second 0\n";
     assert_eq!(String::from_utf8(tree_of(&folder, &records)).unwrap(), lines);
-    assert_eq!(folder.text(&["ls", "image"]), "now 0\nother\nother 4\ntwice\ntwice\n");
-    assert_eq!(folder.text(&["ls", "image", "/now"]), "now 0\n");
-    let said = folder.refused(&["ls", "image", "/twice"], b"");
-    assert!(said.contains("refused with 10, "), "{said}");
 }
 
 #[test]
@@ -119,20 +89,13 @@ fn names_are_bytes_and_on_a_terminal_text() {
     let lines = "/\n größe \"x\" 0\n line/break\n  \x1b[2J 0\n  \\xff\\\\ 0\n";
     let bytes = [&lines.as_bytes()[..lines.find("\\xff").unwrap()], b"\xff\\ 0\n"];
     assert_eq!(tree_of(&folder, &records), bytes.concat());
-    let listed = folder.good(&["ls", "image", "/line\nbreak"], b"");
-    assert_eq!(listed, b"\x1b[2J 0\n\xff\\ 0\n");
-    for (words, text) in [
-        ("tree -q image", lines.to_string()),
-        ("ls -q image $'/line\\nbreak'", "\x1b[2J 0\n\\xff\\\\ 0\n".to_string()),
-    ] {
-        let command = format!("exec {PROGRAM} {words}");
-        let mut script = Command::new("script");
-        script.env("SHELL", "/bin/bash").args(["-qec", &command, "/dev/null"]);
-        let output = script.current_dir(&folder.0).output().unwrap();
-        let shown = String::from_utf8(output.stdout).unwrap();
-        let expected = text.replace('\x1b', "\\u{1b}").replace('\n', "\r\n");
-        assert_eq!((output.status.code(), shown), (Some(0), expected));
-    }
+    let command = format!("exec {PROGRAM} tree -q image");
+    let mut script = Command::new("script");
+    script.env("SHELL", "/bin/bash").args(["-qec", &command, "/dev/null"]);
+    let output = script.current_dir(&folder.0).output().unwrap();
+    let shown = String::from_utf8(output.stdout).unwrap();
+    let expected = lines.replace('\x1b', "\\u{1b}").replace('\n', "\r\n");
+    assert_eq!((output.status.code(), shown), (Some(0), expected));
 }
 
 #[test]
@@ -149,20 +112,10 @@ fn a_file_and_a_directory_with_the_same_line() {
     ];
     let lines = ["/", " a 4", " a 3 0", " a 4", "  a 4", " a broken", "  a 0"];
     assert_eq!(lines_of(&folder, &records), lines);
-    for (path, lines) in [
-        ("/a", "a 4\n"),
-        ("/a 3", "a 3 0\n"),
-        ("/a 4", "a 4\n"),
-        ("/a 4/a 4", ""),
-        ("/a broken", "a 0\n"),
-        ("/a broken/a", "a 0\n"),
-    ] {
-        assert_eq!(folder.text(&["ls", "image", path]), lines, "{path}");
-    }
 }
 
 #[test]
-fn a_directory_with_a_name_that_begins_with_a_space_is_not_listed() {
+fn a_name_that_begins_with_a_space_looks_deeper() {
     let folder = Folder::new("listing_spaces");
     // the last line of the first is in the root, that of the second in the directory " a"
     let both = [inode(1, 0, 0, b" a"), inode(2, 0, 0, b"x"), inode(3, 0, 2, b"y")];
@@ -170,23 +123,6 @@ fn a_directory_with_a_name_that_begins_with_a_space_is_not_listed() {
     let trees = [in_root, below].map(|last| tree_of(&folder, &[&both[..], &[last]].concat()));
     assert_eq!(trees[0], trees[1]);
     assert_eq!(trees[0], b"/\n  a\n  b\n x\n  y\n");
-    let said = unlisted(&folder, "/");
-    let words = "nffs: ls image /: a name in / begins with a space, so that the lines of the tree \
-                 do not tell what lies in it from what lies deeper: `nffs tree IMAGE` prints all";
-    assert!(said.starts_with(words), "{said}");
-    assert!(unlisted(&folder, "/ a").contains("a name in / begins with a space"));
-    // others come behind it
-    assert_eq!(folder.text(&["ls", "image", "/x"]), "y\n");
-    assert_eq!(folder.text(&["ls", "image", "/x/y"]), "");
-
-    // but for those that begin with an earlier byte; a name that was, and one elsewhere, do not count
-    let early = [inode(1, 0, 0, b"\x01"), inode(2, 0, 1, b"y"), inode(3, 0, 0, b" d")];
-    tree_of(&folder, &early);
-    assert!(unlisted(&folder, "/\u{1}").contains("a name in / begins with a space"));
-    tree_of(&folder, &[&early[..], &[inode(3, 1, 2, b" d")]].concat());
-    assert_eq!(folder.text(&["ls", "image"]), "\u{1}\n");
-    assert_eq!(folder.text(&["ls", "image", "/\u{1}"]), "y\n");
-    assert!(unlisted(&folder, "/\u{1}/y").contains("a name in /\\u{1}/y begins with a space"));
 }
 
 /// Directories from the root on, one in the other, each called `d`.
@@ -197,22 +133,12 @@ fn nested(levels: u32) -> Vec<Vec<u8>> {
 #[test]
 fn what_lies_deeper_than_64_levels() {
     let folder = Folder::new("listing_deep");
-    let path = |levels: usize| "/d".repeat(levels);
     let line = |depth: usize, words: &str| " ".repeat(depth) + words;
     let lines = lines_of(&folder, &nested(64));
     assert_eq!((lines.len(), &lines[64]), (65, &line(64, "d")));
-    assert_eq!(folder.text(&["ls", "image", &path(63)]), "d\n");
-    assert_eq!(folder.text(&["ls", "image", &path(64)]), "");
 
     let lines = lines_of(&folder, &nested(67));
     assert_eq!((lines.len(), &lines[64], &lines[65]), (66, &line(64, "d"), &line(65, "deeper")));
-    assert_eq!(folder.text(&["ls", "image", &path(63)]), "d\n");
-    for levels in 64..=67 {
-        let said = unlisted(&folder, &path(levels));
-        let words =
-            ": a tree lists what has up to 64 names in its path, and this lies deeper: `nffs";
-        assert!(said.contains(words), "{said}");
-    }
 
     // as many lines as directories; a name is not taken for the line
     let mut records = nested(63);
@@ -220,10 +146,6 @@ fn what_lies_deeper_than_64_levels() {
     records.extend([inode(67, 0, 64, b"x"), inode(68, 0, 66, b"y"), inode(69, 0, 66, b"z")]);
     let deep = [(64, "deeper"), (65, "deeper"), (64, "e"), (64, "f"), (65, "deeper")];
     assert_eq!(lines_of(&folder, &records)[64..], deep.map(|(depth, words)| line(depth, words)));
-    assert_eq!(folder.text(&["ls", "image", &path(63)]), "deeper\ne\nf\n");
-    assert_eq!(folder.text(&["ls", "image", &(path(63) + "/e")]), "");
-    unlisted(&folder, &(path(63) + "/deeper"));
-    unlisted(&folder, &(path(63) + "/f/y"));
 }
 
 #[test]
@@ -245,6 +167,4 @@ fn the_longest_text() {
     let front: usize = (0..64).map(|depth| depth + "d\n".len()).sum();
     assert_eq!(tree.len(), front + 192 * (64 + 255 + " 0\n".len()));
     assert_eq!(tree.iter().filter(|b| **b == b'\n').count(), 256);
-    let listed = folder.good(&["ls", "image", &"/d".repeat(63)], b"");
-    assert_eq!(listed.len(), 192 * (255 + " 0\n".len()));
 }

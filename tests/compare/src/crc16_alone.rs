@@ -1,4 +1,4 @@
-//! The proved check by itself, from the archive that `rt staticlib crc16_alone` writes. Not of the library: its programs and tests that use it ask
+//! The proved check by itself, from the archive that `tools/archive crc16_alone` writes. Not of the library: its programs and tests that use it ask
 //! for the feature `check`.
 
 /// A check of two slices, each given by its pointer and length.

@@ -1,4 +1,4 @@
-//! The proved mount by itself, from the archive that `rt staticlib mount_alone` writes. Not of the library: its programs and tests that use it ask
+//! The proved mount by itself, from the archive that `tools/archive mount_alone` writes. Not of the library: its programs and tests that use it ask
 //! for the feature `check`.
 
 use nffs_compare::mounted::Mounted;
