@@ -16,7 +16,7 @@ append-mounted-requires c κs =
 
 returns-2 : tie.Need-returns
 returns-2 c =
-    c.append_mounted.ensures (area_list c.args.t2.numbers) (c.mount-m.ensures.holds c.if-m-ne0.false) (c.mount-m.ensures.holds_places c.if-m-ne0.false)
+    c.append_mounted.ensures (area_list c.args.areas.numbers) (c.mount-m.ensures.holds c.if-m-ne0.false) (c.mount-m.ensures.holds_places c.if-m-ne0.false)
 
 pub append_of_spec : {M : Type 1} → statement M
 append_of_spec =

@@ -14,7 +14,7 @@ find-path-requires c κs = c.mount-m.ensures.safe c.if-m-ne0.false
 
 returns-2 : tie.Need-returns
 returns-2 c =
-    (c.find_path.ensures.0 (area_list c.args.t2.numbers) (c.mount-m.ensures.holds c.if-m-ne0.false), c.find_path.ensures.1)
+    (c.find_path.ensures.0 (area_list c.args.areas.numbers) (c.mount-m.ensures.holds c.if-m-ne0.false), c.find_path.ensures.1)
 
 pub find_of_spec : {M : Type 1} → statement M
 find_of_spec =

@@ -15,7 +15,7 @@ read-mounted-requires c κs = c.mount-m.ensures.safe c.if-m-ne0.false
 
 returns-2 : tie.Need-returns
 returns-2 c =
-    let r = c.read_mounted.ensures (area_list c.args.t2.numbers) (c.mount-m.ensures.holds c.if-m-ne0.false) in
+    let r = c.read_mounted.ensures (area_list c.args.areas.numbers) (c.mount-m.ensures.holds c.if-m-ne0.false) in
     (r.answer, r.bytes)
 
 pub read_at_of_spec : {M : Type 1} → statement M

@@ -25,19 +25,15 @@ gives s = read_given s.args.image.now (area_list s.args.areas.numbers) s.args.h.
 
 add-t11 : tie.Need-overflow_add-handle
 add-t11 c =
-    let r : tie.After-read_at_of-answer = c in
-    let s = start r in
     record {
-      fits = ends-fit (gives s) s.args.h.position r.read_at_of-answer.result (omega arith)
-          (read_ends s.args.image.now (area_list s.args.areas.numbers) s.args.h.id s.args.h.position (length s.args.buffer.now))
-          r.read_at_of-answer.ensures.0;
+      fits = ends-fit (gives c.before.before.before.before.before.before.before) c.args.h.position c.read_at_of-answer.result (omega arith)
+          (read_ends c.args.image.now (area_list c.args.areas.numbers) c.args.h.id c.args.h.position (length c.args.buffer.now))
+          c.read_at_of-answer.ensures.0;
     }
 
 returns : tie.Need-returns
 returns c =
-    let r : tie.After-read_at_of-answer = c in
-    let s = start r in
-    (r.read_at_of-answer.ensures.0, (moved (gives s) s.args.h r.read_at_of-answer.result r.read_at_of-answer.ensures.0, r.read_at_of-answer.ensures.1))
+    (c.read_at_of-answer.ensures.0, (moved (gives c.before.before.before.before.before.before.before) c.args.h c.read_at_of-answer.result c.read_at_of-answer.ensures.0, c.read_at_of-answer.ensures.1))
 
 pub read_of_spec : {M : Type 1} → statement M
 read_of_spec = tie.close (tie.spec (λ c κs. search rules) add-t11 (λ c. search rules) returns)

@@ -14,7 +14,7 @@ rename-mounted-requires c κs = c.mount-m.ensures.safe c.if-m-ne0.false
 
 returns-2 : tie.Need-returns
 returns-2 c =
-    c.rename_mounted.ensures (area_list c.args.t2.numbers) (c.mount-m.ensures.holds c.if-m-ne0.false)
+    c.rename_mounted.ensures (area_list c.args.areas.numbers) (c.mount-m.ensures.holds c.if-m-ne0.false)
 
 pub rename_of_spec : {M : Type 1} → statement M
 rename_of_spec =

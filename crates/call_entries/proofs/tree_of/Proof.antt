@@ -16,7 +16,7 @@ tree-mounted-requires c κs = (c.mount-m.ensures.safe c.if-m-ne0.false, refl)
 
 returns-2 : tie.Need-returns
 returns-2 c =
-    let r = c.tree_mounted.ensures (area_list c.args.t2.numbers) (c.mount-m.ensures.holds c.if-m-ne0.false) in
+    let r = c.tree_mounted.ensures (area_list c.args.areas.numbers) (c.mount-m.ensures.holds c.if-m-ne0.false) in
     (r.answer, r.buffer)
 
 pub tree_of_spec : {M : Type 1} → statement M
