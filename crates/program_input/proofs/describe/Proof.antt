@@ -10,29 +10,29 @@ use Rattle.program_input.specs.Cut.{flat, described, describe_more, describe_don
 use Rattle.program_input.proofs.describe.Statement.{statement}
 use Rattle.program_input.proofs.describe.Tie as tie
 
-abbrev invariant-loop : tie.invariant-loop
+abbrev invariant-loop : tie.invariant-loop-i
 invariant-loop count numbers₀ i₀ numbers i = (i ≤ count) × (numbers ≡ described i)
 
-abbrev decreases-loop : tie.decreases-loop
+abbrev decreases-loop : tie.decreases-loop-i
 decreases-loop count numbers₀ i₀ numbers i = count - i
 
-loop-holds : tie.Need-loop-init invariant-loop decreases-loop
+loop-holds : tie.Need-loop-i-init invariant-loop decreases-loop
 unfolding flat
 loop-holds c = (omega arith, refl)
 
-loop-again : tie.Need-loop-preserved invariant-loop decreases-loop
+loop-again : tie.Need-loop-i-preserved invariant-loop decreases-loop
 loop-again c =
     let l = c.before in
-    let i = l.loop.i in (
+    let i = l.loop-i.i in (
       omega arith,
-      ap (λ (x : List _). set (set x (i * 2) (i * 4096)) (i * 2 + 1) 4096) l.loop.invariant.1 ∙ describe_more i (i * 4096) 4096 (omega (arith, c.loop-test.true, l.before.requires)) refl refl,
+      ap (λ (x : List _). set (set x (i * 2) (i * 4096)) (i * 2 + 1) 4096) l.loop-i.invariant.1 ∙ describe_more i (i * 4096) 4096 (omega (arith, c.loop-i-test.true, l.before.requires)) refl refl,
     )
 
 returns : tie.Need-returns invariant-loop decreases-loop
 returns c =
     let l = c.before in
-    let e : l.before.args.count ≡ l.loop.i = omega arith in
-    ap area_list l.loop.invariant.1 ∙ rw e (describe_done l.loop.i (omega (arith, l.before.requires)))
+    let e : l.before.args.count ≡ l.loop-i.i = omega arith in
+    ap area_list l.loop-i.invariant.1 ∙ rw e (describe_done l.loop-i.i (omega (arith, l.before.requires)))
 
 pub describe_spec : {M : Type 1} → statement M
 describe_spec =
