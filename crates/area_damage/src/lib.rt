@@ -1,5 +1,6 @@
 // Damage in four numbers, as a reading of areas finds it, stretch by stretch and area by area (T-08).
 #![tactic(auto)]
+
 ghost use Rattle.std.specs.Prelude.{◌≡◌, [], ℕ};
 ghost use Rattle.area_damage.specs.Damage.{damage_of, with_stretch, joined_with, Fewer, Summable};
 

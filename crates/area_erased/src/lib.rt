@@ -1,5 +1,6 @@
 // The erased end of an area: where what is written ends.
 #![tactic(auto)]
+
 ghost use Rattle.std.specs.Prelude.{◌≡◌, ◌+◌, ◌≤◌, length};
 ghost use Rattle.format.specs.Reading.{erased_end};
 ghost use Rattle.area_erased.specs.Erased.{erased_eight, erased_thirty_two, ErasedFrom, later_of};

@@ -1,5 +1,6 @@
 // Checks 1 to 4 in order, and the areas that a volume is made of: its file areas, in the first columns of the rows of areas, and its scratch area.
 #![tactic(auto)]
+
 ghost use Rattle.std.specs.Prelude.{◌≡◌, ◌+◌, ◌≤◌, length, leb};
 ghost use Rattle.volume.specs.Lists.{all};
 ghost use Rattle.calls.specs.Areas.{most_areas};

@@ -1,6 +1,7 @@
 // Check 1: an area list as numbers, offset and length in turn, and whether its areas are good.
 // Behind check 1 a list of areas is two lists of one length, starts and spans; `described` is the list that they stand for.
 #![tactic(auto)]
+
 ghost use Rattle.std.specs.Prelude.{◌≡◌, ◌&&◌, ◌+◌, length};
 ghost use Rattle.volume.specs.Lists.{all};
 ghost use Rattle.calls.specs.Areas.{good_area, disjoint, all_disjoint};

@@ -1,5 +1,6 @@
 // One pass over the file areas: the places in the image of all their records, and what the reading of each area comes to.
 #![tactic(auto)]
+
 ghost use Rattle.std.specs.Prelude.{◌≡◌, ◌≤◌, length, take};
 ghost use Rattle.crc_laws.specs.Table.{Tables};
 ghost use Rattle.calls.specs.Report.{damage_in};

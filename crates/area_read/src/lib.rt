@@ -1,5 +1,6 @@
 // Areas: the kind that an area's header gives it, and the next record from a place on.
 #![tactic(auto)]
+
 ghost use Rattle.std.specs.Prelude.{◌≡◌, true, ◌+◌, ◌≤◌, length};
 ghost use Rattle.format.specs.AreaHeader.{area_header_size, magics_right, valid_header};
 ghost use Rattle.crc_laws.specs.Table.{Tables};

@@ -1,6 +1,7 @@
 // A list of descriptors lent as a slice of structs, copied into an array of numbers, offset and length in turn, which every call takes.
 // `areas_of` and its bridge `areas_in` are proved by a walk, by hand; `step`, which decides and stores, is covered.
 #![tactic(auto)]
+
 ghost use Rattle.std.specs.Prelude.{◌≡◌, ◌<◌, take};
 ghost use Rattle.calls.specs.Areas.{listed};
 ghost use Rattle.area_list.specs.Numbers.{area_list};

@@ -1,5 +1,6 @@
 // Area headers, and erased areas under them, written into a lent image.
 #![tactic(auto)]
+
 ghost use Rattle.std.specs.Prelude.{◌≡◌, ◌+◌, ◌≤◌, length};
 ghost use Rattle.format.specs.AreaHeader.{area_header_size};
 ghost use Rattle.format.specs.Encoding.{area_header};

@@ -1,5 +1,6 @@
 // The check of records, CRC-16/XMODEM: four bytes a turn by tables, and in short slices two a turn without them.
 #![tactic(auto)]
+
 mod tables;
 
 ghost use Rattle.std.specs.Prelude.{◌≡◌};

@@ -1,5 +1,6 @@
 // Parts of an image compared.
 #![tactic(auto)]
+
 ghost use Rattle.std.specs.Prelude.{◌≡◌};
 ghost use Rattle.volume.specs.Lists.{same};
 

@@ -1,6 +1,7 @@
 // Stores into a lent image. Each stores byte by byte from its lowest place on, so that after any number of stores
 // a front of its bytes is written and no byte after it.
 #![tactic(auto)]
+
 ghost use Rattle.std.specs.Prelude.{◌≡◌, ◌+◌, ◌≤◌, length};
 ghost use Rattle.calls.specs.Image.{put, erased, part};
 ghost use Rattle.image_laws.specs.Apart.{Apart};

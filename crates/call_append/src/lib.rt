@@ -1,6 +1,7 @@
 // Append to a mounted volume: what the call does once its image is mounted.
 // All that can refuse it is asked before the first store.
 #![tactic(auto)]
+
 ghost use Rattle.std.specs.Prelude.{◌≡◌, false, List, ℕ, ◌≤◌, length};
 ghost use Rattle.format.specs.Ids.{is_directory_id};
 ghost use Rattle.format.specs.Record.{longest_data};

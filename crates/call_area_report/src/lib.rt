@@ -1,5 +1,6 @@
 // The report of one area of a list: what its header says, and what its reading comes to, whatever its kind. Nothing is mounted.
 #![tactic(auto)]
+
 ghost use Rattle.std.specs.Prelude.{◌≡◌, true, ◌≤◌, length};
 ghost use Rattle.calls.specs.Areas.{good_area};
 ghost use Rattle.calls.specs.Mount.{most_records};

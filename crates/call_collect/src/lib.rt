@@ -1,5 +1,6 @@
 // The collection of a mounted volume. All is decided before the first store.
 #![tactic(auto)]
+
 ghost use Rattle.std.specs.Prelude.{◌≡◌, List, ◌<◌};
 ghost use Rattle.calls.specs.Collect.{collected, collect_of, image_collected};
 ghost use Rattle.calls.specs.declared.Descriptor.{Descriptor};

@@ -1,5 +1,6 @@
 // Create over a mounted volume: a new inode below what all but the last name of a path lead to.
 #![tactic(auto)]
+
 ghost use Rattle.std.specs.Prelude.{◌≡◌, List, [], ◌∷◌, ◌≤◌};
 ghost use Rattle.format.specs.Ids.{first_block_id};
 ghost use Rattle.calls.specs.Areas.{file_areas};

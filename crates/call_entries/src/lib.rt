@@ -2,6 +2,7 @@
 // mounted volume.
 // The area list comes by value, as numbers; programs in Rattle call these, and the exports lend them what C lends.
 #![tactic(auto)]
+
 ghost use Rattle.std.specs.Prelude.{◌≡◌, length};
 ghost use Rattle.calls.specs.Format.{format_number, image_formatted};
 ghost use Rattle.calls.specs.Report.{report_of};

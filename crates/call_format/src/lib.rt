@@ -1,5 +1,6 @@
 // Format: every described area erased and headed, and the root in the first file area. The areas are numbers, offset and length in turn.
 #![tactic(auto)]
+
 ghost use Rattle.std.specs.Prelude.{◌≡◌, true, cond, ◌≤◌, ◌<◌, length};
 ghost use Rattle.format.specs.AreaHeader.{scratch_id};
 ghost use Rattle.area_list.specs.Numbers.{paired, area_list};

@@ -1,6 +1,7 @@
 // Overwrite in a mounted volume: what the call does once its image is mounted.
 // All that can refuse it is asked before the first store.
 #![tactic(auto)]
+
 ghost use Rattle.std.specs.Prelude.{◌≡◌, false, List, ◌+◌, ◌≤◌, length};
 ghost use Rattle.format.specs.Ids.{is_directory_id};
 ghost use Rattle.calls.specs.Mount.{most_blocks};

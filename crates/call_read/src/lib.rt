@@ -1,5 +1,6 @@
 // The answers of lookup and open by what was found, and the read of a mounted volume.
 #![tactic(auto)]
+
 ghost use Rattle.std.specs.Prelude.{◌≡◌, cond, List};
 ghost use Rattle.calls.specs.Lookup.{lookup_answer, file_only, open_answer};
 ghost use Rattle.calls.specs.declared.Descriptor.{Descriptor};

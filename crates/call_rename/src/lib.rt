@@ -1,5 +1,6 @@
 // Rename over a mounted volume: the inode of the old path rewritten below what all but the last name of the new path lead to.
 #![tactic(auto)]
+
 ghost use Rattle.std.specs.Prelude.{◌≡◌, List};
 ghost use Rattle.calls.specs.Mount.{volume};
 ghost use Rattle.calls.specs.Rename.{moves_into_itself, move_number, rename_of, image_renamed};

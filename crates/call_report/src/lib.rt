@@ -1,5 +1,6 @@
 // The report of a mounted volume: distinct inode ids, live ones, damage stretches and their bytes, and the first stretch.
 #![tactic(auto)]
+
 ghost use Rattle.std.specs.Prelude.{◌≡◌, List};
 ghost use Rattle.calls.specs.Report.{refused_report, report_of};
 ghost use Rattle.calls.specs.declared.Descriptor.{Descriptor};

@@ -1,5 +1,6 @@
 // The tree of a mounted volume, as text. Document 02, T-07.
 #![tactic(auto)]
+
 ghost use Rattle.std.specs.Prelude.{◌≡◌, List, ℕ, ◌≤◌, length};
 ghost use Rattle.std.proofs.Math.Option.{some};
 ghost use Rattle.format.specs.Ids.{root_id};

@@ -1,5 +1,6 @@
 // Unlink over a mounted volume: a deletion record for what a path leads to.
 #![tactic(auto)]
+
 ghost use Rattle.std.specs.Prelude.{◌≡◌, List};
 ghost use Rattle.calls.specs.Unlink.{unlink_of, image_unlinked};
 ghost use Rattle.calls.specs.declared.Descriptor.{Descriptor};

@@ -1,5 +1,6 @@
 // The records that a collection copies: those that count and lie in the source area, each once, but for the dead ones that nothing else needs.
 #![tactic(auto)]
+
 ghost use Rattle.std.specs.Prelude.{◌≡◌, ◌≤◌, length, take};
 ghost use Rattle.record_places.specs.Place.{block_at, Lies, AllLie};
 ghost use Rattle.table_rows.specs.Rows.{Usable};

@@ -1,5 +1,6 @@
 // The source area of a collection: of the file areas as long as scratch, the first that no other of them precedes.
 #![tactic(auto)]
+
 ghost use Rattle.std.specs.Prelude.{◌≡◌, ◌+◌, ◌≤◌, length};
 ghost use Rattle.format.specs.AreaHeader.{area_header_size};
 ghost use Rattle.volume.specs.Lists.{keep, first};

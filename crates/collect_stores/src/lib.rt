@@ -1,6 +1,7 @@
 // The stores of a collection, each from its lowest byte on: scratch erased and its header restored if needed, its id, the copies, the source
 // erased, its new header.
 #![tactic(auto)]
+
 ghost use Rattle.std.specs.Prelude.{◌∷◌, ◌++◌, map, ◌≡◌, ◌+◌, ◌≤◌, length, take};
 ghost use Rattle.format.specs.AreaHeader.{area_header_size};
 ghost use Rattle.calls.specs.Areas.{area_bytes};

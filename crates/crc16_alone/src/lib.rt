@@ -1,5 +1,6 @@
 // The check alone, for tests to link: it is compared with the model, and its time is taken, apart from the calls.
 #![tactic(auto)]
+
 ghost use Rattle.std.specs.Prelude.{◌≡◌};
 ghost use Rattle.format.specs.Crc.{check};
 

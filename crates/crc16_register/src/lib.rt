@@ -1,5 +1,6 @@
 // The register of the check after one, two and four bytes.
 #![tactic(auto)]
+
 ghost use Rattle.std.specs.Prelude.{◌≡◌, ◌+◌, ◌*◌};
 ghost use Rattle.format.specs.Crc.{crc_byte};
 ghost use Rattle.crc_laws.specs.Register.{crc_bits};

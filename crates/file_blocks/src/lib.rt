@@ -1,5 +1,6 @@
 // The contents of a file by the taken rows of the table of blocks: its last block, the number of its blocks and its size.
 #![tactic(auto)]
+
 ghost use Rattle.std.specs.Prelude.{◌≡◌, true, ◌&&◌, ℕ, ◌+◌, ◌*◌, ◌≤◌, ◌<◌, length, drop, eqb};
 ghost use Rattle.volume.specs.Counting.{Volume};
 ghost use Rattle.volume.specs.Contents.{owned, last_block, chain_back, file_blocks};

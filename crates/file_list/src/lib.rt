@@ -1,5 +1,6 @@
 // The blocks of a file listed in file order: where each lies, and how many bytes of data it holds.
 #![tactic(auto)]
+
 ghost use Rattle.std.specs.Prelude.{◌≡◌, ℕ, ◌*◌, ◌≤◌, length};
 ghost use Rattle.volume.specs.Counting.{Volume};
 ghost use Rattle.volume.specs.Contents.{chain_back, file_blocks};

@@ -1,5 +1,6 @@
 // Reading a file by the taken rows of the table of blocks: its bytes into the front of a lent buffer.
 #![tactic(auto)]
+
 ghost use Rattle.std.specs.Prelude.{◌≡◌, List, ℕ, min, ◌+◌, ◌-◌, ◌≤◌, length};
 ghost use Rattle.std.proofs.Math.Option.{some};
 ghost use Rattle.volume.specs.Counting.{Volume};

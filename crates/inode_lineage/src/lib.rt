@@ -1,5 +1,6 @@
 // Whether an inode is, or lies above, another, by the taken rows of the table of the inodes that count.
 #![tactic(auto)]
+
 ghost use Rattle.std.specs.Prelude.{◌≡◌, length};
 ghost use Rattle.record_places.specs.Place.{by_place};
 ghost use Rattle.table_rows.specs.Rows.{Usable};

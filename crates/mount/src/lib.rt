@@ -1,5 +1,6 @@
 // Mounting: checks 1 to 7, the places of all records, and the tables of the inodes and of the blocks that count.
 #![tactic(auto)]
+
 ghost use Rattle.std.specs.Prelude.{◌≡◌};
 ghost use Rattle.area_list.specs.Numbers.{area_list};
 ghost use Rattle.mount_state.specs.State.{Lent, Mounts, refused_mount};

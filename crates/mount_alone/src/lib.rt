@@ -1,5 +1,6 @@
 // The mount alone, for tests to link: its tables are compared with those of an ordinary mount, and its time is taken.
 #![tactic(auto)]
+
 ghost use Rattle.std.specs.Prelude.{◌≡◌};
 ghost use Rattle.area_list.specs.Numbers.{area_list};
 ghost use Rattle.calls.specs.Mount.{mount_number};

@@ -1,6 +1,7 @@
 // What a mounted volume is: its counts by value, and where its parts stand in one lent slice of 32-bit numbers.
 // What the code relies on is `Safe`, and what the tables hold is `Holds` (specs/State.antt).
 #![tactic(auto)]
+
 use area_damage::Damage;
 use area_pass::AREA_ROWS;
 use calls::{Descriptor, MOST_BLOCKS, MOST_INODES};

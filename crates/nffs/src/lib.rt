@@ -1,6 +1,7 @@
 // The calls of the file system, for C and Rust to link. Each takes the areas as a lent slice of structs, which C sees as a pointer and a count,
 // copies the list by `areas_of`, and goes on with the copy: one shared walk (the crate `nffs_walk`) proves them.
 #![tactic(auto)]
+
 ghost use Rattle.std.specs.Prelude.{◌≡◌, length};
 ghost use Rattle.calls.specs.Format.{format_number, image_formatted};
 ghost use Rattle.calls.specs.Report.{report_of};

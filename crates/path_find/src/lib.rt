@@ -1,5 +1,6 @@
 // What lookup, open and the writes of a mounted volume ask first: what a path leads to, the parent and the last name of a path, the sequence of an inode.
 #![tactic(auto)]
+
 ghost use Rattle.std.specs.Prelude.{◌≡◌, List, true, not, ℕ};
 ghost use Rattle.volume.specs.View.{by_bytes};
 ghost use Rattle.volume.specs.Counting.{Volume, inode_of};

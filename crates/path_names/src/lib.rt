@@ -1,5 +1,6 @@
 // Paths: whether a path is good, and its names one by one, the base's first.
 #![tactic(auto)]
+
 ghost use Rattle.std.specs.Prelude.{◌≡◌, true, ◌≤◌, length, drop};
 ghost use Rattle.volume.specs.Path.{good_segment, good_segments, segments, is_absolute, good_absolute, good_relative, good_path};
 ghost use Rattle.path_names.specs.Names.{no_nul, names_from, any_names, one_name, Ended, Reached, Started, Named, Stepped};

@@ -1,6 +1,7 @@
 // Lists of areas as numbers, of every length up to 20 entries and with the mark that ends them at each place: how many areas each has, or 0
 // where it is not good.
 #![tactic(auto)]
+
 use area_list::count_good_areas;
 
 // The entries of the longest list, and its numbers, two to each.

@@ -1,5 +1,6 @@
 // Document 01, "Measured on the bench": the check's published value, and the area of 4,096 bytes, as it is and with each named flip.
 #![tactic(auto)]
+
 ghost use Rattle.std.specs.Prelude.{◌≡◌, length};
 ghost use Rattle.crc_laws.specs.Table.{Tables};
 

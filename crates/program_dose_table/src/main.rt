@@ -1,5 +1,6 @@
 // A dose table stored and read back: areas described by a list of structs, and a read by a handle whose position moves.
 #![tactic(auto)]
+
 use area_structs::{Areas, ENTRIES, areas_in};
 use call_entries::{append_of, create_of, format_of, open_of, read_of};
 use calls::{Descriptor, FILE, Handle};

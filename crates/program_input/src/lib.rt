@@ -1,5 +1,6 @@
 // The report of document 01's program: its input cut into areas of 4,096 bytes.
 #![tactic(auto)]
+
 ghost use Rattle.std.specs.Prelude.{◌≡◌, ◌≤◌};
 ghost use Rattle.calls.specs.Areas.{most_areas};
 ghost use Rattle.area_list.specs.Numbers.{area_list};

@@ -1,5 +1,6 @@
 // Document 01's program: the state of the image on standard input, cut into areas of 4,096 bytes.
 #![tactic(auto)]
+
 ghost use Rattle.io.specs.Counts.{IsPrefixLen};
 
 use program_input::report_input;

@@ -1,6 +1,7 @@
 // The search for the magics of records (T-10). Their eight bytes are different, so that a byte tells of the four places up to its own: no record starts
 // there, or at one of them at most.
 #![tactic(auto)]
+
 ghost use Rattle.std.specs.Prelude.{◌≡◌, ◌+◌, ◌-◌, ◌≤◌, length};
 ghost use Rattle.record_magics.specs.Magic.{start_of, in_magic, magic_at, erased_fourths, clear_all, Passed, Onward, Marks};
 

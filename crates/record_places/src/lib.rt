@@ -1,5 +1,6 @@
 // Records held by their places in an image: their fields, and whether two of them have the same bytes.
 #![tactic(auto)]
+
 ghost use Rattle.std.specs.Prelude.{◌≡◌, ◌+◌, ◌≤◌};
 ghost use Rattle.format.specs.Bytes.{le32};
 ghost use Rattle.format.specs.Record.{inode};

@@ -1,5 +1,6 @@
 // Inode and block records: their header types, and the acceptable record at the front of some bytes.
 #![tactic(auto)]
+
 ghost use Rattle.std.specs.Prelude.{◌≡◌, ◌+◌, ◌≤◌, cond, ◌&&◌, length, take, drop, eqb};
 ghost use Rattle.format.specs.Bytes.{le16, le32};
 ghost use Rattle.format.specs.Crc.{check};

@@ -1,6 +1,7 @@
 // An index of numbered items by slot, in one lent part: of each slot the last item that was put there, and of each item the one before it in its
 // slot. Items are named by their numbers from 1, so that 0 is none, and who seeks an item walks those of its slot alone: `row_of` the rows of a table.
 #![tactic(auto)]
+
 ghost use Rattle.std.specs.Prelude.{◌≡◌, ◌+◌, ◌≤◌, ◌<◌, length, take};
 ghost use Rattle.table_words.specs.Position.{position_of};
 ghost use Rattle.table_index.specs.Index.{slots, slot_of, newest_of, before_of, with_item};

@@ -1,6 +1,7 @@
 // A table in one lent part of 32-bit numbers: the ids of its rows, then as many spots, the places of the records that count for them.
 // Rows are never given back, so those that are taken stand first; who reads a table is lent just those, as two shared parts.
 #![tactic(auto)]
+
 ghost use Rattle.std.specs.Prelude.{◌≡◌, length};
 ghost use Rattle.record_places.specs.Place.{Lies};
 ghost use Rattle.table_rows.specs.Table.{found, spot_of};

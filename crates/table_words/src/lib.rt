@@ -1,6 +1,7 @@
 // Which places of a table are taken, one bit to a place in lent words, and where an id stands among a table's ids.
 // The claims are made over the list of all places, so they are the same for any number of words up to `mostWords`.
 #![tactic(auto)]
+
 ghost use Rattle.std.specs.Prelude.{◌≡◌, ◌+◌, ◌<◌, ◌≤◌, length, set, take};
 ghost use Rattle.table_words.specs.Position.{position_of, in_four, Before};
 ghost use Rattle.table_words.specs.Occupancy.{digits, bits, capacity, most_words, first_zero, total};

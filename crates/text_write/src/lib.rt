@@ -1,5 +1,6 @@
 // Text written into a lent buffer: as much of it as fits, and how long it is all the same.
 #![tactic(auto)]
+
 ghost use Rattle.std.specs.Prelude.{◌≡◌, [], ◌∷◌, ◌+◌, ◌≤◌, ◌<◌, length, drop, replicate};
 ghost use Rattle.volume.specs.Listing.{decimal, printed};
 ghost use Rattle.text_write.specs.Clip.{Wrote, longest_text};

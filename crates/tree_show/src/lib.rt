@@ -1,5 +1,6 @@
 // The tree of a volume as text, line by line: its inodes are given by their places, in order. Document 02, T-07.
 #![tactic(auto)]
+
 ghost use Rattle.std.specs.Prelude.{◌≡◌, cond, [], ◌∷◌, ℕ, ◌+◌, ◌≤◌, length};
 ghost use Rattle.std.proofs.Math.Option.{some};
 ghost use Rattle.format.specs.Ids.{root_id};

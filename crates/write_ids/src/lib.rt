@@ -1,5 +1,6 @@
 // Ids for new records: a window of ids in lent words, one bit an id, so that many are taken in one pass over the records.
 #![tactic(auto)]
+
 ghost use Rattle.std.specs.Prelude.{◌≡◌, List, ◌∷◌, ℕ, ◌≤◌, ◌<◌, length, replicate};
 ghost use Rattle.format.specs.Ids.{first_block_id};
 ghost use Rattle.calls.specs.Mount.{most_records};

@@ -1,5 +1,6 @@
 // One inode stored in a mounted volume, where the first room for it is: what create, unlink and every later write of one inode go through.
 #![tactic(auto)]
+
 ghost use Rattle.std.specs.Prelude.{◌≡◌, List, [], ◌∷◌, ◌<◌, length};
 ghost use Rattle.format.specs.Encoding.{inode_bytes};
 ghost use Rattle.calls.specs.Areas.{file_areas};

@@ -1,6 +1,7 @@
 // The pieces that an append cuts its data into: which ids and places they get, and their stores.
 // Ids and places are all found before the first store, so that all pieces are written or none.
 #![tactic(auto)]
+
 ghost use Rattle.std.specs.Prelude.{◌≡◌, List, map, ◌+◌, ◌≤◌, length};
 ghost use Rattle.format.specs.Record.{block, longest_data};
 ghost use Rattle.format.specs.Encoding.{block_bytes};

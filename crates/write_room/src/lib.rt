@@ -1,5 +1,6 @@
 // Where new records go: the free space of the clean file areas, looked up in their rows, and the first of it that has room.
 #![tactic(auto)]
+
 ghost use Rattle.std.specs.Prelude.{◌≡◌, List, ◌≤◌, length, take};
 ghost use Rattle.calls.specs.Areas.{largest_image, file_areas};
 ghost use Rattle.calls.specs.Storing.{spaces, first_fit};

@@ -1,5 +1,6 @@
 // How long the pieces of an append are, by the shortest file area, and how many.
 #![tactic(auto)]
+
 ghost use Rattle.std.specs.Prelude.{◌≡◌, min, ◌+◌, ◌-◌, ◌/◌, ◌≤◌, ◌<◌, length};
 ghost use Rattle.format.specs.Record.{longest_data};
 ghost use Rattle.format.specs.BlockSize.{greatest_block};

@@ -1,6 +1,7 @@
 // New versions of the blocks of a file that hold a byte of a range: whether each may have one, where they go, and their stores.
 // The places are all found before the first store, so that all are written or none.
 #![tactic(auto)]
+
 ghost use Rattle.std.specs.Prelude.{◌≡◌, ◌≢◌, true, ◌&&◌, List, map, suc, max, min, ◌+◌, ◌-◌, ◌*◌, ◌≤◌, length, take, eqb};
 ghost use Rattle.format.specs.Bytes.{Bytes};
 ghost use Rattle.format.specs.Record.{block, record_sequence};

@@ -61,15 +61,14 @@ returns c =
     area_refused _ _ _ _ c.count_good_areas-n.ensures c.if-n-i.true _ c.refused.result c.refused.ensures
 
 list-area-requires : tie.Need-list_area-pass-requires
-list-area-requires c κs =
-    (
-      record { of_high = c.high_table-high.ensures; of_low = c.low_table-low.ensures },
-      subst (λ (b : List ℕ). Room b 0 c.args.places.now 0) (sym (bytes c.before.before.before.before.before.before)) (record {
-        header = omega (arith, (lies c.before.before.before.before.before.before.before.before.before.before).long, area_long _ _ _ _ c.count_good_areas-n.ensures c.if-n-i.false);
-        inside = omega (arith, small c.before.before.before.before.before.before.before.before.before.before);
-        room = omega (arith, small c.before.before.before.before.before.before.before.before.before.before, c.requires);
-      }),
-    )
+list-area-requires c κs = (
+  record { of_high = c.high_table-high.ensures; of_low = c.low_table-low.ensures },
+  subst (λ (b : List ℕ). Room b 0 c.args.places.now 0) (sym (bytes c.before.before.before.before.before.before)) (record {
+    header = omega (arith, (lies c.before.before.before.before.before.before.before.before.before.before).long, area_long _ _ _ _ c.count_good_areas-n.ensures c.if-n-i.false);
+    inside = omega (arith, small c.before.before.before.before.before.before.before.before.before.before);
+    room = omega (arith, small c.before.before.before.before.before.before.before.before.before.before, c.requires);
+  }),
+)
 
 returns-2 : tie.Need-returns
 returns-2 c =

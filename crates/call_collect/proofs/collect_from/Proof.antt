@@ -39,11 +39,10 @@ list-copies-requires c κs =
     copies_lent c.requires.0 c.requires.1.0 _ refl
 
 fits-requires : tie.Need-fits-requires
-fits-requires c κs =
-    (
-      subst (λ (ps : List ℕ). AllLie c.args.image.now ps (length ps)) (sym c.list_copies-k.ensures.1) (area_copies_lie c.requires.0 c.requires.1.0 c.args.source),
-      omega (arith, c.requires.0.scratch.long),
-    )
+fits-requires c κs = (
+  subst (λ (ps : List ℕ). AllLie c.args.image.now ps (length ps)) (sym c.list_copies-k.ensures.1) (area_copies_lie c.requires.0 c.requires.1.0 c.args.source),
+  omega (arith, c.requires.0.scratch.long),
+)
 
 returns : tie.Need-returns-else-fits
 returns c =

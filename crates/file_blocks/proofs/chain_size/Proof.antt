@@ -43,11 +43,10 @@ returns c =
     )
 
 data-length-requires : tie.Need-data_length-size-requires invariant-loop decreases-loop
-data-length-requires c κs =
-    (
-      own_lies c.requires.0 c.args.file c.loop-left.id _ (there c),
-      own_block c.requires.0 c.args.file c.loop-left.id _ (there c),
-    )
+data-length-requires c κs = (
+  own_lies c.requires.0 c.args.file c.loop-left.id _ (there c),
+  own_block c.requires.0 c.args.file c.loop-left.id _ (there c),
+)
 
 previous-at-requires : tie.Need-previous_at-id-requires invariant-loop decreases-loop
 previous-at-requires c κs =

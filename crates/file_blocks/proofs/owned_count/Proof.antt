@@ -55,12 +55,11 @@ counted c =
     omega (arith, c.loop-k.invariant.1)
 
 returns : tie.Need-returns invariant-loop decreases-loop
-returns c =
-    (
-      (λ v rows. counted c
-          ∙ sym (owned_counts (by_place c.args.image.now) v c.args.ids.now c.args.spots.now rows c.requires.pairs c.args.file)),
-      omega (arith, counted c, count_few (by_place c.args.image.now) c.args.file c.args.spots.now 0, c.requires.pairs),
-    )
+returns c = (
+  (λ v rows. counted c
+      ∙ sym (owned_counts (by_place c.args.image.now) v c.args.ids.now c.args.spots.now rows c.requires.pairs c.args.file)),
+  omega (arith, counted c, count_few (by_place c.args.image.now) c.args.file c.args.spots.now 0, c.requires.pairs),
+)
 
 pub owned_count_spec : {M : Type 1} → statement M
 owned_count_spec =

@@ -40,11 +40,10 @@ is_block : (k : tie.In-At invariant-loop decreases-loop) → block_at k.args.ima
 is_block k = own_block k.requires.0 k.args.file k.loop-left.id k.in-At.p (there k)
 
 returns : tie.Need-returns-in_default invariant-loop decreases-loop
-returns c =
-    (
-      omega arith,
-      listing_broken c.loop-left.invariant c.loop-left-test.true (sym (ap spot_of c.in_default.is) ∙ c.own_block.ensures),
-    )
+returns c = (
+  omega arith,
+  listing_broken c.loop-left.invariant c.loop-left-test.true (sym (ap spot_of c.in_default.is) ∙ c.own_block.ensures),
+)
 
 -- there is a row for it
 row : (d : tie.After-data_length-n invariant-loop decreases-loop) → (0 < d.loop-left.left) × (d.loop-left.left ≤ length d.loop-left.blocks) × (d.loop-left.left ≤ length d.loop-left.sizes)

@@ -113,14 +113,13 @@ same-length-2 : tie.Need-shape_of-buffer invariant-loop decreases-loop
 same-length-2 c = (going c.before.before).long
 
 returns-2 : tie.Need-returns invariant-loop decreases-loop
-returns-2 c =
-    (
-      omega arith,
-      (
-        (λ bs e. going_counts (c.loop-end.invariant bs e) c.loop-end-test.false),
-        (λ bs e. going_fills (c.loop-end.invariant bs e) c.loop-end-test.false),
-      ),
-    )
+returns-2 c = (
+  omega arith,
+  (
+    (λ bs e. going_counts (c.loop-end.invariant bs e) c.loop-end-test.false),
+    (λ bs e. going_fills (c.loop-end.invariant bs e) c.loop-end-test.false),
+  ),
+)
 
 pub follow_spec : {M : Type 1} → statement M
 follow_spec =

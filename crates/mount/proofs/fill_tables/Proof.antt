@@ -16,17 +16,16 @@ room g = record {
 }
 
 gather-requires : tie.Need-gather-number-requires
-gather-requires c κs =
+gather-requires c κs = (
+  fresh_ready c.args.image.now c.args.places.now c.args.n c.args.rows.now c.requires,
+  (
+    fresh_room c.args.image.now c.args.places.now c.args.n c.args.rows.now c.requires,
     (
-      fresh_ready c.args.image.now c.args.places.now c.args.n c.args.rows.now c.requires,
-      (
-        fresh_room c.args.image.now c.args.places.now c.args.n c.args.rows.now c.requires,
-        (
-          fresh_indexed c.args.image.now c.args.places.now c.args.n c.args.rows.now c.requires,
-          fresh_twins c.args.image.now c.args.places.now c.args.n c.args.rows.now c.requires,
-        ),
-      ),
-    )
+      fresh_indexed c.args.image.now c.args.places.now c.args.n c.args.rows.now c.requires,
+      fresh_twins c.args.image.now c.args.places.now c.args.n c.args.rows.now c.requires,
+    ),
+  ),
+)
 
 returns : tie.Need-returns-then-number-ne0
 returns c =

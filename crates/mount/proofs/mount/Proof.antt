@@ -34,11 +34,10 @@ returns c =
     areas_refused _ _ _ _ (long c.before.before.before.before.before) c.check_areas-found.ensures _ _ c.refused.result c.refused.ensures c.if-found-ne0.true
 
 list-areas-requires : tie.Need-list_areas-listing-requires
-list-areas-requires c κs =
-    (
-      record { of_high = c.high_table-high.ensures; of_low = c.low_table-low.ensures },
-      pass_lent _ _ _ _ (long c.before.before.before.before.before.before.before.before.before.before) c.check_areas-found.ensures c.if-found-ne0.false _ c.requires.places_long,
-    )
+list-areas-requires c κs = (
+  record { of_high = c.high_table-high.ensures; of_low = c.low_table-low.ensures },
+  pass_lent _ _ _ _ (long c.before.before.before.before.before.before.before.before.before.before) c.check_areas-found.ensures c.if-found-ne0.false _ c.requires.places_long,
+)
 
 fill-tables-requires : tie.Need-fill_tables-filled-requires
 fill-tables-requires c κs =

@@ -26,13 +26,12 @@ walk-before-requires : tie.Need-walk_before-requires
 walk-before-requires c κs = (inodes_lent c.requires, ((named c.before.before.before.before).1, (named c.before.before.before.before).2))
 
 returns-2 : tie.Need-returns
-returns-2 c =
-    (
-      (λ ds h. rw (named c.before.before.before.before.before).0
-          (c.walk_before.ensures (placed_volume c.args.image.now ds) (rows_lent h)
-          ∙ names_are c.args.image.now ds (names_before (path_names c.args.base.now c.args.path.now)))),
-      below_any c.args.base.now c.args.path.now c.walk_before.result (named c.before.before.before.before.before).1 (named c.before.before.before.before.before).2,
-    )
+returns-2 c = (
+  (λ ds h. rw (named c.before.before.before.before.before).0
+      (c.walk_before.ensures (placed_volume c.args.image.now ds) (rows_lent h)
+      ∙ names_are c.args.image.now ds (names_before (path_names c.args.base.now c.args.path.now)))),
+  below_any c.args.base.now c.args.path.now c.walk_before.result (named c.before.before.before.before.before).1 (named c.before.before.before.before.before).2,
+)
 
 pub find_parent_spec : {M : Type 1} → statement M
 find_parent_spec =

@@ -28,11 +28,10 @@ start-requires : tie.Need-start-w-requires invariant-loop decreases-loop
 start-requires c κs = c.requires.1.0
 
 loop-holds : tie.Need-loop-w-init invariant-loop decreases-loop
-loop-holds c =
-    (
-      toward_begins c.args.base.now c.args.path.now c.start-w.result c.requires.1.1 c.start-w.ensures,
-      λ v rows. along_begins (by_place c.args.image.now) v c.args.base.now c.args.path.now c.start-w.result c.start-w.ensures,
-    )
+loop-holds c = (
+  toward_begins c.args.base.now c.args.path.now c.start-w.result c.requires.1.1 c.start-w.ensures,
+  λ v rows. along_begins (by_place c.args.image.now) v c.args.base.now c.args.path.now c.start-w.result c.start-w.ensures,
+)
 
 is-last-requires : tie.Need-is_last-requires invariant-loop decreases-loop
 is-last-requires c κs = c.loop-w.invariant.0.reached
@@ -62,14 +61,13 @@ loop-less c =
     fewer c.args.base.now c.args.path.now c.loop-w.w c.after-w.result c.loop-w.invariant.0.any c.after-w.ensures
 
 loop-again : tie.Need-loop-w-preserved invariant-loop decreases-loop
-loop-again c =
-    (
-      toward_on c.args.base.now c.args.path.now c.loop-w.w c.loop-w.invariant.0 (more c.before.before.before.before) c.after-w.result c.after-w.ensures,
-      λ v rows.
-          along_on (by_place c.args.image.now) v c.args.base.now c.args.path.now c.loop-w.w c.loop-w.at (c.loop-w.invariant.1 v rows)
-          c.loop-w.invariant.0.any (more c.before.before.before.before) _ c.name_at-name.ensures (meaning c.enter-step.result) (c.enter-step.ensures.0 v rows)
-          c.in-Inode.id (ap meaning c.in-Inode.is) c.after-w.result c.after-w.ensures,
-    )
+loop-again c = (
+  toward_on c.args.base.now c.args.path.now c.loop-w.w c.loop-w.invariant.0 (more c.before.before.before.before) c.after-w.result c.after-w.ensures,
+  λ v rows.
+      along_on (by_place c.args.image.now) v c.args.base.now c.args.path.now c.loop-w.w c.loop-w.at (c.loop-w.invariant.1 v rows)
+      c.loop-w.invariant.0.any (more c.before.before.before.before) _ c.name_at-name.ensures (meaning c.enter-step.result) (c.enter-step.ensures.0 v rows)
+      c.in-Inode.id (ap meaning c.in-Inode.is) c.after-w.result c.after-w.ensures,
+)
 
 pub walk_before_spec : {M : Type 1} → statement M
 walk_before_spec =

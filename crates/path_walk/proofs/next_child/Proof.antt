@@ -38,14 +38,13 @@ is-child-requires : tie.Need-is_child-requires invariant-loop decreases-loop
 is-child-requires c κs = (c.requires.0, below c)
 
 returns : tie.Need-returns-then-is_child invariant-loop decreases-loop
-returns c =
-    (
-      λ v rows.
-          let e = search_here (test c.before.before.before v) c.args.ids.now c.loop-row.row (below c.before.before) (sym (c.is_child.ensures v rows) ∙ c.if-is_child.true) in
-          let i = c.loop-row.invariant.1 v rows in
-          omega arith,
-      c.loop-row.invariant.0,
-    )
+returns c = (
+  λ v rows.
+      let e = search_here (test c.before.before.before v) c.args.ids.now c.loop-row.row (below c.before.before) (sym (c.is_child.ensures v rows) ∙ c.if-is_child.true) in
+      let i = c.loop-row.invariant.1 v rows in
+      omega arith,
+  c.loop-row.invariant.0,
+)
 
 add_row : tie.Need-overflow_add-row invariant-loop decreases-loop
 add_row c = omega (arith, below c.before.before)
@@ -54,14 +53,13 @@ loop-less : tie.Need-loop-row-smaller invariant-loop decreases-loop
 loop-less c = omega (arith, below c.before.before)
 
 loop-again : tie.Need-loop-row-preserved invariant-loop decreases-loop
-loop-again c =
-    (
-      omega (arith, below c.before.before),
-      λ v rows.
-          let e = search_later (test c.before.before.before v) c.args.ids.now c.loop-row.row (below c.before.before) (sym (c.is_child.ensures v rows) ∙ c.if-is_child.false) in
-          let i = c.loop-row.invariant.1 v rows in
-          omega arith,
-    )
+loop-again c = (
+  omega (arith, below c.before.before),
+  λ v rows.
+      let e = search_later (test c.before.before.before v) c.args.ids.now c.loop-row.row (below c.before.before) (sym (c.is_child.ensures v rows) ∙ c.if-is_child.false) in
+      let i = c.loop-row.invariant.1 v rows in
+      omega arith,
+)
 
 returns-2 : tie.Need-returns invariant-loop decreases-loop
 returns-2 c =

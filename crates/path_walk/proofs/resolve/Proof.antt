@@ -42,12 +42,11 @@ enter-requires : tie.Need-enter-step-requires invariant-loop decreases-loop
 enter-requires c κs = c.requires.0
 
 returns : tie.Need-returns-in_default invariant-loop decreases-loop
-returns c =
-    (
-      (λ v rows. walk_fails (by_place c.args.image.now) v c.loop-w.at _ (any c.before.before.before) _ c.name_at-name.ensures.first (meaning c.enter-step.result) (c.enter-step.ensures.0 v rows)
-          c.in_default.field-0 (ap meaning c.in_default.is) ∙ c.loop-w.invariant.1 v rows),
-      c.enter-step.ensures.1,
-    )
+returns c = (
+  (λ v rows. walk_fails (by_place c.args.image.now) v c.loop-w.at _ (any c.before.before.before) _ c.name_at-name.ensures.first (meaning c.enter-step.result) (c.enter-step.ensures.0 v rows)
+      c.in_default.field-0 (ap meaning c.in_default.is) ∙ c.loop-w.invariant.1 v rows),
+  c.enter-step.ensures.1,
+)
 
 after-requires : tie.Need-after-w-requires invariant-loop decreases-loop
 after-requires c κs =
@@ -58,21 +57,19 @@ loop-less c =
     fewer c.args.base.now c.args.path.now c.loop-w.w c.after-w.result (any c.before.before.before.before) c.after-w.ensures
 
 loop-again : tie.Need-loop-w-preserved invariant-loop decreases-loop
-loop-again c =
-    (
-      c.after-w.ensures.reached,
-      λ v rows.
-          walk_goes_on (by_place c.args.image.now) v c.loop-w.at _ (any c.before.before.before.before) _ c.name_at-name.ensures.first (meaning c.enter-step.result) (c.enter-step.ensures.0 v rows)
-          c.in-Inode.id (ap meaning c.in-Inode.is) _ c.after-w.ensures.rest
-          ∙ c.loop-w.invariant.1 v rows,
-    )
+loop-again c = (
+  c.after-w.ensures.reached,
+  λ v rows.
+      walk_goes_on (by_place c.args.image.now) v c.loop-w.at _ (any c.before.before.before.before) _ c.name_at-name.ensures.first (meaning c.enter-step.result) (c.enter-step.ensures.0 v rows)
+      c.in-Inode.id (ap meaning c.in-Inode.is) _ c.after-w.ensures.rest
+      ∙ c.loop-w.invariant.1 v rows,
+)
 
 returns-2 : tie.Need-returns invariant-loop decreases-loop
-returns-2 c =
-    (
-      (λ v rows. c.inode.ensures.0 ∙ walk_ends (by_place c.args.image.now) v c.loop-w.at _ (sym c.has_name.ensures ∙ c.loop-w-test.false) ∙ c.loop-w.invariant.1 v rows),
-      c.inode.ensures.1,
-    )
+returns-2 c = (
+  (λ v rows. c.inode.ensures.0 ∙ walk_ends (by_place c.args.image.now) v c.loop-w.at _ (sym c.has_name.ensures ∙ c.loop-w-test.false) ∙ c.loop-w.invariant.1 v rows),
+  c.inode.ensures.1,
+)
 
 pub resolve_spec : {M : Type 1} → statement M
 resolve_spec =

@@ -43,20 +43,18 @@ slice-write-rows c =
     omega (arith, there c.before.before.before.before, part_long c.requires.0, taken_few c.requires.0)
 
 returns : tie.Need-returns-then-sequence_at
-returns c =
-    (
-      over c.requires.0 c.args.p c.row_of-k.result (row c.before.before.before.before.before) (there c.before.before.before.before)
-          (omega (arith, c.sequence_at.ensures, c.sequence_at-then-k-n.ensures)),
-      indexed_over c.requires.0 c.args.p c.row_of-k.result (row c.before.before.before.before.before) c.requires.1.0,
-    )
+returns c = (
+  over c.requires.0 c.args.p c.row_of-k.result (row c.before.before.before.before.before) (there c.before.before.before.before)
+      (omega (arith, c.sequence_at.ensures, c.sequence_at-then-k-n.ensures)),
+  indexed_over c.requires.0 c.args.p c.row_of-k.result (row c.before.before.before.before.before) c.requires.1.0,
+)
 
 returns-2 : tie.Need-returns-then-k-n
-returns-2 c =
-    (
-      under c.requires.0 c.args.p c.row_of-k.result (row c.before.before.before.before.before) (there c.before.before.before.before)
-          (omega (arith, c.sequence_at.ensures, c.sequence_at-then-k-n.ensures)),
-      c.requires.1.0,
-    )
+returns-2 c = (
+  under c.requires.0 c.args.p c.row_of-k.result (row c.before.before.before.before.before) (there c.before.before.before.before)
+      (omega (arith, c.sequence_at.ensures, c.sequence_at-then-k-n.ensures)),
+  c.requires.1.0,
+)
 
 slice-write-rows-2 : tie.Need-bounds-rows-n
 slice-write-rows-2 c = omega (arith, c.if-n-most.true, part_long c.requires.0)
@@ -75,21 +73,19 @@ put-requires c κs =
     (rw c.slot_of.ensures (slot_within _), ((omega arith, omega (arith, c.if-n-most.true, x.long)), omega (arith, c.if-n-most.true, x.small)))
 
 returns-3 : tie.Need-returns-then-n-most
-returns-3 c =
-    (
-      new c.requires.0 c.args.p c.row_of-k.result (row c.before.before.before.before.before.before.before.before.before.before.before) (absent c.before.before.before.before.before.before.before.before.before.before) c.id_at-id.result c.first_free-n.result
-          c.occupy.new.words c.id_at-id.ensures c.first_free-n.ensures.0 c.if-n-most.true c.occupy.ensures,
-      rw (c.put.ensures, c.slot_of.ensures)
-          (indexed_new c.requires.0 c.args.p c.row_of-k.result (row c.before.before.before.before.before.before.before.before.before.before.before) c.requires.1.0 (absent c.before.before.before.before.before.before.before.before.before.before) c.id_at-id.result c.first_free-n.result
-          c.occupy.new.words c.id_at-id.ensures c.first_free-n.ensures.0 c.if-n-most.true c.occupy.ensures),
-    )
+returns-3 c = (
+  new c.requires.0 c.args.p c.row_of-k.result (row c.before.before.before.before.before.before.before.before.before.before.before) (absent c.before.before.before.before.before.before.before.before.before.before) c.id_at-id.result c.first_free-n.result
+      c.occupy.new.words c.id_at-id.ensures c.first_free-n.ensures.0 c.if-n-most.true c.occupy.ensures,
+  rw (c.put.ensures, c.slot_of.ensures)
+      (indexed_new c.requires.0 c.args.p c.row_of-k.result (row c.before.before.before.before.before.before.before.before.before.before.before) c.requires.1.0 (absent c.before.before.before.before.before.before.before.before.before.before) c.id_at-id.result c.first_free-n.result
+      c.occupy.new.words c.id_at-id.ensures c.first_free-n.ensures.0 c.if-n-most.true c.occupy.ensures),
+)
 
 returns-4 : tie.Need-returns
-returns-4 c =
-    (
-      full c.requires.0 c.args.p c.row_of-k.result (row c.before.before) (absent c.before) c.first_free-n.result c.first_free-n.ensures.0 c.if-n-most.false,
-      c.requires.1.0,
-    )
+returns-4 c = (
+  full c.requires.0 c.args.p c.row_of-k.result (row c.before.before) (absent c.before) c.first_free-n.result c.first_free-n.ensures.0 c.if-n-most.false,
+  c.requires.1.0,
+)
 
 pub update_spec : {M : Type 1} → statement M
 update_spec =

@@ -27,17 +27,16 @@ pub show_directory-link_at-requires : goal.show_directory-link_at-requires
 show_directory-link_at-requires t c = (c.requires.showable.inodes _ (get_or_mem c.args.order.now c.loop-k.k 0 c.loop-k-test.true)).0
 
 pub show_directory-show_entry-c-requires : goal.show_directory-show_entry-c-requires
-show_directory-show_entry-c-requires t c =
+show_directory-show_entry-c-requires t c = (
+  down c.args.levels t c.decreases c.if-levels-eq0.false,
+  (
+    c.requires.showable,
     (
-      down c.args.levels t c.decreases c.if-levels-eq0.false,
-      (
-        c.requires.showable,
-        (
-          c.requires.showable.inodes _ (get_or_mem c.args.order.now c.loop-k.k 0 c.loop-k-test.true),
-          (omega (arith, c.requires.levels_le_most_depth), omega (arith, c.requires.deeper_room_bound, c.loop-k.invariant.room)),
-        ),
-      ),
-    )
+      c.requires.showable.inodes _ (get_or_mem c.args.order.now c.loop-k.k 0 c.loop-k-test.true),
+      (omega (arith, c.requires.levels_le_most_depth), omega (arith, c.requires.deeper_room_bound, c.loop-k.invariant.room)),
+    ),
+  ),
+)
 
 pub show_directory-loop-k-preserved-then-link_at-directory : goal.show_directory-loop-k-preserved-then-link_at-directory
 show_directory-loop-k-preserved-then-link_at-directory t c =

@@ -23,12 +23,11 @@ entries : (h : tie.After-has_entry) (b : Bool) → h.has_entry.result ≡ b → 
 entries h b e = h.has_entry.ensures ∙ ap (λ (c : Bool). cond c (deeper ∷ []) []) e
 
 returns : tie.Need-returns-then-has_entry
-returns c =
-    (
-      omega (arith, c.push.ensures.goes_on, after-word c.before.before.before.before.before.before),
-      λ v. rw (entries c.before.before.before.before.before.before.before.before.before.before.before.before.before.before.before _ c.if-has_entry.true, deeper_text c.args.image.now v)
-          (wrote_line (most_depth + 1) deeper_word c.indent-start.ensures c.print-end.ensures c.push.ensures),
-    )
+returns c = (
+  omega (arith, c.push.ensures.goes_on, after-word c.before.before.before.before.before.before),
+  λ v. rw (entries c.before.before.before.before.before.before.before.before.before.before.before.before.before.before.before _ c.if-has_entry.true, deeper_text c.args.image.now v)
+      (wrote_line (most_depth + 1) deeper_word c.indent-start.ensures c.print-end.ensures c.push.ensures),
+)
 
 returns-2 : tie.Need-returns
 returns-2 c =

@@ -21,11 +21,10 @@ push-requires : tie.Need-push-requires
 push-requires c κs = omega (arith, after-words c.before.before.before, c.requires.1.1.1.1)
 
 returns : tie.Need-returns
-returns c =
-    (
-      omega (arith, c.push.ensures.goes_on, after-words c.before.before.before.before.before.before),
-      λ v rows counts. wrote_line _ _ c.indent-start.ensures (c.show_words-end.ensures.1 v rows counts) c.push.ensures,
-    )
+returns c = (
+  omega (arith, c.push.ensures.goes_on, after-words c.before.before.before.before.before.before),
+  λ v rows counts. wrote_line _ _ c.indent-start.ensures (c.show_words-end.ensures.1 v rows counts) c.push.ensures,
+)
 
 pub show_line_spec : {M : Type 1} → statement M
 show_line_spec =

@@ -19,12 +19,11 @@ print-requires : tie.Need-print-requires
 print-requires c κs = omega (arith, after-space c.before.before.before.before.before.before.before, c.requires.1.1)
 
 returns : tie.Need-returns-in_default
-returns c =
-    (
-      omega (arith, c.print.ensures.goes_on, after-space c.before.before.before.before.before.before.before.before.before.before),
-      λ v rows. rw (size_word_lem _ _ _ (sym (ap size_of c.in_default.is) ∙ c.file_size.ensures.1 v rows))
-          (wrote_then c.push-next.ensures c.print.ensures),
-    )
+returns c = (
+  omega (arith, c.print.ensures.goes_on, after-space c.before.before.before.before.before.before.before.before.before.before),
+  λ v rows. rw (size_word_lem _ _ _ (sym (ap size_of c.in_default.is) ∙ c.file_size.ensures.1 v rows))
+      (wrote_then c.push-next.ensures c.print.ensures),
+)
 
 -- a size is a number of 32 bits
 small : (t : tie.In-Whole) → t.in-Whole.size < 4294967296
@@ -37,12 +36,11 @@ print-number-requires : tie.Need-print_number-requires
 print-number-requires c κs = omega (arith, after-space c.before.before.before.before.before, c.requires.1.1)
 
 returns-2 : tie.Need-returns
-returns-2 c =
-    (
-      omega (arith, c.print_number.ensures.goes_on, after-space c.before.before.before.before.before.before.before.before, short_decimal c.in-Whole.size (small c.before.before.before.before)),
-      λ v rows. rw (size_word_lem _ _ _ (sym (ap size_of c.in-Whole.is) ∙ c.file_size.ensures.1 v rows))
-          (wrote_then c.push-next.ensures c.print_number.ensures),
-    )
+returns-2 c = (
+  omega (arith, c.print_number.ensures.goes_on, after-space c.before.before.before.before.before.before.before.before, short_decimal c.in-Whole.size (small c.before.before.before.before)),
+  λ v rows. rw (size_word_lem _ _ _ (sym (ap size_of c.in-Whole.is) ∙ c.file_size.ensures.1 v rows))
+      (wrote_then c.push-next.ensures c.print_number.ensures),
+)
 
 pub show_size_spec : {M : Type 1} → statement M
 show_size_spec =

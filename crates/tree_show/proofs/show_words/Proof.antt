@@ -42,32 +42,29 @@ print-requires c κs =
     rw (name_lent c.args.image.now c.args.p c.requires.1.1.0.0 c.name_size.result c.name_size.ensures.0) (omega (arith, c.requires.1.1.1))
 
 returns : tie.Need-returns-then-id-eq-ROOT
-returns c =
-    (
-      omega (arith, c.push.ensures.goes_on),
-      λ v rows counts. rw (root_words c.args.image.now v c.args.p (root c.before.before.before.before)) c.push.ensures,
-    )
+returns c = (
+  omega (arith, c.push.ensures.goes_on),
+  λ v rows counts. rw (root_words c.args.image.now v c.args.p (root c.before.before.before.before)) c.push.ensures,
+)
 
 returns-2 : tie.Need-returns-then-is_directory_id
-returns-2 c =
-    (
-      omega (arith, short c.before.before.before.before),
-      λ v rows counts. rw (directory_words c.args.image.now v c.args.p counts (not_root c.before.before.before.before.before.before.before.before)
-          (ap is_directory_id (sym (id_is c.before.before.before.before.before.before.before.before.before)) ∙ sym c.is_directory_id.ensures ∙ c.if-is_directory_id.true)) (named c.before.before.before.before),
-    )
+returns-2 c = (
+  omega (arith, short c.before.before.before.before),
+  λ v rows counts. rw (directory_words c.args.image.now v c.args.p counts (not_root c.before.before.before.before.before.before.before.before)
+      (ap is_directory_id (sym (id_is c.before.before.before.before.before.before.before.before.before)) ∙ sym c.is_directory_id.ensures ∙ c.if-is_directory_id.true)) (named c.before.before.before.before),
+)
 
 show-size-requires : tie.Need-show_size-requires
 show-size-requires c κs =
     (c.requires.0, (c.requires.1.0, omega (arith, short c.before.before.before.before.before, c.requires.1.1.1)))
 
 returns-3 : tie.Need-returns
-returns-3 c =
-    (
-      omega (arith, c.show_size.ensures.0, short c.before.before.before.before.before.before.before.before),
-      λ v rows counts. rw (file_words c.args.image.now v c.args.p counts (not_root c.before.before.before.before.before.before.before.before.before.before.before.before)
-          (ap is_directory_id (sym (id_is c.before.before.before.before.before.before.before.before.before.before.before.before.before)) ∙ sym c.is_directory_id.ensures ∙ c.if-is_directory_id.false))
-          (wrote_then (named c.before.before.before.before.before.before.before.before) (rw (id_is c.before.before.before.before.before.before.before.before.before.before.before.before.before) at (c.show_size.ensures.1 v rows))),
-    )
+returns-3 c = (
+  omega (arith, c.show_size.ensures.0, short c.before.before.before.before.before.before.before.before),
+  λ v rows counts. rw (file_words c.args.image.now v c.args.p counts (not_root c.before.before.before.before.before.before.before.before.before.before.before.before)
+      (ap is_directory_id (sym (id_is c.before.before.before.before.before.before.before.before.before.before.before.before.before)) ∙ sym c.is_directory_id.ensures ∙ c.if-is_directory_id.false))
+      (wrote_then (named c.before.before.before.before.before.before.before.before) (rw (id_is c.before.before.before.before.before.before.before.before.before.before.before.before.before) at (c.show_size.ensures.1 v rows))),
+)
 
 pub show_words_spec : {M : Type 1} → statement M
 show_words_spec =

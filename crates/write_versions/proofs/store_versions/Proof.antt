@@ -34,15 +34,14 @@ row h =
     storing_row h.requires h.loop-i.invariant h.loop-i-test.true (holding h)
 
 store-part-requires : tie.Need-store_part-requires invariant-loop decreases-loop
-store-part-requires c κs =
-    (
-      (
-        storing_inside c.requires c.loop-i.invariant c.loop-i-test.true,
-        storing_fits c.requires c.loop-i.invariant c.loop-i-test.true (holding c.before.before.before.before),
-        (turn c.before.before.before.before.before.before.before).1,
-      ),
-      (c.requires.range, holding c.before.before.before.before),
-    )
+store-part-requires c κs = (
+  (
+    storing_inside c.requires c.loop-i.invariant c.loop-i-test.true,
+    storing_fits c.requires c.loop-i.invariant c.loop-i-test.true (holding c.before.before.before.before),
+    (turn c.before.before.before.before.before.before.before).1,
+  ),
+  (c.requires.range, holding c.before.before.before.before),
+)
 
 loop-again : tie.Need-loop-i-preserved-then-holds invariant-loop decreases-loop
 loop-again c =
