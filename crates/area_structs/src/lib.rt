@@ -1,5 +1,4 @@
 // A list of descriptors lent as a slice of structs, copied into an array of numbers, offset and length in turn, which every call takes.
-// `areas_of` and its bridge `areas_in` are proved by a walk, by hand; `step`, which decides and stores, is covered.
 #![tactic(auto)]
 
 ghost use Rattle.std.specs.Prelude.{◌≡◌, ◌<◌, take};
@@ -51,7 +50,7 @@ pub fn areas_of(list: &[Descriptor]) -> Areas
     Areas { numbers }
 }
 
-// The same of an array by value, which lies in a local that is lent. Who calls this one needs no walk.
+// The same of an array by value, which lies in a local that is lent.
 pub fn areas_in(list: [Descriptor; ENTRIES]) -> Areas
     ensures { (result ≡ areas_of list) × (area_list result.numbers ≡ take most_entries (listed list)) }
 {
