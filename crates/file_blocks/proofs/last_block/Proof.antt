@@ -1,50 +1,9 @@
 -- `file_blocks::last_block` meets its contract.
-use Prim.Native.Nat.{◌<◌}
-use mathlib.Core.Path.{ap, ◌∙◌}
-use mathlib.Core.Option.{some}
-use native.Mathlib.Omega.{arith}
-use lib.ListN.{length}
-use Rattle.record_places.specs.Place.{AllLie}
-use Rattle.file_blocks.specs.Rows.{answers_none, answers_several, answers_one}
+mod Steps
 use borrow.Author.Rules.{rules}
 use Rattle.file_blocks.proofs.last_block.Statement.{statement}
 use Rattle.file_blocks.proofs.last_block.Tie as tie
-
--- the records of all rows lie in the image
-lie : (s : tie.Start) → AllLie s.args.image.now s.args.spots.now (length s.args.spots.now)
-lie s = λ i h. s.requires.lie i (omega (arith, s.requires.pairs))
-
--- a first end was found
-below : (c : tie.Else-end-n) → c.next_end-end.result < length c.args.spots.now
-below c = omega (arith, c.next_end-end.ensures.1, c.if-end-n.false, c.requires.pairs)
-
-next-end-requires : tie.Need-next_end-end-requires
-next-end-requires c κs = (lie c.before.before.before, omega arith)
-
-returns : tie.Need-returns-then-end-n
-returns c =
-    λ v rows. answers_none c.requires c.args.file v rows c.next_end-end.result c.next_end-end.ensures.0 (omega (arith, c.if-end-n.true, c.requires.pairs))
-
-next-end-requires-2 : tie.Need-next_end-requires
-next-end-requires-2 c κs = (lie c.before.before.before.before.before, omega (arith, below c))
-
-returns-2 : tie.Need-returns-then-next_end-n
-returns-2 c =
-    λ v rows. answers_several c.requires c.args.file v rows c.next_end-end.result c.next_end-end.ensures.0 (below c.before.before)
-    c.next_end.result c.next_end.ensures.0 (omega (arith, c.if-next_end-n.true, c.requires.pairs))
-
-shared-slice-read-id-at : tie.Need-bounds-spots-end
-shared-slice-read-id-at c = omega (arith, below c.before.before.before)
-
-id-at-requires : tie.Need-id_at-requires
-id-at-requires c κs =
-    lie c.before.before.before.before.before.before.before.before c.next_end-end.result (below c.before.before.before)
-
-returns-3 : tie.Need-returns
-returns-3 c =
-    λ v rows. ap some c.id_at.ensures
-    ∙ answers_one c.requires c.args.file v rows c.next_end-end.result c.next_end-end.ensures.0 (below c.before.before.before.before)
-    c.next_end.result c.next_end.ensures.0 (omega (arith, c.if-next_end-n.false, c.requires.pairs))
+use Rattle.file_blocks.proofs.last_block.Proof.Steps.{next-end-requires, returns, next-end-requires-2, returns-2, shared-slice-read-id-at, id-at-requires, returns-3}
 
 pub last_block_spec : {M : Type 1} → statement M
 last_block_spec =

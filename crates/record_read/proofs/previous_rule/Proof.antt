@@ -1,22 +1,9 @@
 -- `record_read::previous_rule` meets its contract.
-use Rattle.format_laws.specs.Tests.{tests}
-use Rattle.format.specs.Record.{previous_rule}
-use borrow.Author.Tests.{ne_eqb}
+mod Steps
 use borrow.Author.Rules.{rules}
 use Rattle.record_read.proofs.previous_rule.Statement.{statement}
 use Rattle.record_read.proofs.previous_rule.Tie as tie
-
-returns : tie.Need-returns-then-previous-eq-NONE
-unfolding previous_rule
-returns c = search tests
-
-returns-2 : tie.Need-returns-then-previous-id
-unfolding previous_rule
-returns-2 c = search tests
-
-returns-3 : tie.Need-returns
-unfolding previous_rule
-returns-3 c = simp (ne_eqb _ _ c.before.before.if-previous-eq-NONE.false, ne_eqb _ _ c.before.if-previous-id.false) c.is_block_id.ensures
+use Rattle.record_read.proofs.previous_rule.Proof.Steps.{returns, returns-2, returns-3}
 
 pub previous_rule_spec : {M : Type 1} → statement M
 previous_rule_spec = tie.close (tie.spec returns returns-2 (λ c κs. search rules) returns-3)
