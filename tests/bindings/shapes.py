@@ -6,9 +6,7 @@ import sys
 from pathlib import Path
 
 top = Path(__file__).resolve().parents[2]
-# the crate whose exports the archive has
-archived = top / "crates/nffs_c/src/lib.rt"
-rattle = (archived if archived.is_file() else top / "crates/nffs/src/lib.rt").read_text()
+rattle = (top / "crates/nffs/src/lib.rt").read_text()
 answers = (top / "crates/calls/src/lib.rt").read_text()
 whole = (top / "include/nffs.h").read_text()
 header = whole.replace("NFFS_ANSWERS ", "")
