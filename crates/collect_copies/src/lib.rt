@@ -80,7 +80,7 @@ fn is_dropped(
     requires all_lie { AllLie image.now places.now (length places.now) }
     requires usable { Usable image.now ids.now spots.now }
     requires lies { Lies image.now p }
-    ensures { result ≡ dropped image.now offset span places.now (record { ids = ids.entry.now; spots = spots.now }) p }
+    ensures { result ≡ dropped image.now offset span places.now (record { ids = ids.now; spots = spots.now }) p }
 {
     let fate = fate_of(image, ids, spots, bearer(image, p));
     if is_dead(fate) {} else {
@@ -100,7 +100,7 @@ fn is_dropped(
 fn counts_in(image: &[u8], ids: &[u32], spots: &[u32], p: u32) -> bool
     requires usable { Usable image.now ids.now spots.now }
     requires lies { Lies image.now p }
-    ensures { result ≡ counts_in image.now (record { ids = ids.entry.now; spots = spots.now }) p }
+    ensures { result ≡ counts_in image.now (record { ids = ids.now; spots = spots.now }) p }
 {
     let Spot::At(q) = find(ids, spots, id_at(image, p)) else {
         return false;
