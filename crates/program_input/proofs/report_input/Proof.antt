@@ -1,37 +1,9 @@
 -- `program_input::report_input` meets its contract.
-use mathlib.Core.Path.{ap, ◌∙◌}
-use Rattle.calls.specs.Report.{report_of}
-use Rattle.program_input.specs.Cut.{with_rest, too_few, too_many, whole}
+mod Steps
 use borrow.Author.Rules.{rules}
 use Rattle.program_input.proofs.report_input.Statement.{statement}
 use Rattle.program_input.proofs.report_input.Tie as tie
-
-returns : tie.Need-returns-then-input-ne0
-returns c =
-    let t = c.before in
-    c.refused_report.ensures ∙ with_rest t.before.before.args.input.now t.if-input-ne0.true
-
-returns-2 : tie.Need-returns-then-count-lt2
-returns-2 c =
-    let t = c.before in
-    let e = t.before in
-    c.refused_report-then-count-lt2.ensures ∙ too_few e.before.before.args.input.now e.if-input-ne0.false t.if-count-lt2.true
-
-returns-3 : tie.Need-returns-then-count-gt-MOST_AREAS
-returns-3 c =
-    let t = c.before in
-    let f = t.before in
-    let e = f.before in
-    c.refused_report-then-count-gt-MOST_AREAS.ensures ∙ too_many e.before.before.args.input.now e.if-input-ne0.false f.if-count-lt2.false t.if-count-gt-MOST_AREAS.true
-
-returns-4 : tie.Need-returns
-returns-4 c =
-    let d = c.before in
-    let t = d.before in
-    let f = t.before in
-    let e = f.before in
-    let input = e.before.before.args.input.now in
-    c.report_of.ensures ∙ ap (report_of input) d.describe.ensures ∙ whole input e.if-input-ne0.false f.if-count-lt2.false t.if-count-gt-MOST_AREAS.false
+use Rattle.program_input.proofs.report_input.Proof.Steps.{returns, returns-2, returns-3, returns-4}
 
 pub report_input_spec : {M : Type 1} → statement M
 report_input_spec =
