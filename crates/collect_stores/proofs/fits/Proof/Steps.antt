@@ -31,19 +31,14 @@ pub returns : tie.Need-returns-then-end-span invariant-loop decreases-loop
 returns c =
     fitting_full _ _ _ _ _ c.loop-i.invariant c.loop-i-test.true (omega (arith, c.size_at-size.ensures, c.if-end-span.true))
 
--- the record of the turn ends in the area
-pub room : (e : tie.Else-end-span invariant-loop decreases-loop) → let a = e.args in
-    e.loop-i.at + size_at a.image.now (get_or a.places.now e.loop-i.i 0) ≤ a.area.length
-room e = omega (arith, e.size_at-size.ensures, e.if-end-span.false)
-
 pub returns-2 : tie.Need-returns-else-disjoint invariant-loop decreases-loop
 returns-2 c =
-    fitting_common _ _ _ _ _ c.loop-i.invariant c.loop-i-test.true (room c.before.before) (via (rw c.size_at-size.ensures at c.disjoint.ensures) c.if-disjoint.false)
+    fitting_common _ _ _ _ _ c.loop-i.invariant c.loop-i-test.true (omega (arith, c.size_at-size.ensures, c.if-end-span.false)) (via (rw c.size_at-size.ensures at c.disjoint.ensures) c.if-disjoint.false)
 
 pub loop-again : tie.Need-loop-i-preserved invariant-loop decreases-loop
 loop-again c =
     rw c.size_at-size.ensures
-    (fitting_on _ _ _ _ _ c.loop-i.invariant c.loop-i-test.true (room c.before.before) (via (rw c.size_at-size.ensures at c.disjoint.ensures) c.if-disjoint.true))
+    (fitting_on _ _ _ _ _ c.loop-i.invariant c.loop-i-test.true (omega (arith, c.size_at-size.ensures, c.if-end-span.false)) (via (rw c.size_at-size.ensures at c.disjoint.ensures) c.if-disjoint.true))
 
 pub returns-3 : tie.Need-returns invariant-loop decreases-loop
 returns-3 c = fitting_ends _ _ _ _ _ c.loop-i.invariant c.loop-i-test.false
