@@ -30,7 +30,7 @@ use path_names::{after, good_path, has_name, is_last, name_at, start};
 use path_walk::{Child, enter, find_child, resolve};
 use record_places::sequence_at;
 use record_read::{ROOT, is_directory_id};
-use table_rows::{Spot, find};
+use table_rows::find;
 
 // What a good path leads to.
 fn walk<'a>(
@@ -112,7 +112,7 @@ pub fn sequence_of(image: &[u8], tables: &[u32], m: Mounted, id: u32) -> u32
         &tables[INODE_SPOTS..spots_end],
         id,
     );
-    let Spot::At(p) = spot else {
+    let Some(p) = spot else {
         return 0;
     };
     sequence_at(image, p)
