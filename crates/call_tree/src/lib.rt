@@ -22,7 +22,7 @@ use calls::{NO_ROOT, TreeAnswer};
 use inode_order::order_inodes;
 use mount_state::{BLOCK_IDS, BLOCK_SPOTS, INODE_IDS, INODE_SPOTS, Mounted};
 use record_read::ROOT;
-use table_rows::{Spot, find};
+use table_rows::find;
 use tree_show::show_tree;
 
 // A refused listing.
@@ -73,7 +73,7 @@ pub fn tree_mounted(
     let blocks_end = BLOCK_IDS + m.blocks;
     let block_spots_end = BLOCK_SPOTS + m.blocks;
     let spots = &tables[INODE_SPOTS..spots_end];
-    let Spot::At(root) = find(&tables[INODE_IDS..ids_end], spots, ROOT) else {
+    let Some(root) = find(&tables[INODE_IDS..ids_end], spots, ROOT) else {
         return not_listed(NO_ROOT);
     };
     let length = show_ordered(

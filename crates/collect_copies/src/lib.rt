@@ -10,7 +10,7 @@ use calls::{MOST_BLOCKS, MOST_INODES};
 use inode_fate::{fate_of, is_dead};
 use mount_state::{BLOCK_IDS, BLOCK_SPOTS, INODE_IDS, INODE_SPOTS};
 use record_places::{id_at, is_block_at, link_at, same_bytes};
-use table_rows::{Spot, find};
+use table_rows::find;
 
 // The most copies that there can be: each is of an id of its own.
 pub const MOST_COPIES: usize = MOST_INODES + MOST_BLOCKS;
@@ -102,7 +102,7 @@ fn counts_in(image: &[u8], ids: &[u32], spots: &[u32], p: u32) -> bool
     requires lies { Lies image.now p }
     ensures { result ≡ counts_in image.now (record { ids = ids.now; spots = spots.now }) p }
 {
-    let Spot::At(q) = find(ids, spots, id_at(image, p)) else {
+    let Some(q) = find(ids, spots, id_at(image, p)) else {
         return false;
     };
     same_bytes(image, p, q)

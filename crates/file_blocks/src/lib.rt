@@ -6,14 +6,15 @@ ghost use Rattle.volume.specs.Counting.{Volume};
 ghost use Rattle.volume.specs.Contents.{owned, last_block, chain_back, file_blocks};
 ghost use Rattle.calls.specs.Mount.{most_blocks};
 ghost use Rattle.record_places.specs.Place.{by_place, block_at, Lies, AllLie};
-ghost use Rattle.table_rows.specs.Table.{found, spot_of};
+ghost use Rattle.table_rows.specs.Answer.{meant};
+ghost use Rattle.table_rows.specs.Table.{found};
 ghost use Rattle.table_rows.specs.Rows.{Usable, BlockTable};
 ghost use Rattle.file_blocks.specs.Blocks.{BlocksOf, last_of, size_of, bytes_of, text_size, first_of, free, is_end, block_for};
 
 use byte_fields::load16;
 use record_places::{id_at, link_at, previous_at};
 use record_read::{BlockHeader, NONE};
-use table_rows::{Spot, find};
+use table_rows::find;
 
 // Where a file's chain of blocks starts that is followed back.
 #[derive(Clone, Copy)]
@@ -134,17 +135,17 @@ pub fn owned_count(image: &[u8], ids: &[u32], spots: &[u32], file: u32) -> usize
 }
 
 // The place of the counting block `id`, if it names the file as owner.
-pub fn own_block(image: &[u8], ids: &[u32], spots: &[u32], file: u32, id: u32) -> Spot
+pub fn own_block(image: &[u8], ids: &[u32], spots: &[u32], file: u32, id: u32) -> Option<u32>
     requires { Usable image.now ids.now spots.now }
-    ensures { spot_of result ≡ block_for (by_place image.now) file (found (length ids.now) ids.now spots.now) id }
+    ensures { meant result ≡ block_for (by_place image.now) file (found (length ids.now) ids.now spots.now) id }
 {
-    let Spot::At(p) = find(ids, spots, id) else {
-        return Spot::Nowhere;
+    let Some(p) = find(ids, spots, id) else {
+        return None;
     };
     if is_mine(image, p, file) {
-        return Spot::At(p);
+        return Some(p);
     }
-    Spot::Nowhere
+    None
 }
 
 // The length of the data of the block at `p`.
@@ -176,7 +177,7 @@ pub fn chain_size(
     let mut left = count;
     let mut size = 0;
     while left > 0 {
-        let Spot::At(p) = own_block(image, ids, spots, file, id) else {
+        let Some(p) = own_block(image, ids, spots, file, id) else {
             return Size::Broken;
         };
         size += data_length(image, p);

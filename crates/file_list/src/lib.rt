@@ -15,7 +15,6 @@ ghost use Rattle.file_list.specs.File.{Filled, file_of};
 use file_blocks::{Last, Size, data_length, last_block, own_block, owned_count};
 use record_places::previous_at;
 use record_read::NONE;
-use table_rows::Spot;
 
 // The blocks of a file in a list.
 #[derive(Clone, Copy)]
@@ -45,7 +44,7 @@ fn list_chain(
     let mut left = blocks.len();
     let mut size = 0;
     while left > 0 {
-        let Spot::At(p) = own_block(image, ids, spots, file, id) else {
+        let Some(p) = own_block(image, ids, spots, file, id) else {
             return Size::Broken;
         };
         let n = data_length(image, p);

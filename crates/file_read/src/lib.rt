@@ -16,7 +16,6 @@ use calls::{BROKEN, PAST_END, ReadAnswer};
 use file_blocks::{Last, Size, chain_size, data_length, last_block, own_block, owned_count};
 use record_places::previous_at;
 use record_read::BlockHeader;
-use table_rows::Spot;
 
 // The blocks of a file that is whole: `count` of them, followed back from `last`, with `size` bytes in all.
 #[derive(Clone, Copy)]
@@ -73,7 +72,7 @@ fn follow(
     let mut left = chain.count;
     let mut end = chain.size;
     while from < end {
-        let Spot::At(p) = own_block(image, ids, spots, chain.file, id) else {
+        let Some(p) = own_block(image, ids, spots, chain.file, id) else {
             // never: the chain is whole
             return 0;
         };

@@ -10,7 +10,7 @@ ghost use Rattle.inode_fate.specs.Fates.{meaning, step_of, parent_up, fate_by, l
 
 use record_places::{id_at, link_at};
 use record_read::{NONE, ROOT};
-use table_rows::{Spot, find};
+use table_rows::find;
 
 #[derive(Clone, Copy)]
 pub enum Fate {
@@ -31,7 +31,7 @@ pub fn ascend(image: &[u8], ids: &[u32], spots: &[u32], id: u32) -> Step
     requires { Usable image.now ids.now spots.now }
     ensures { step_of result ≡ parent_up (by_place image.now) (ascend (by_place image.now) (found (length ids.now) ids.now spots.now id)) }
 {
-    let Spot::At(p) = find(ids, spots, id) else {
+    let Some(p) = find(ids, spots, id) else {
         return Step::Ends(Fate::Orphan);
     };
     if id_at(image, p) == ROOT {

@@ -1,5 +1,5 @@
 -- Checks 5 to 7 by the tables are those by the records, and the tables filled are those of a mounted volume.
-use Rattle.std.specs.Prelude.{ℕ, ◌+◌, ◌-◌, ◌/◌, ◌≤◌, ◌<◌, ◌≡◌, refl, Bool, true, false, cond, List, [], ◌∷◌, length, take, drop, replicate}
+use Rattle.std.specs.Prelude.{Option as Answer, ℕ, ◌+◌, ◌-◌, ◌/◌, ◌≤◌, ◌<◌, ◌≡◌, refl, Bool, true, false, cond, List, [], ◌∷◌, length, take, drop, replicate}
 use Rattle.std.proofs.Common.{sym, ap, ◌∙◌, arith, length-take, length-drop, get_or-take, get_or-drop}
 use Rattle.std.proofs.Math.Bool.{not}
 use Rattle.std.proofs.Math.Option.{Option, none, some}
@@ -16,9 +16,9 @@ use Rattle.table_words.specs.Occupancy.{capacity}
 use Rattle.table_index.specs.Index.{slots}
 use Rattle.table_index.specs.Laws.{zeros, no_items}
 use Rattle.table_words.specs.Laws.{total_within, fresh_total}
-use Rattle.table_rows.specs.Table.{taken, found, Rows, Good, spot_of}
+use Rattle.table_rows.specs.Answer.{meant}
+use Rattle.table_rows.specs.Table.{taken, found, Rows, Good}
 use Rattle.table_rows.specs.Laws.{fresh_good, ids_room, spots_room}
-use Rattle.table_rows.specs.declared.Spot.{Spot}
 use Rattle.table_rows.specs.Parts.{part, part_long, part_part, part_first, lent, lent_front}
 use Rattle.table_index.specs.Rows.{no_rows}
 use Rattle.table_rows.specs.Rows.{IndexedPart, Usable, RowsOf, InodeTable, BlockTable, rows_exact, usable_exact, inode_table, block_table}
@@ -247,21 +247,21 @@ module _ (image : Bytes) (places : List ℕ) (n : ℕ) (rows : List ℕ) (number
     blocks_few = omega (arith, total_within bw, room.blocks)
 
     -- the search for the root, in the rows that are taken
-    module _ (ni nb : ℕ) (ei : ni ≡ taken iw) (eb : nb ≡ taken bw) (s : Spot)
-        (e : spot_of s ≡ found (length (take (ni - 0) rows')) (take (ni - 0) rows') (take (most_inodes + ni - most_inodes) (drop most_inodes rows')) 0) where
-      sought : spot_of s ≡ found (length (part 0 (taken iw) rows')) (part 0 (taken iw) rows') (part most_inodes (taken iw) rows') 0
+    module _ (ni nb : ℕ) (ei : ni ≡ taken iw) (eb : nb ≡ taken bw) (s : Answer ℕ)
+        (e : meant s ≡ found (length (take (ni - 0) rows')) (take (ni - 0) rows') (take (most_inodes + ni - most_inodes) (drop most_inodes rows')) 0) where
+      sought : meant s ≡ found (length (part 0 (taken iw) rows')) (part 0 (taken iw) rows') (part most_inodes (taken iw) rows') 0
       sought = e ∙ rw (lent_front ni rows', lent most_inodes ni rows', ei)
 
-      rooted : (fs : List Descriptor) → take n places ≡ places_in image fs → inode_of (by_place image) (volume_of (by_place image) (places_in image fs)) root_id ≡ spot_of s
+      rooted : (fs : List Descriptor) → take n places ≡ places_in image fs → inode_of (by_place image) (volume_of (by_place image) (places_in image fs)) root_id ≡ meant s
       rooted fs l = (rw l at (inodes.rows.counts 0)) ∙ sym sought
 
-      pub fill_rootless : spot_of s ≡ none → Fills image places n (record { number = 7; inodes = 0; blocks = 0 }) rows'
+      pub fill_rootless : meant s ≡ none → Fills image places n (record { number = 7; inodes = 0; blocks = 0 }) rows'
       fill_rootless q = record {
         number = λ fs l. no_root_lem image fs rows number (rw l at g.number) z (rooted fs l ∙ q);
         rowed = λ y. absurd (omega arith);
       }
 
-      pub fill_passes : (p : ℕ) → spot_of s ≡ some p → Fills image places n (record { number = 0; inodes = ni; blocks = nb }) rows'
+      pub fill_passes : (p : ℕ) → meant s ≡ some p → Fills image places n (record { number = 0; inodes = ni; blocks = nb }) rows'
       fill_passes p q = rw (ei, eb) (record {
         number = λ fs l. root_found image fs rows number (rw l at g.number) z p (rooted fs l ∙ q);
         rowed = λ y. record {

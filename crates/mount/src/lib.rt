@@ -14,7 +14,7 @@ use calls::{Descriptor, MOST_BLOCKS, MOST_INODES, NO_ROOT};
 use mount_state::{INODE_IDS, Mounted, TABLES};
 use record_read::ROOT;
 use table_fill::{ID_INDEX, TWIN_INDEX, gather};
-use table_rows::{Spot, find};
+use table_rows::find;
 use table_words::{BITS, taken};
 
 // The words that say which rows are taken.
@@ -66,7 +66,7 @@ fn fill_tables(image: &[u8], places: &[u16], n: usize, rows: &mut [u32]) -> Fill
     let inodes = taken(&iwords[..]);
     let blocks = taken(&bwords[..]);
     let end = MOST_INODES + inodes;
-    let Spot::At(_) = find(&rows[0..inodes], &rows[MOST_INODES..end], ROOT) else {
+    let Some(_) = find(&rows[0..inodes], &rows[MOST_INODES..end], ROOT) else {
         return unfilled(NO_ROOT);
     };
     Filled {

@@ -1,5 +1,5 @@
 -- What a path leads to, and the sequence of an inode, by the tables of a mounted volume. Document 01, refusals 8 to 11.
-use Rattle.std.specs.Prelude.{ℕ, ◌≡◌, true, false, cond, List, length}
+use Rattle.std.specs.Prelude.{Option, None, Some, ℕ, ◌≡◌, true, false, cond, List, length}
 use Rattle.std.proofs.Common.{sym, ap, ◌∙◌, eq-eqb}
 use Rattle.format.specs.Bytes.{Bytes}
 use Rattle.volume.specs.View.{View, by_bytes}
@@ -8,9 +8,8 @@ use Rattle.volume.specs.Path.{good_path, path_names}
 use Rattle.volume.specs.Tree.{Found, absent, lookup_names}
 use Rattle.record_places.specs.Place.{by_place, Lies}
 use Rattle.record_places.specs.Laws.{place_views}
-use Rattle.table_rows.specs.Table.{found, spot_of}
-use Rattle.table_rows.specs.declared.Spot.{Spot}
-use Rattle.table_rows.specs.declared.Spot.TheVariants.{At, Nowhere}
+use Rattle.table_rows.specs.Answer.{meant}
+use Rattle.table_rows.specs.Table.{found}
 use Rattle.calls.specs.Mount.{volume, mount_number}
 use Rattle.calls.specs.Lookup.{resolve}
 use Rattle.calls.specs.Rewrite.{sequence_of}
@@ -39,16 +38,16 @@ module _ {image : Bytes} {ds : List Descriptor} {m : Mounted} {t : List ℕ} (h 
 
 -- ---- the sequence of an inode, by its row
 
-module _ (image : Bytes) (ids spots : List ℕ) (i : ℕ) (r : Spot) (e : spot_of r ≡ found (length ids) ids spots i) where
-  pub row_lies : InodeTable image ids spots → (p : ℕ) → r ≡ At p → Lies image p
-  row_lies t p q = found_in t.usable i p (sym e ∙ ap spot_of q)
+module _ (image : Bytes) (ids spots : List ℕ) (i : ℕ) (r : Option ℕ) (e : meant r ≡ found (length ids) ids spots i) where
+  pub row_lies : InodeTable image ids spots → (p : ℕ) → r ≡ Some p → Lies image p
+  row_lies t p q = found_in t.usable i p (sym e ∙ ap meant q)
 
   module _ (ds : List Descriptor) (rows : RowsOf (by_place image) (placed_volume image ds).inodes ids spots) where
-    counts : inode_of (by_place image) (placed_volume image ds) i ≡ spot_of r
+    counts : inode_of (by_place image) (placed_volume image ds) i ≡ meant r
     counts = rows.counts i ∙ sym e
 
-    pub sequence_none : r ≡ Nowhere → 0 ≡ sequence_of (inode_of by_bytes (volume image ds) i)
+    pub sequence_none : r ≡ None → 0 ≡ sequence_of (inode_of by_bytes (volume image ds) i)
     sequence_none q = rw (inode_is image ds i, counts, q)
 
-    pub sequence_some : (p : ℕ) → r ≡ At p → (by_place image).sequence p ≡ sequence_of (inode_of by_bytes (volume image ds) i)
+    pub sequence_some : (p : ℕ) → r ≡ Some p → (by_place image).sequence p ≡ sequence_of (inode_of by_bytes (volume image ds) i)
     sequence_some p q = rw (inode_is image ds i, counts, q) (sym ((place_views image).sequence p))

@@ -9,8 +9,6 @@ use Rattle.table_words.specs.Position.{position_of}
 use Rattle.table_words.specs.Occupancy.{bits, capacity, most_words, total, Low}
 use Rattle.table_rows.specs.declared.Updated.{Updated}
 use Rattle.table_rows.specs.declared.Updated.TheVariants.{Newer, Older, Full}
-use Rattle.table_rows.specs.declared.Spot.{Spot}
-use Rattle.table_rows.specs.declared.Spot.TheVariants.{At, Nowhere}
 
 -- "the number taken is read from that word"
 abbrev pub taken : List ℕ → ℕ
@@ -44,11 +42,6 @@ pub record Good (image : Bytes) (words ids spots : List ℕ) : Type 0 where
   pub sized : Sized words ids spots
   pub low : Low (bits words)
   pub lie : AllLie image spots (taken words)
-
--- what an answer of `find` says
-abbrev pub spot_of : Spot → Option ℕ
-spot_of (At p) = some p
-spot_of Nowhere = none
 
 -- what becomes of the record p in a table of m places of which n are taken, by what it has for p's id
 unfoldable pub judged : View ℕ → ℕ → ℕ → Option ℕ → ℕ → Updated

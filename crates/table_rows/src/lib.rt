@@ -4,7 +4,8 @@
 
 ghost use Rattle.std.specs.Prelude.{◌≡◌, length};
 ghost use Rattle.record_places.specs.Place.{Lies};
-ghost use Rattle.table_rows.specs.Table.{found, spot_of};
+ghost use Rattle.table_rows.specs.Answer.{meant};
+ghost use Rattle.table_rows.specs.Table.{found};
 ghost use Rattle.table_rows.specs.Rows.{GoodPart, IndexedPart, UpdatesPart};
 
 use record_places::{id_at, sequence_at};
@@ -20,13 +21,6 @@ pub enum Updated {
     Older,
     // its id is new, and every row is taken
     Full,
-}
-
-// Where the record that counts for an id lies.
-#[derive(Clone, Copy)]
-pub enum Spot {
-    At(u32),
-    Nowhere,
 }
 
 // Shows the record at `p` to the table, which has `most` rows. Those that are taken stand first, so the lowest free row is their number.
@@ -65,14 +59,14 @@ pub fn update(
 }
 
 // The place of the record that counts for `id`, by the taken rows.
-pub fn find(ids: &[u32], spots: &[u32], id: u32) -> Spot
+pub fn find(ids: &[u32], spots: &[u32], id: u32) -> Option<u32>
     requires { length spots.now ≡ length ids.now }
-    ensures { spot_of result ≡ found (length ids.now) ids.now spots.now id }
+    ensures { meant result ≡ found (length ids.now) ids.now spots.now id }
 {
     let n = ids.len();
     let k = position(ids, n, id);
     if k < n {
-        return Spot::At(spots[k]);
+        return Some(spots[k]);
     }
-    Spot::Nowhere
+    None
 }

@@ -5,7 +5,8 @@ use mathlib.Core.Option.{some}
 use lib.ListN.{length}
 use borrow.Author.Rules.{rules}
 use Rattle.format.specs.Bytes.{le32}
-use Rattle.table_rows.specs.Table.{found, spot_of}
+use Rattle.table_rows.specs.Answer.{meant}
+use Rattle.table_rows.specs.Table.{found}
 use Rattle.table_rows.specs.Rows.{found_in}
 use Rattle.collect_copies.specs.Steps.{counts_none, counts_one}
 use Rattle.collect_copies.proofs.counts_in.Statement.{statement}
@@ -13,29 +14,29 @@ use Rattle.collect_copies.proofs.counts_in.Tie as tie
 
 -- what the rows have for the record's id
 there : (f : tie.After-find) → let a = f.args in
-    spot_of f.find.result ≡ found (length a.ids.now) a.ids.now a.spots.now (le32 a.image.now (a.p + 4))
+    meant f.find.result ≡ found (length a.ids.now) a.ids.now a.spots.now (le32 a.image.now (a.p + 4))
 there f =
     let a = f.args in
     f.find.ensures ∙ ap (found (length a.ids.now) a.ids.now a.spots.now) f.id_at.ensures
 
-one : (k : tie.In-At) → let a = k.args in
-    found (length a.ids.now) a.ids.now a.spots.now (le32 a.image.now (a.p + 4)) ≡ some k.in-At.q
-one k = sym (there k.before) ∙ ap spot_of k.in-At.is
+one : (k : tie.In-Some) → let a = k.args in
+    found (length a.ids.now) a.ids.now a.spots.now (le32 a.image.now (a.p + 4)) ≡ some k.in-Some.q
+one k = sym (there k.before) ∙ ap meant k.in-Some.is
 
 returns : tie.Need-returns-in_default
 returns c =
     let a = c.args in
-    counts_none a.image.now (record { ids = a.ids.now; spots = a.spots.now }) a.p (sym (there c.before) ∙ ap spot_of c.in_default.is)
+    counts_none a.image.now (record { ids = a.ids.now; spots = a.spots.now }) a.p (sym (there c.before) ∙ ap meant c.in_default.is)
 
 same-bytes-requires : tie.Need-same_bytes-requires
 same-bytes-requires c κs =
-    (c.requires.1, found_in c.requires.0 _ c.in-At.q (one c))
+    (c.requires.1, found_in c.requires.0 _ c.in-Some.q (one c))
 
 returns-2 : tie.Need-returns
 returns-2 c =
     let a = c.args in
     c.same_bytes.ensures
-    ∙ counts_one a.image.now (record { ids = a.ids.now; spots = a.spots.now }) a.p c.in-At.q (one c.before)
+    ∙ counts_one a.image.now (record { ids = a.ids.now; spots = a.spots.now }) a.p c.in-Some.q (one c.before)
 
 pub counts_in_spec : {M : Type 1} → statement M
 counts_in_spec =

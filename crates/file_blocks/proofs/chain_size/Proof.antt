@@ -6,7 +6,8 @@ use native.Mathlib.Omega.{arith}
 use lib.ListN.{length}
 use Rattle.record_places.specs.Place.{by_place}
 use Rattle.volume.specs.Contents.{chain_back}
-use Rattle.table_rows.specs.Table.{found, spot_of}
+use Rattle.table_rows.specs.Answer.{meant}
+use Rattle.table_rows.specs.Table.{found}
 use Rattle.file_blocks.specs.Blocks.{text_size, block_for}
 use Rattle.file_blocks.specs.Walk.{size_with, size_begins, size_step, size_broken, size_ends, size_more, own_lies, own_block}
 use borrow.Author.Rules.{rules}
@@ -24,11 +25,11 @@ abbrev decreases-loop : tie.decreases-loop-left
 decreases-loop image ids spots file start count id₀ left₀ size₀ id left size = left
 
 -- the block that was found
-there : (k : tie.In-At invariant-loop decreases-loop)
-    → some k.in-At.p
+there : (k : tie.In-Some invariant-loop decreases-loop)
+    → some k.in-Some.p
     ≡ block_for (by_place k.args.image.now) k.args.file
     (found (length k.args.ids.now) k.args.ids.now k.args.spots.now) k.loop-left.id
-there k = sym (ap spot_of k.in-At.is) ∙ k.own_block.ensures
+there k = sym (ap meant k.in-Some.is) ∙ k.own_block.ensures
 
 loop-holds : tie.Need-loop-left-init invariant-loop decreases-loop
 loop-holds c = (omega arith, omega arith, sym (size_begins _ _))
@@ -39,7 +40,7 @@ returns c =
       omega arith,
       sym (c.loop-left.invariant.2
           ∙ size_broken (by_place a.image.now) a.file (found (length a.ids.now) a.ids.now a.spots.now) c.loop-left.size c.loop-left.left c.loop-left.id
-          (omega (arith, c.loop-left-test.true)) (sym (ap spot_of c.in_default.is) ∙ c.own_block.ensures)),
+          (omega (arith, c.loop-left-test.true)) (sym (ap meant c.in_default.is) ∙ c.own_block.ensures)),
     )
 
 data-length-requires : tie.Need-data_length-size-requires invariant-loop decreases-loop
@@ -59,7 +60,7 @@ loop-again c =
       omega (arith, c.loop-left.invariant.1, c.data_length-size.ensures.1.1),
       c.loop-left.invariant.2
           ∙ size_step (by_place a.image.now) a.file (found (length a.ids.now) a.ids.now a.spots.now) c.loop-left.size c.loop-left.left c.loop-left.id
-          c.in-At.p c.data_length-size.result c.previous_at-id.result
+          c.in-Some.p c.data_length-size.result c.previous_at-id.result
           (omega (arith, c.loop-left-test.true)) (there c.before.before) c.data_length-size.ensures.0 c.previous_at-id.ensures,
     )
 

@@ -6,7 +6,8 @@ use mathlib.Core.Option.{some}
 use native.Mathlib.Omega.{arith}
 use lib.ListN.{length}
 use Rattle.record_places.specs.Place.{by_place, block_at, Lies}
-use Rattle.table_rows.specs.Table.{found, spot_of}
+use Rattle.table_rows.specs.Answer.{meant}
+use Rattle.table_rows.specs.Table.{found}
 use Rattle.file_blocks.specs.Blocks.{block_for}
 use Rattle.file_blocks.specs.Walk.{own_lies, own_block}
 use Rattle.file_list.specs.Listing.{Listing, listing_begins, listing_on, listing_broken, listing_whole, listing_more}
@@ -27,22 +28,22 @@ own-block-requires : tie.Need-own_block-requires invariant-loop decreases-loop
 own-block-requires c κs = c.requires.0.usable
 
 -- the block that was found
-there : (k : tie.In-At invariant-loop decreases-loop)
-    → some k.in-At.p
+there : (k : tie.In-Some invariant-loop decreases-loop)
+    → some k.in-Some.p
     ≡ block_for (by_place k.args.image.now) k.args.file
     (found (length k.args.ids.now) k.args.ids.now k.args.spots.now) k.loop-left.id
-there k = sym (ap spot_of k.in-At.is) ∙ k.own_block.ensures
+there k = sym (ap meant k.in-Some.is) ∙ k.own_block.ensures
 
-lies : (k : tie.In-At invariant-loop decreases-loop) → Lies k.args.image.now k.in-At.p
-lies k = own_lies k.requires.0 k.args.file k.loop-left.id k.in-At.p (there k)
+lies : (k : tie.In-Some invariant-loop decreases-loop) → Lies k.args.image.now k.in-Some.p
+lies k = own_lies k.requires.0 k.args.file k.loop-left.id k.in-Some.p (there k)
 
-is_block : (k : tie.In-At invariant-loop decreases-loop) → block_at k.args.image.now k.in-At.p ≡ true
-is_block k = own_block k.requires.0 k.args.file k.loop-left.id k.in-At.p (there k)
+is_block : (k : tie.In-Some invariant-loop decreases-loop) → block_at k.args.image.now k.in-Some.p ≡ true
+is_block k = own_block k.requires.0 k.args.file k.loop-left.id k.in-Some.p (there k)
 
 returns : tie.Need-returns-in_default invariant-loop decreases-loop
 returns c = (
   omega arith,
-  listing_broken c.loop-left.invariant c.loop-left-test.true (sym (ap spot_of c.in_default.is) ∙ c.own_block.ensures),
+  listing_broken c.loop-left.invariant c.loop-left-test.true (sym (ap meant c.in_default.is) ∙ c.own_block.ensures),
 )
 
 -- there is a row for it
@@ -60,7 +61,7 @@ add-size c =
 
 loop-again : tie.Need-loop-left-preserved invariant-loop decreases-loop
 loop-again c =
-    listing_on c.loop-left.invariant (row c.before).0 c.in-At.p (there c.before.before) (lies c.before.before) (is_block c.before.before) c.data_length-n.result c.previous_at-id.result
+    listing_on c.loop-left.invariant (row c.before).0 c.in-Some.p (there c.before.before) (lies c.before.before) (is_block c.before.before) c.data_length-n.result c.previous_at-id.result
     c.data_length-n.ensures.0 c.data_length-n.ensures.1.1 c.previous_at-id.ensures
 
 returns-2 : tie.Need-returns-then-id invariant-loop decreases-loop

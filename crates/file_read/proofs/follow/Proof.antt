@@ -8,7 +8,8 @@ use native.Mathlib.Omega.{arith}
 use lib.ListN.{length}
 use Rattle.volume.specs.Contents.{text_of}
 use Rattle.record_places.specs.Place.{by_place, block_at, Lies}
-use Rattle.table_rows.specs.Table.{found, spot_of}
+use Rattle.table_rows.specs.Answer.{meant}
+use Rattle.table_rows.specs.Table.{found}
 use Rattle.file_blocks.specs.Blocks.{block_for}
 use Rattle.file_blocks.specs.Walk.{own_lies, own_block, data_part}
 use Rattle.file_read.specs.Reading.{chain_of}
@@ -39,19 +40,19 @@ going : (l : tie.At-loop-end invariant-loop decreases-loop)
 going l = l.loop-end.invariant (blocks l.before.before.before.before.before).0 (blocks l.before.before.before.before.before).1
 
 -- the block that was found
-there : (k : tie.In-At invariant-loop decreases-loop)
-    → some k.in-At.p
+there : (k : tie.In-Some invariant-loop decreases-loop)
+    → some k.in-Some.p
     ≡ block_for (by_place k.args.image.now) k.args.chain.file
     (found (length k.args.ids.now) k.args.ids.now k.args.spots.now) k.loop-end.id
-there k = sym (ap spot_of k.in-At.is) ∙ k.own_block.ensures
+there k = sym (ap meant k.in-Some.is) ∙ k.own_block.ensures
 
-lies : (k : tie.In-At invariant-loop decreases-loop) → Lies k.args.image.now k.in-At.p
+lies : (k : tie.In-Some invariant-loop decreases-loop) → Lies k.args.image.now k.in-Some.p
 lies k =
-    own_lies k.requires.0 k.args.chain.file k.loop-end.id k.in-At.p (there k)
+    own_lies k.requires.0 k.args.chain.file k.loop-end.id k.in-Some.p (there k)
 
-is_block : (k : tie.In-At invariant-loop decreases-loop) → block_at k.args.image.now k.in-At.p ≡ true
+is_block : (k : tie.In-Some invariant-loop decreases-loop) → block_at k.args.image.now k.in-Some.p ≡ true
 is_block k =
-    own_block k.requires.0 k.args.chain.file k.loop-end.id k.in-At.p (there k)
+    own_block k.requires.0 k.args.chain.file k.loop-end.id k.in-Some.p (there k)
 
 -- its bytes are among those that are left
 fits : (d : tie.After-data_length-n invariant-loop decreases-loop) → d.data_length-n.result ≤ d.loop-end.end
@@ -59,11 +60,11 @@ fits d =
     omega (
       arith,
       d.data_length-n.ensures.0,
-      going_fits (going d.before.before.before.before) d.loop-end-test.true d.in-At.p (there d.before),
+      going_fits (going d.before.before.before.before) d.loop-end-test.true d.in-Some.p (there d.before),
     )
 
 -- and there is one left
-still : (k : tie.In-At invariant-loop decreases-loop) → 0 < k.loop-end.left
+still : (k : tie.In-Some invariant-loop decreases-loop) → 0 < k.loop-end.left
 still k =
     going_left (going k.before.before.before) k.loop-end-test.true
 
@@ -76,7 +77,7 @@ same_length c = (going c.before.before.before).long
 
 returns : tie.Need-returns-in_default invariant-loop decreases-loop
 returns c =
-    absurd (going_found (going c.before.before.before) c.loop-end-test.true (sym (ap spot_of c.in_default.is) ∙ c.own_block.ensures))
+    absurd (going_found (going c.before.before.before) c.loop-end-test.true (sym (ap meant c.in_default.is) ∙ c.own_block.ensures))
 
 data-length-requires : tie.Need-data_length-n-requires invariant-loop decreases-loop
 data-length-requires c κs = (lies c, is_block c)
@@ -86,7 +87,7 @@ sub-end c = fits c
 
 lay-requires : tie.Need-lay-requires invariant-loop decreases-loop
 lay-requires c κs =
-    let e = data_part c.args.image.now c.in-At.p (lies c.before.before.before) (is_block c.before.before.before) c.data_length-n.result c.data_length-n.ensures.0 in
+    let e = data_part c.args.image.now c.in-Some.p (lies c.before.before.before) (is_block c.before.before.before) c.data_length-n.result c.data_length-n.ensures.0 in
     omega (arith, fits c.before.before, ap length e, c.data_length-n.ensures.0, c.loop-end-test.true)
 
 previous-at-requires : tie.Need-previous_at-id-requires invariant-loop decreases-loop
@@ -100,10 +101,10 @@ loop-less c = omega (arith, still c.before.before.before.before.before.before.be
 
 loop-again : tie.Need-loop-end-preserved invariant-loop decreases-loop
 loop-again c =
-    λ bs e. going_on (c.loop-end.invariant bs e) c.loop-end-test.true c.in-At.p (there c.before.before.before.before.before.before.before)
+    λ bs e. going_on (c.loop-end.invariant bs e) c.loop-end-test.true c.in-Some.p (there c.before.before.before.before.before.before.before)
     c.previous_at-id.result c.data_length-n.result _ c.lay.new.buffer
     c.previous_at-id.ensures c.data_length-n.ensures.0
-    (data_part c.args.image.now c.in-At.p (lies c.before.before.before.before.before.before.before) (is_block c.before.before.before.before.before.before.before) c.data_length-n.result c.data_length-n.ensures.0)
+    (data_part c.args.image.now c.in-Some.p (lies c.before.before.before.before.before.before.before) (is_block c.before.before.before.before.before.before.before) c.data_length-n.result c.data_length-n.ensures.0)
     c.lay.ensures
 
 sub-result : tie.Need-overflow_sub-result invariant-loop decreases-loop

@@ -1,7 +1,7 @@
 -- `mount::fill_tables` meets its contract.
 use mathlib.Core.Path.{ap, ◌∙◌}
 use native.Mathlib.Omega.{arith}
-use Rattle.table_rows.specs.Table.{spot_of}
+use Rattle.table_rows.specs.Answer.{meant}
 use Rattle.table_fill.specs.Parts.{Room}
 use Rattle.mount.specs.Filling.{fresh_ready, fresh_room, fresh_indexed, fresh_twins, fill_refused, fill_rootless, fill_passes}
 use borrow.Author.Rules.{rules}
@@ -39,14 +39,14 @@ returns-2 c =
     (fill_rootless c.args.image.now c.args.places.now c.args.n c.args.rows.now c.gather-number.result
     c.gather-number.new.iwords c.gather-number.new.bwords c.gather-number.new.rows c.gather-number.ensures (room c.before.before.before.before.before.before.before.before.before.before.before.before.before.before.before.before) c.if-number-ne0.false
     c.taken-inodes.result c.taken-blocks.result c.taken-inodes.ensures.0 c.taken-blocks.ensures.0
-    c.find.result c.find.ensures (ap spot_of c.in_default.is))
+    c.find.result c.find.ensures (ap meant c.in_default.is))
 
 returns-3 : tie.Need-returns
 returns-3 c =
     fill_passes c.args.image.now c.args.places.now c.args.n c.args.rows.now c.gather-number.result
     c.gather-number.new.iwords c.gather-number.new.bwords c.gather-number.new.rows c.gather-number.ensures (room c.before.before.before.before.before.before.before.before.before.before.before.before.before.before.before) c.if-number-ne0.false
     c.taken-inodes.result c.taken-blocks.result c.taken-inodes.ensures.0 c.taken-blocks.ensures.0
-    c.find.result c.find.ensures c.in-At.field-0 (ap spot_of c.in-At.is)
+    c.find.result c.find.ensures c.in-Some.field-0 (ap meant c.in-Some.is)
 
 pub fill_tables_spec : {M : Type 1} → statement M
 fill_tables_spec =

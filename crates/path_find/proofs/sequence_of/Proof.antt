@@ -8,9 +8,9 @@ use Rattle.path_find.proofs.sequence_of.Statement.{statement}
 use Rattle.path_find.proofs.sequence_of.Tie as tie
 
 -- the record found lies in the image
-lies : (p : tie.In-At) → Lies p.args.image.now p.in-At.p
+lies : (p : tie.In-Some) → Lies p.args.image.now p.in-Some.p
 lies p =
-    row_lies p.args.image.now _ _ p.args.id p.find-spot.result p.find-spot.ensures (inodes_lent p.requires) p.in-At.p p.in-At.is
+    row_lies p.args.image.now _ _ p.args.id p.find-spot.result p.find-spot.ensures (inodes_lent p.requires) p.in-Some.p p.in-Some.is
 
 returns : tie.Need-returns-in_default
 returns c =
@@ -19,7 +19,7 @@ returns c =
 returns-2 : tie.Need-returns
 returns-2 c =
     λ ds h. c.sequence_at.ensures
-    ∙ sequence_some c.args.image.now _ _ c.args.id c.find-spot.result c.find-spot.ensures ds (rows_lent h) c.in-At.p c.in-At.is
+    ∙ sequence_some c.args.image.now _ _ c.args.id c.find-spot.result c.find-spot.ensures ds (rows_lent h) c.in-Some.p c.in-Some.is
 
 pub sequence_of_spec : {M : Type 1} → statement M
 sequence_of_spec =
