@@ -25,14 +25,13 @@ pub struct CheckTables {
 fn two_a_turn(start: u16, s: &[u8]) -> u16
     ensures { result ≡ crc_over start s.now }
 {
+    let (twos, rest) = s.as_chunks::<2>();
     let mut r = start;
-    let mut i = 0;
-    while i + 1 < s.len() {
-        r = two(r, s[i], s[i + 1]);
-        i += 2;
+    for [b, c] in twos {
+        r = two(r, *b, *c);
     }
-    if i < s.len() {
-        return one(r, s[i]);
+    for b in rest {
+        r = one(r, *b);
     }
     r
 }
@@ -50,13 +49,12 @@ impl CheckTables {
     fn over(&self, start: u16, s: &[u8]) -> u16
         ensures { result ≡ crc_over start s.now }
     {
+        let (fours, rest) = s.as_chunks::<4>();
         let mut r = start;
-        let mut i = 0;
-        while i + 3 < s.len() {
-            r = four(&self.high, &self.low, r, s[i], s[i + 1], s[i + 2], s[i + 3]);
-            i += 4;
+        for [b, c, d, e] in fours {
+            r = four(&self.high, &self.low, r, *b, *c, *d, *e);
         }
-        two_a_turn(r, &s[i..])
+        two_a_turn(r, rest)
     }
 
     // The check over the header bytes before the check field, and then the body: four bytes a turn in slices of every length.

@@ -1,9 +1,11 @@
 -- A turn takes the next four bytes.
-use Rattle.std.proofs.Common.{sym, ◌∙◌, arith}
-use Rattle.crc_laws.specs.Bytes.{four_steps}
+use Rattle.std.proofs.Common.{sym, ◌∙◌}
+use Rattle.byte_crc16.proofs.Chunks.{four_chunk}
 use Rattle.byte_crc16.proofs.CheckTables.over.Goals as goal
 
-pub loop-i-preserved : goal.loop-i-preserved
-loop-i-preserved c =
-    let l = c.loop-i in
-    (omega arith, rw c.four-r.ensures (sym (four_steps l.r c.args.s.now l.i c.loop-i-test.true) ∙ l.invariant.1))
+pub loop-b-preserved : goal.loop-b-preserved
+loop-b-preserved c =
+    let l = c.loop-b in
+    let chunks = c.as_chunks.ensures in
+    let turn = four_chunk l.r c.args.s.now _ l.b-index chunks.front c.loop-b-test.true chunks.front_len in
+    rw c.four-r.ensures (sym turn ∙ l.invariant)
