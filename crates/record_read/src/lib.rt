@@ -17,11 +17,10 @@ ghost use Rattle.format.specs.Record.{
   acceptable,
   record_size,
 };
-ghost use Rattle.crc_laws.specs.Table.{Tables};
 ghost use Rattle.record_read.specs.Headers.{inode_header, block_header};
 
-use byte_crc16::check_by;
-use byte_fields::{load16, load32, wide};
+use byte_crc16::CheckTables;
+use byte_fields::{load16, load32};
 
 // The id of nothing: no parent, no block before this one.
 pub const NONE: u32 = 0xffffffff;
@@ -108,7 +107,7 @@ impl InodeHeader {
             id: load32(b, ID_AT),
             sequence: load32(b, SEQUENCE_AT),
             parent: load32(b, LINK_AT),
-            length: wide(b[InodeHeader::LENGTH_AT]),
+            length: u32::from(b[InodeHeader::LENGTH_AT]),
         }
     }
 
@@ -204,12 +203,11 @@ pub fn name_good(s: &[u8]) -> bool
 }
 
 // Whether the check field at `offset`, the last of a header of `size` bytes, is right for the record `b`.
-fn check_right(high: &[u16], low: &[u16], b: &[u8], offset: usize, size: usize) -> bool
-    requires tables { Tables high.now low.now }
-    requires offset_in_bounds { (offset + 2 ≤ length b.now) × (size ≤ length b.now) }
+fn check_right(tables: &CheckTables, b: &[u8], offset: usize, size: usize) -> bool
+    requires { (offset + 2 ≤ length b.now) × (size ≤ length b.now) }
     ensures { result ≡ eqb (le16 b.now offset) (check (take offset b.now) (drop size b.now)) }
 {
-    load16(b, offset) == check_by(high, low, &b[..offset], &b[size..]) as u32
+    load16(b, offset) == u32::from(tables.check(&b[..offset], &b[size..]))
 }
 
 // The rules of an inode: of its reserved byte, of its header's fields, and of its name.
@@ -236,41 +234,29 @@ fn block_rules(b: &[u8]) -> bool
 
 // The size of the record whose bytes are `b`, with a header of `size` bytes and the check field at `offset`; 0 if its rules, which `lawful` tells, or
 // its check are broken.
-fn right_size(
-    high: &[u16],
-    low: &[u16],
-    b: &[u8],
-    lawful: bool,
-    offset: usize,
-    size: usize,
-) -> usize
-    requires tables { Tables high.now low.now }
-    requires offset_in_bounds { (offset + 2 ≤ length b.now) × (size ≤ length b.now) }
+fn right_size(tables: &CheckTables, b: &[u8], lawful: bool, offset: usize, size: usize) -> usize
+    requires { (offset + 2 ≤ length b.now) × (size ≤ length b.now) }
     ensures { result ≡ cond (lawful && eqb (le16 b.now offset) (check (take offset b.now) (drop size b.now))) (length b.now) 0 }
 {
-    if lawful {} else {
-        return 0;
+    if lawful && check_right(tables, b, offset, size) {
+        b.len()
+    } else {
+        0
     }
-    if check_right(high, low, b, offset, size) {
-        return b.len();
-    }
-    0
 }
 
 // The size of the inode at the front of `t`, which has the magic of one; 0 if it is not acceptable.
-fn inode_size(high: &[u16], low: &[u16], t: &[u8]) -> usize
-    requires tables { Tables high.now low.now }
-    requires in_bounds { (20 ≤ length t.now) × (le32 t.now 0 ≡ inode.magic) }
+fn inode_size(tables: &CheckTables, t: &[u8]) -> usize
+    requires { (20 ≤ length t.now) × (le32 t.now 0 ≡ inode.magic) }
     ensures { result ≡ record_size t.now }
 {
-    let end = InodeHeader::SIZE + wide(t[InodeHeader::LENGTH_AT]) as usize;
+    let end = InodeHeader::SIZE + usize::from(t[InodeHeader::LENGTH_AT]);
     if t.len() < end {
         return 0;
     }
     let lawful = inode_rules(&t[..end]);
     right_size(
-        high,
-        low,
+        tables,
         &t[..end],
         lawful,
         InodeHeader::CHECK_OFFSET,
@@ -279,9 +265,8 @@ fn inode_size(high: &[u16], low: &[u16], t: &[u8]) -> usize
 }
 
 // The same for a block.
-fn block_size(high: &[u16], low: &[u16], t: &[u8]) -> usize
-    requires tables { Tables high.now low.now }
-    requires in_bounds { (24 ≤ length t.now) × (le32 t.now 0 ≡ block.magic) }
+fn block_size(tables: &CheckTables, t: &[u8]) -> usize
+    requires { (24 ≤ length t.now) × (le32 t.now 0 ≡ block.magic) }
     ensures { result ≡ record_size t.now }
 {
     let end = BlockHeader::SIZE + load16(t, BlockHeader::LENGTH_AT) as usize;
@@ -290,8 +275,7 @@ fn block_size(high: &[u16], low: &[u16], t: &[u8]) -> usize
     }
     let lawful = block_rules(&t[..end]);
     right_size(
-        high,
-        low,
+        tables,
         &t[..end],
         lawful,
         BlockHeader::CHECK_OFFSET,
@@ -300,8 +284,7 @@ fn block_size(high: &[u16], low: &[u16], t: &[u8]) -> usize
 }
 
 // The size of the acceptable record at the front of `t`, 0 where there is none. The tables of the check are lent.
-pub fn record_size(high: &[u16], low: &[u16], t: &[u8]) -> usize
-    requires { Tables high.now low.now }
+pub fn record_size(tables: &CheckTables, t: &[u8]) -> usize
     ensures { result ≡ record_size t.now }
 {
     if t.len() < InodeHeader::SIZE {
@@ -309,7 +292,7 @@ pub fn record_size(high: &[u16], low: &[u16], t: &[u8]) -> usize
     }
     let magic = load32(t, 0);
     if magic == InodeHeader::MAGIC {
-        return inode_size(high, low, t);
+        return inode_size(tables, t);
     }
     if magic != BlockHeader::MAGIC {
         return 0;
@@ -317,5 +300,5 @@ pub fn record_size(high: &[u16], low: &[u16], t: &[u8]) -> usize
     if t.len() < BlockHeader::SIZE {
         return 0;
     }
-    block_size(high, low, t)
+    block_size(tables, t)
 }
