@@ -1,6 +1,6 @@
 -- Checks 1 to 4, which turn on the areas alone, and what they answer.
-use Rattle.std.specs.Prelude.{ℕ, zero, suc, ◌+◌, ◌≤◌, ◌≡◌, refl, Bool, true, false, cond, not, List, [], ◌∷◌, ◌++◌, length, leb, eqb, Result, Ok, Err}
-use Rattle.std.proofs.Common.{sym, ap, ◌∙◌, arith}
+use Rattle.std.specs.Prelude.{ℕ, zero, suc, ◌≤◌, ◌≡◌, refl, Bool, true, false, cond, not, List, [], ◌∷◌, ◌++◌, length, leb, eqb, Result, Ok, Err}
+use Rattle.std.proofs.Common.{sym, ◌∙◌, arith}
 use Rattle.std.proofs.Math.Bool.{or-true}
 use borrow.Author.Tests.{eq-eqb, ne_eqb, eqb-true}
 use Rattle.format.specs.Bytes.{Bytes}
@@ -22,7 +22,7 @@ use Rattle.area_kinds.specs.declared.ScratchFound.{ScratchFound}
 use Rattle.area_kinds.specs.declared.ScratchFound.TheVariants.{One}
 use Rattle.area_kinds.specs.declared.Kinds.{Kinds}
 use Rattle.area_kinds.specs.declared.CheckedAreas.{CheckedAreas}
-use Rattle.area_list.specs.Described.{area_of, described, described_length}
+use Rattle.area_list.specs.Described.{described, described_length}
 use Rattle.area_kinds.specs.Kinds.{scratch_of, scratch_one, one_scratch, all_spans, rows_of, Sorted}
 
 -- checks 2 to 4, of the file areas and the scratch areas

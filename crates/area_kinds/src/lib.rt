@@ -144,6 +144,6 @@ pub fn check_areas(image: &[u8], areas: &[u32], rows: &mut [u32]) -> Result<Chec
     }
     let Kinds { files, scratch } = sort_areas(image, &areas[..n * 2], rows);
     let end = SPANS + files;
-    let scratch = check_kinds(image, &rows[..files], &rows[SPANS..end], scratch)?;
+    let scratch = check_kinds(image, &rows[0..files], &rows[SPANS..end], scratch)?;
     Ok(CheckedAreas { files, scratch })
 }
