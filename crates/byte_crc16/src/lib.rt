@@ -10,15 +10,15 @@ ghost use Rattle.crc_laws.specs.Table.{Tables};
 use crc16_register::{four, one, two};
 use tables::{HIGH, LOW};
 
-// From about so many bytes on the tables pay, on x86-64: compiled code copies them to the stack for each slice. No value depends on it.
+// From so many bytes on `over` goes by the tables. No value depends on it.
 const LONG: usize = 24;
 
-// The two tables of the check, each of a byte of the register: who checks many records sets them up once and lends them.
+// The two tables of the check, each of a byte of the register. They are statics, which no compiled code copies; who checks records lends them down.
 #[derive(Drop)]
 pub struct CheckTables {
-    high: [u16; 256],
-    low: [u16; 256],
-    ghost right: { Tables high low },
+    high: &'static [u16; 256],
+    low: &'static [u16; 256],
+    ghost right: { Tables high.now low.now },
 }
 
 // The register after the bytes of `s`, two a turn.
@@ -37,11 +37,11 @@ fn two_a_turn(start: u16, s: &[u8]) -> u16
 }
 
 impl CheckTables {
-    // The tables. Compiled code copies them here, and nowhere else.
+    // The tables, which are right: the proof tests each entry.
     pub fn new() -> CheckTables {
         CheckTables {
-            high: HIGH,
-            low: LOW,
+            high: &HIGH,
+            low: &LOW,
         }
     }
 
@@ -52,7 +52,7 @@ impl CheckTables {
         let (fours, rest) = s.as_chunks::<4>();
         let mut r = start;
         for [b, c, d, e] in fours {
-            r = four(&self.high, &self.low, r, *b, *c, *d, *e);
+            r = four(self.high, self.low, r, *b, *c, *d, *e);
         }
         two_a_turn(r, rest)
     }
@@ -66,7 +66,7 @@ impl CheckTables {
     }
 }
 
-// The register after the bytes of `s`, by the tables. A function of its own, which copies them when it starts, so that short slices do not.
+// The register after the bytes of `s`, by the tables.
 fn by_tables(start: u16, s: &[u8]) -> u16
     ensures { result ≡ crc_over start s.now }
 {

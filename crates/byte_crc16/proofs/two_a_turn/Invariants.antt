@@ -1,5 +1,5 @@
 -- What is left of the bytes leads on to the register of all of them.
-use Rattle.std.proofs.Common.{◌≡◌, ◌+◌, ◌*◌, ◌≤◌, length, drop}
+use Rattle.std.proofs.Common.{◌≡◌, ◌*◌, drop}
 use Rattle.format.specs.Crc.{crc_over}
 use Rattle.byte_crc16.proofs.two_a_turn.Given as goal
 
