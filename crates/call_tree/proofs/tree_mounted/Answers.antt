@@ -1,41 +1,32 @@
-use Rattle.std.proofs.Common.{◌≡◌, sym, ap, ◌∙◌, ◌+◌, ◌-◌, length, take, drop, length-take, length-drop, arith}
+use Rattle.std.proofs.Common.{◌≡◌, ℕ, List, sym, ap, ◌∙◌, ◌+◌, ◌-◌, length, take, drop, length-take, length-drop, arith}
 use Rattle.format.specs.Ids.{root_id}
-use Rattle.volume.specs.Counting.{inode_of}
-use Rattle.record_places.specs.Place.{by_place}
+use Rattle.format.specs.Bytes.{Bytes}
 use Rattle.area_pass.specs.Bridge.{placed_volume}
 use Rattle.table_rows.specs.Answer.{meant}
 use Rattle.inode_order.proofs.Names.{table_inodes}
-use Rattle.mount_state.specs.State.{inode_spots_at, Holds}
+use Rattle.mount_state.specs.State.{inode_spots_at, Safe}
+use Rattle.mount_state.specs.declared.Mounted.{Mounted}
 use Rattle.mount_state.specs.Bridge.{inodes_lent, blocks_lent, blocks_few, rows_lent, block_rows_lent, inodes_number}
 use Rattle.call_tree.specs.Outcome.{found_inode, root_found, rows_list, entries_few, tree_answers}
 use Rattle.call_tree.proofs.tree_mounted.Goals as goal
-use Rattle.call_tree.proofs.tree_mounted.Goals.{After-find}
-
--- what was found for the root is its inode, where the tables hold the volume
-root_counts : (c : After-find) → let a = c.args in (ds : _) → Holds a.image.now ds a.m a.tables.now
-    → inode_of (by_place a.image.now) (placed_volume a.image.now ds) root_id ≡ meant c.find.result
-root_counts c ds h = (rows_lent h).counts root_id ∙ sym c.find.ensures
 
 -- there is a row for each inode
-as_many : (c : After-find) → let a = c.args in
-    length (take (inode_spots_at + a.m.inodes - inode_spots_at) (drop inode_spots_at a.tables.now)) ≡ a.m.inodes
-as_many c =
-    let t = c.args.tables.now in
-    let n = c.args.m.inodes in
-    omega (arith, length-take (inode_spots_at + n - inode_spots_at) (drop inode_spots_at t), length-drop inode_spots_at t, c.requires.safe.long, c.requires.safe.inodes_few)
+as_many : {image : Bytes} {m : Mounted} {t : List ℕ} → Safe image m t → length (take (inode_spots_at + m.inodes - inode_spots_at) (drop inode_spots_at t)) ≡ m.inodes
+as_many {image} {m} {t} s =
+    omega (arith, length-take (inode_spots_at + m.inodes - inode_spots_at) (drop inode_spots_at t), length-drop inode_spots_at t, s.long, s.inodes_few)
 
 pub find-requires : goal.find-requires
 find-requires c = (inodes_lent c.requires.safe).usable.pairs
 
 pub returns-in_default : goal.returns-in_default
 returns-in_default c =
-    λ ds h. absurd (root_found c.args.image.now ds h.number (root_counts c ds h ∙ ap meant c.in_default.is))
+    λ ds h. absurd (root_found c.args.image.now ds h.number ((rows_lent h).counts root_id ∙ sym c.find.ensures ∙ ap meant c.in_default.is))
 
 pub show_ordered-length-requires-clause-inodes : goal.show_ordered-length-requires-clause-inodes
 show_ordered-length-requires-clause-inodes c = table_inodes (inodes_lent c.requires.safe)
 
 pub show_ordered-length-requires-clause-inodes_len_bound : goal.show_ordered-length-requires-clause-inodes_len_bound
-show_ordered-length-requires-clause-inodes_len_bound c = omega (arith, as_many c, c.requires.safe.inodes_few)
+show_ordered-length-requires-clause-inodes_len_bound c = omega (arith, as_many c.requires.safe, c.requires.safe.inodes_few)
 
 pub show_ordered-length-requires-clause-block_table : goal.show_ordered-length-requires-clause-block_table
 show_ordered-length-requires-clause-block_table c = blocks_lent c.requires.safe
@@ -44,7 +35,7 @@ pub show_ordered-length-requires-clause-ids_len_bound : goal.show_ordered-length
 show_ordered-length-requires-clause-ids_len_bound c = blocks_few c.requires.safe
 
 pub show_ordered-length-requires-clause-inodes_in_bounds : goal.show_ordered-length-requires-clause-inodes_in_bounds
-show_ordered-length-requires-clause-inodes_in_bounds c = omega (arith, as_many c, c.requires.safe.inodes_few, c.requires.order_len)
+show_ordered-length-requires-clause-inodes_in_bounds c = omega (arith, as_many c.requires.safe, c.requires.safe.inodes_few, c.requires.order_len)
 
 pub show_ordered-length-requires-clause-inode_at : goal.show_ordered-length-requires-clause-inode_at
 show_ordered-length-requires-clause-inode_at c =
@@ -59,5 +50,5 @@ returns c =
     λ ds h. tree_answers image ds h.number _ _ _
     (c.show_ordered-length.ensures.told (placed_volume image ds)
     (rows_list image (placed_volume image ds) _ _ _ _ (inodes_lent c.requires.safe).usable.pairs (rows_lent h) (block_rows_lent h))
-    (root_counts c ds h ∙ ap meant c.in-Some.is)
-    (omega (arith, as_many c, entries_few image ds, inodes_number c.requires.safe h)))
+    ((rows_lent h).counts root_id ∙ sym c.find.ensures ∙ ap meant c.in-Some.is)
+    (omega (arith, as_many c.requires.safe, entries_few image ds, inodes_number c.requires.safe h)))
