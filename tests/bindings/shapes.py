@@ -107,7 +107,8 @@ numbers = {name: int(n) for name, n in re.findall(r"NFFS_(\w+) = (\d+)\b", bare.
 said = dict(re.findall(r'case NFFS_(\w+): return "([^"]*)"', bare))
 check("each number has its words", list(numbers), list(said))
 check("the numbers go from 0 on", list(numbers.values()), list(range(len(numbers))))
-refused = [(n, int(i)) for n, i in re.findall(r"pub const (\w+): u32 = (\d+);", answers.split("pub const DIRECTORY")[0])]
+variants = re.search(r"pub enum Refusal \{(.*?)\n\}", answers, re.S).group(1)
+refused = [(re.sub(r"(?<=[a-z])(?=[A-Z])", "_", n).upper(), int(i)) for n, i in re.findall(r"(\w+) = (\d+),", variants)]
 check("the numbers, Rattle and C", refused, [(n, i) for n, i in numbers.items() if i > 0])
 listed = [(n, int(i), w) for n, i, w in re.findall(r'^\s+([A-Z_]+) (\d+) "([^"]*)";', refusal, re.M)]
 check("the refusals, C and Rust", [(n, i, said.get(n)) for n, i in numbers.items() if i > 0], listed)

@@ -10,6 +10,7 @@ pub mod Read
 pub mod Format
 pub mod Storing
 pub mod Attempt
+pub mod Outcome
 pub mod Tree
 pub mod Create
 pub mod Append

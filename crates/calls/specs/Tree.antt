@@ -1,5 +1,5 @@
 -- The tree as text. Document 02, T-07.
-use Rattle.std.specs.Prelude.{ℕ, List, ◌++◌, length, take, drop}
+use Rattle.std.specs.Prelude.{List, ◌++◌, length, take, drop}
 use Rattle.format.specs.Bytes.{Bytes}
 use Rattle.volume.specs.View.{by_bytes}
 use Rattle.volume.specs.Listing.{tree_text}

@@ -1,6 +1,10 @@
 // The limits, the numbers of refusal and the answers of the calls, as constants and types; what each call answers is defined in specs/.
 #![tactic(auto)]
 
+ghost use Rattle.std.specs.Prelude.{◌≡◌};
+ghost use Rattle.calls.specs.Attempt.{number_of};
+ghost use Rattle.calls.specs.Outcome.{code, outcome_of};
+
 // The limits, of document 01 and by T-06: areas of a list, places of the tables, the shortest area, the largest image.
 pub const MOST_AREAS: usize = 16;
 
@@ -18,43 +22,29 @@ pub const MOST_APPENDED: usize = 8192;
 // The most records that fit in the largest image: none is shorter than 20 bytes, an inode's header.
 pub const MOST_RECORDS: usize = LARGEST_IMAGE / 20;
 
-// The numbers of refusal, in the order of document 01's table, by the names of the C header.
-pub const BAD_AREAS: u32 = 1;
-
-pub const SAME_AREA_ID: u32 = 2;
-
-pub const NO_FILE_OR_SCRATCH: u32 = 3;
-
-pub const SHORT_SCRATCH: u32 = 4;
-
-pub const TOO_MANY_IDS: u32 = 5;
-
-pub const CONFLICT: u32 = 6;
-
-pub const NO_ROOT: u32 = 7;
-
-pub const BAD_PATH: u32 = 8;
-
-pub const NOT_FOUND: u32 = 9;
-
-pub const AMBIGUOUS: u32 = 10;
-
-pub const WRONG_KIND: u32 = 11;
-
-pub const EXISTS: u32 = 12;
-
-pub const BROKEN: u32 = 13;
-
-pub const PAST_END: u32 = 14;
-
-pub const NO_ROOM: u32 = 15;
-
-pub const LAST_SEQUENCE: u32 = 16;
-
-pub const NO_SOURCE: u32 = 17;
-
-// By T-01.
-pub const INTO_ITSELF: u32 = 18;
+// Why a call is refused, in the order of document 01's table: the names and numbers of the C header.
+#[derive(Clone, Copy, PartialEq, Eq, Debug)]
+pub enum Refusal {
+    BadAreas = 1,
+    SameAreaId = 2,
+    NoFileOrScratch = 3,
+    ShortScratch = 4,
+    TooManyIds = 5,
+    Conflict = 6,
+    NoRoot = 7,
+    BadPath = 8,
+    NotFound = 9,
+    Ambiguous = 10,
+    WrongKind = 11,
+    Exists = 12,
+    Broken = 13,
+    PastEnd = 14,
+    NoRoom = 15,
+    LastSequence = 16,
+    NoSource = 17,
+    // by T-01
+    IntoItself = 18,
+}
 
 // The kinds of inodes: create takes any other number for a file too.
 pub const DIRECTORY: u32 = 0;
@@ -155,4 +145,23 @@ pub struct TreeAnswer {
 pub struct Created {
     pub number: u32,
     pub id: u32,
+}
+
+impl Refusal {
+    // Its number, which C sees.
+    pub fn number(self) -> u32
+        ensures { result ≡ code self }
+    {
+        self as u32
+    }
+}
+
+// The number of a call that answers nothing else.
+pub fn number(outcome: Result<(), Refusal>) -> u32
+    ensures { result ≡ number_of (outcome_of outcome) }
+{
+    match outcome {
+        Ok(()) => 0,
+        Err(refusal) => refusal.number(),
+    }
 }

@@ -1,5 +1,5 @@
 -- The last name of a path and those before it, a name at a time. Document 01, "create walks all but the last name".
-use Rattle.std.specs.Prelude.{ℕ, ◌<◌, ◌≡◌, refl, Bool, true, false, cond, List, [], ◌∷◌, length}
+use Rattle.std.specs.Prelude.{ℕ, ◌<◌, ◌≡◌, refl, true, false, cond, List, [], ◌∷◌, length, Result, Ok, Err, IfOk}
 use Rattle.std.proofs.Math.Path.{sym}
 use Rattle.std.proofs.Common.{ap, ◌∙◌, arith}
 use Rattle.format.specs.Bytes.{Bytes}
@@ -13,8 +13,7 @@ use Rattle.path_names.specs.declared.Walk.{Walk}
 use Rattle.calls.specs.Create.{last_name, names_before}
 use Rattle.path_walk.specs.Resolved.{step_of}
 use Rattle.path_walk.specs.Laws.{walk_fails, walk_goes_on}
-use Rattle.path_walk.specs.declared.Resolved.{Resolved}
-use Rattle.path_walk.specs.declared.Resolved.TheVariants.{Inode, Absent}
+use Rattle.calls.specs.declared.Refusal.{Refusal}
 use Rattle.path_find.specs.Below.{not_below}
 
 -- a name that a record may bear
@@ -102,14 +101,9 @@ abbrev pub parent_of : {A : Type 0} → View A → Volume A → Bytes → Bytes 
 parent_of F v base path = cond (not_below base path) (absent 8) (lookup_names F v (names_before (path_names base path)))
 
 -- something was found only for a good path that has a last name
-abbrev pub Below : Bytes → Bytes → Resolved → Type 0
-Below base path (Inode i d) = (good_path base path ≡ true) × (any_names (path_names base path) ≡ true)
-Below base path (Absent n) = Unit {0}
+abbrev pub Below : Bytes → Bytes → Result ℕ Refusal → Type 0
+Below base path r = IfOk r (λ i. (good_path base path ≡ true) × (any_names (path_names base path) ≡ true))
 
-pub below_any : (base path : Bytes) (r : Resolved) → good_path base path ≡ true → any_names (path_names base path) ≡ true → Below base path r
-below_any base path (Inode i d) g a = (g, a)
-below_any base path (Absent n) g a = tt
-
-pub below_found : (base path : Bytes) (r : Resolved) → Below base path r → (i : ℕ) (d : Bool) → r ≡ Inode i d
-    → (good_path base path ≡ true) × (any_names (path_names base path) ≡ true)
-below_found base path r b i d e = rw e at b
+pub below_any : (base path : Bytes) (r : Result ℕ Refusal) → good_path base path ≡ true → any_names (path_names base path) ≡ true → Below base path r
+below_any base path (Ok i) g a = (g, a)
+below_any base path (Err r) g a = tt

@@ -9,33 +9,40 @@ ghost use Rattle.volume.specs.Tree.{lookup_names};
 ghost use Rattle.calls.specs.Mount.{volume};
 ghost use Rattle.calls.specs.Lookup.{resolve};
 ghost use Rattle.calls.specs.Refusal.{first_refusal};
+ghost use Rattle.calls.specs.Attempt.{number_of};
+ghost use Rattle.calls.specs.Outcome.{outcome_of};
 ghost use Rattle.calls.specs.Create.{last_name, names_before, name_checks};
 ghost use Rattle.calls.specs.Rewrite.{sequence_of};
 ghost use Rattle.calls.specs.declared.Descriptor.{Descriptor};
 ghost use Rattle.record_places.specs.Place.{by_place};
 ghost use Rattle.path_names.specs.Names.{any_names};
 ghost use Rattle.table_rows.specs.Rows.{InodeTable};
-ghost use Rattle.path_walk.specs.Resolved.{InodesOf, only_of, meaning, Kinded};
+ghost use Rattle.path_walk.specs.Resolved.{InodesOf, only_of, meaning};
 ghost use Rattle.mount_state.specs.State.{Safe, Holds};
 ghost use Rattle.path_find.specs.Below.{not_below};
 ghost use Rattle.path_find.specs.Tree.{below_root};
 ghost use Rattle.path_find.specs.Parent.{ShortName, parent_of, Below};
 ghost use Rattle.path_find.specs.NewName.{any_of};
 
-use calls::{BAD_PATH, EXISTS, WRONG_KIND};
+use calls::Refusal;
 use mount_state::{INODE_IDS, INODE_SPOTS, Mounted};
 use path_names::{after, good_path, has_name, is_last, name_at, start};
-use path_walk::{Child, Resolved, enter, find_child, resolve};
+use path_walk::{Child, enter, find_child, resolve};
 use record_places::sequence_at;
 use record_read::{ROOT, is_directory_id};
 use table_rows::find;
 
 // What a good path leads to.
-fn walk<'a>(image: &[u8], tables: &[u32], m: Mounted, base: &'a [u8], path: &'a [u8]) -> Resolved
+fn walk<'a>(
+    image: &[u8],
+    tables: &[u32],
+    m: Mounted,
+    base: &'a [u8],
+    path: &'a [u8],
+) -> Result<u32, Refusal>
     requires safe { Safe image.now m tables.now }
     requires path_value { good_path base.now path.now ≡ true }
-    ensures means { (ds : List Descriptor) → Holds image.now ds m tables.now → meaning result ≡ lookup_names by_bytes (volume image.now ds) (path_names base.now path.now) }
-    ensures kind { Kinded result }
+    ensures { (ds : List Descriptor) → Holds image.now ds m tables.now → meaning result ≡ lookup_names by_bytes (volume image.now ds) (path_names base.now path.now) }
 {
     let ids_end = INODE_IDS + m.inodes;
     let spots_end = INODE_SPOTS + m.inodes;
@@ -55,13 +62,12 @@ pub fn find_path<'a>(
     m: Mounted,
     base: &'a [u8],
     path: &'a [u8],
-) -> Resolved
+) -> Result<u32, Refusal>
     requires { Safe image.now m tables.now }
-    ensures means { (ds : List Descriptor) → Holds image.now ds m tables.now → meaning result ≡ resolve image.now ds base.now path.now }
-    ensures kind { Kinded result }
+    ensures { (ds : List Descriptor) → Holds image.now ds m tables.now → meaning result ≡ resolve image.now ds base.now path.now }
 {
-    if good_path(base, path) {} else {
-        return Resolved::Absent(BAD_PATH);
+    if !good_path(base, path) {
+        return Err(Refusal::BadPath);
     }
     walk(image, tables, m, base, path)
 }
@@ -70,7 +76,7 @@ pub fn find_path<'a>(
 pub fn is_below_root<'a>(base: &'a [u8], path: &'a [u8]) -> bool
     ensures { result ≡ not (not_below base.now path.now) }
 {
-    if good_path(base, path) {} else {
+    if !good_path(base, path) {
         return false;
     }
     let w = start(base, path);
@@ -84,12 +90,12 @@ pub fn find_below<'a>(
     m: Mounted,
     base: &'a [u8],
     path: &'a [u8],
-) -> Resolved
+) -> Result<u32, Refusal>
     requires { Safe image.now m tables.now }
     ensures { (ds : List Descriptor) → Holds image.now ds m tables.now → meaning result ≡ below_root by_bytes (volume image.now ds) base.now path.now }
 {
-    if is_below_root(base, path) {} else {
-        return Resolved::Absent(BAD_PATH);
+    if !is_below_root(base, path) {
+        return Err(Refusal::BadPath);
     }
     walk(image, tables, m, base, path)
 }
@@ -135,7 +141,7 @@ fn walk_before<'a>(
     spots: &[u32],
     base: &'a [u8],
     path: &'a [u8],
-) -> Resolved
+) -> Result<u32, Refusal>
     requires inode_table { InodeTable image.now ids.now spots.now }
     requires path_value { good_path base.now path.now ≡ true }
     requires path_value_2 { any_names (path_names base.now path.now) ≡ true }
@@ -145,14 +151,9 @@ fn walk_before<'a>(
     let mut at = ROOT;
     loop {
         if is_last(base, path, w) {
-            return Resolved::Inode(at, is_directory_id(at));
+            return Ok(at);
         }
-        let name = name_at(base, path, w);
-        let step = enter(image, ids, spots, at, name);
-        let Resolved::Inode(id, _) = step else {
-            return step;
-        };
-        at = id;
+        at = enter(image, ids, spots, at, name_at(base, path, w))?;
         w = after(base, path, w);
     }
 }
@@ -164,13 +165,13 @@ pub fn find_parent<'a>(
     m: Mounted,
     base: &'a [u8],
     path: &'a [u8],
-) -> Resolved
+) -> Result<u32, Refusal>
     requires { Safe image.now m tables.now }
     ensures means { (ds : List Descriptor) → Holds image.now ds m tables.now → meaning result ≡ parent_of by_bytes (volume image.now ds) base.now path.now }
     ensures good { Below base.now path.now result }
 {
-    if is_below_root(base, path) {} else {
-        return Resolved::Absent(BAD_PATH);
+    if !is_below_root(base, path) {
+        return Err(Refusal::BadPath);
     }
     let ids_end = INODE_IDS + m.inodes;
     let spots_end = INODE_SPOTS + m.inodes;
@@ -194,13 +195,19 @@ fn any_child(child: Child) -> bool
     }
 }
 
-// The number of refusal of a new name below an inode: it is a file, or the name is there.
-pub fn name_refusal(image: &[u8], tables: &[u32], m: Mounted, directory: u32, name: &[u8]) -> u32
+// Whether an inode may have a new entry of a name: not if it is a file, or the name is there.
+pub fn check_name(
+    image: &[u8],
+    tables: &[u32],
+    m: Mounted,
+    directory: u32,
+    name: &[u8],
+) -> Result<(), Refusal>
     requires { Safe image.now m tables.now }
-    ensures { (ds : List Descriptor) → Holds image.now ds m tables.now → result ≡ first_refusal (name_checks (volume image.now ds) directory name.now) }
+    ensures { (ds : List Descriptor) → Holds image.now ds m tables.now → number_of (outcome_of result) ≡ first_refusal (name_checks (volume image.now ds) directory name.now) }
 {
-    if is_directory_id(directory) {} else {
-        return WRONG_KIND;
+    if !is_directory_id(directory) {
+        return Err(Refusal::WrongKind);
     }
     let ids_end = INODE_IDS + m.inodes;
     let spots_end = INODE_SPOTS + m.inodes;
@@ -212,7 +219,7 @@ pub fn name_refusal(image: &[u8], tables: &[u32], m: Mounted, directory: u32, na
         name,
     );
     if any_child(child) {
-        return EXISTS;
+        return Err(Refusal::Exists);
     }
-    0
+    Ok(())
 }

@@ -1,17 +1,17 @@
 -- What the rows of the table of inodes tell of directories, and what the code's answers say. Document 01, "Numbers of refusal" 9 to 11, and "Paths".
-use Rattle.std.specs.Prelude.{ℕ, ◌≡◌, List}
+use Rattle.std.specs.Prelude.{ℕ, List, Result, Ok, Err}
 use Rattle.format.specs.Bytes.{Bytes}
 use Rattle.format.specs.Ids.{is_directory_id}
 use Rattle.volume.specs.Lists.{Only, nobody, several, one, only}
 use Rattle.volume.specs.View.{View}
 use Rattle.volume.specs.Counting.{Volume}
 use Rattle.volume.specs.Tree.{Found, found, absent, onward, children}
+use Rattle.calls.specs.Outcome.{code}
+use Rattle.calls.specs.declared.Refusal.{Refusal}
 use Rattle.record_places.specs.Place.{by_place}
 use Rattle.table_rows.specs.Rows.{RowsOf}
 use Rattle.path_walk.specs.declared.Child.{Child}
 use Rattle.path_walk.specs.declared.Child.TheVariants.{Nobody, Several, One}
-use Rattle.path_walk.specs.declared.Resolved.{Resolved}
-use Rattle.path_walk.specs.declared.Resolved.TheVariants.{Inode, Absent}
 
 -- the rows are those of the inodes of a volume, held by their places
 abbrev pub InodesOf : Bytes → List ℕ → List ℕ → Volume ℕ → Type 0
@@ -23,19 +23,10 @@ only_of Nobody = nobody
 only_of Several = several
 only_of (One i) = one i
 
--- what an answer of `resolve` says
-abbrev pub meaning : Resolved → Found
-meaning (Inode i d) = found i
-meaning (Absent n) = absent n
-
--- the kind told is that of the id
-abbrev pub Kinded : Resolved → Type 0
-Kinded (Inode i d) = d ≡ is_directory_id i
-Kinded (Absent n) = Unit {0}
-
-abbrev pub refusal_of : Found → ℕ
-refusal_of (found i) = 0
-refusal_of (absent n) = n
+-- what an answer of `resolve` says: the id of an inode
+abbrev pub meaning : Result ℕ Refusal → Found
+meaning (Ok i) = found i
+meaning (Err r) = absent (code r)
 
 -- one step of a walk: where a name leads from d
 abbrev pub step_of : View ℕ → Volume ℕ → ℕ → Bytes → Found

@@ -10,11 +10,11 @@ ghost use Rattle.volume.specs.Tree.{found, is_entry, is_child, children, lookup_
 ghost use Rattle.record_places.specs.Place.{by_place, block_at, Lies};
 ghost use Rattle.table_rows.specs.Rows.{InodeTable};
 ghost use Rattle.file_blocks.specs.Blocks.{first_of};
-ghost use Rattle.path_walk.specs.Resolved.{InodesOf, only_of, meaning, Kinded, refusal_of, step_of};
+ghost use Rattle.path_walk.specs.Resolved.{InodesOf, only_of, meaning, step_of};
 
 use byte_equal::equal;
 use byte_fields::wide;
-use calls::{AMBIGUOUS, NOT_FOUND, WRONG_KIND};
+use calls::Refusal;
 use inode_fate::{fate_of, lives};
 use path_names::{after, has_name, name_at, start};
 use record_places::link_at;
@@ -26,35 +26,6 @@ pub enum Child {
     Nobody,
     Several,
     One(u32),
-}
-
-// What a path leads to.
-#[derive(Clone, Copy)]
-pub enum Resolved {
-    // an inode: its id, and whether it is a directory
-    Inode(u32, bool),
-    // the number of refusal
-    Absent(u32),
-}
-
-impl Resolved {
-    // The number of refusal, 0 for an inode.
-    pub fn refusal(self) -> u32
-        ensures { result ≡ refusal_of (meaning self) }
-    {
-        match self {
-            Resolved::Inode(_, _) => 0,
-            Resolved::Absent(number) => number,
-        }
-    }
-}
-
-// The inode of an id, with its kind.
-fn inode(id: u32) -> Resolved
-    ensures means { meaning result ≡ found id }
-    ensures kind { Kinded result }
-{
-    Resolved::Inode(id, is_directory_id(id))
 }
 
 // Whether the inode at `p` names the directory as its parent and has the name.
@@ -142,19 +113,23 @@ pub fn find_child(image: &[u8], ids: &[u32], spots: &[u32], directory: u32, name
 }
 
 // One step of a walk: what the name leads to, looked for in the inode of an id.
-pub fn enter(image: &[u8], ids: &[u32], spots: &[u32], directory: u32, name: &[u8]) -> Resolved
+pub fn enter(
+    image: &[u8],
+    ids: &[u32],
+    spots: &[u32],
+    directory: u32,
+    name: &[u8],
+) -> Result<u32, Refusal>
     requires { InodeTable image.now ids.now spots.now }
-    ensures means { (v : Volume ℕ) → InodesOf image.now ids.now spots.now v → meaning result ≡ step_of (by_place image.now) v directory name.now }
-    ensures kind { Kinded result }
+    ensures { (v : Volume ℕ) → InodesOf image.now ids.now spots.now v → meaning result ≡ step_of (by_place image.now) v directory name.now }
 {
-    if is_directory_id(directory) {} else {
-        return Resolved::Absent(WRONG_KIND);
+    if !is_directory_id(directory) {
+        return Err(Refusal::WrongKind);
     }
-    let child = find_child(image, ids, spots, directory, name);
-    match child {
-        Child::Nobody => Resolved::Absent(NOT_FOUND),
-        Child::Several => Resolved::Absent(AMBIGUOUS),
-        Child::One(id) => inode(id),
+    match find_child(image, ids, spots, directory, name) {
+        Child::Nobody => Err(Refusal::NotFound),
+        Child::Several => Err(Refusal::Ambiguous),
+        Child::One(id) => Ok(id),
     }
 }
 
@@ -165,22 +140,16 @@ pub fn resolve<'a>(
     spots: &[u32],
     base: &'a [u8],
     path: &'a [u8],
-) -> Resolved
+) -> Result<u32, Refusal>
     requires inode_table { InodeTable image.now ids.now spots.now }
     requires path_value { good_path base.now path.now ≡ true }
-    ensures means { (v : Volume ℕ) → InodesOf image.now ids.now spots.now v → meaning result ≡ lookup_names (by_place image.now) v (path_names base.now path.now) }
-    ensures kind { Kinded result }
+    ensures { (v : Volume ℕ) → InodesOf image.now ids.now spots.now v → meaning result ≡ lookup_names (by_place image.now) v (path_names base.now path.now) }
 {
     let mut w = start(base, path);
     let mut at = ROOT;
     while has_name(base, path, w) {
-        let name = name_at(base, path, w);
-        let step = enter(image, ids, spots, at, name);
-        let Resolved::Inode(id, _) = step else {
-            return step;
-        };
-        at = id;
+        at = enter(image, ids, spots, at, name_at(base, path, w))?;
         w = after(base, path, w);
     }
-    inode(at)
+    Ok(at)
 }

@@ -4,6 +4,7 @@ use Rattle.std.specs.Prelude.{◌≡◌, refl, get_or, set}
 use Rattle.std.proofs.Math.Path.{sym, ap}
 use Rattle.std.proofs.Common.{◌∙◌, length-take, length-drop, take-suc-set}
 use mathlib.Core.List.{List, [], ◌∷◌, ◌++◌, map, append-nil, append_assoc}
+use Rattle.std.specs.Prelude.{Option, None, Some}
 use Rattle.std.proofs.Math.Option.{none, some}
 use native.Mathlib.Omega.{arith}
 use Rattle.std.proofs.Math.Numerals.{add-one}
@@ -24,8 +25,6 @@ use Rattle.write_ids.specs.Window.{Marks}
 use Rattle.write_ids.specs.Laws.{unused_within}
 use Rattle.write_room.specs.Spaces.{spaces_of, fit_of, EndsWithin}
 use Rattle.write_room.specs.Plan.{places_for, EachAt, Planned, Planning, planning_begins, planning_fails, planning_on, planning_ends}
-use Rattle.write_room.specs.declared.Place.{Place}
-use Rattle.write_room.specs.declared.Place.TheVariants.{At, Nowhere}
 use Rattle.write_sizes.specs.Cut.{pieces, next_length, next_some, pieces_next, pieces_end}
 use Rattle.write_pieces.specs.Plan.{ids_for, stores_of}
 
@@ -57,11 +56,11 @@ module _ {n : ℕ} (some_room : 1 ≤ n) {text : Bytes} {es fs₀ qs₀ fs qs : 
     more_sizes : map length (pieces n (drop start text)) ≡ k ∷ map length (pieces n (drop (start + k) text))
     more_sizes = ap (map length) more ∙ rw piece_long
 
-    module _ (r : Place) (fs' : List ℕ) (took : first_fit (block.header_size + k) (spaces_of fs es) ≡ fit_of r (spaces_of fs' es)) where
-      pub placing_fails : r ≡ Nowhere → places_for (spaces_of fs₀ es) (map length (pieces n text)) ≡ none
+    module _ (r : Option ℕ) (fs' : List ℕ) (took : first_fit (block.header_size + k) (spaces_of fs es) ≡ fit_of r (spaces_of fs' es)) where
+      pub placing_fails : r ≡ None → places_for (spaces_of fs₀ es) (map length (pieces n text)) ≡ none
       placing_fails = planning_fails g.planning k _ more_sizes r fs' took
 
-      pub placing_on : length fs' ≡ length fs → (q : ℕ) → r ≡ At q → Placing n text es fs₀ qs₀ fs' (set qs i q) (start + k) (i + 1)
+      pub placing_on : length fs' ≡ length fs → (q : ℕ) → r ≡ Some q → Placing n text es fs₀ qs₀ fs' (set qs i q) (start + k) (i + 1)
       placing_on l q a = record {
         count = omega (arith, g.count, ap length more);
         planning = planning_on g.planning k _ more_sizes r fs' took placing_room l q a;

@@ -2,7 +2,8 @@
 use Rattle.std.specs.Prelude.{ℕ, suc, ◌+◌, ◌<◌, ◌≡◌, refl, Bool, true, false, List, [], ◌∷◌, ◌++◌, map, length, take, drop, get_or, set}
 use Rattle.std.proofs.Math.Path.{sym, ap}
 use Rattle.std.proofs.Common.{subst, ◌∙◌, append-nil, append_assoc, arith, add-one, length-set, take-suc-set}
-use Rattle.std.proofs.Math.Option.{Option, none, some}
+use Rattle.std.specs.Prelude.{Option, None, Some}
+use Rattle.std.proofs.Math.Option.{Option as Maybe, none, some}
 use Rattle.format.specs.Bytes.{Bytes}
 use Rattle.format.specs.Record.{block}
 use Rattle.volume.specs.Lists.{bind}
@@ -14,15 +15,13 @@ use Rattle.mount_state.specs.State.{Safe, Holds}
 use Rattle.mount_state.specs.declared.Mounted.{Mounted}
 use Rattle.write_room.specs.Spaces.{spaces_of, fit_of, Each, OfParts, EndsWithin, Within, FitIn, fit_each}
 use Rattle.write_room.specs.Rows.{row_spaces, rows_within, rows_are}
-use Rattle.write_room.specs.declared.Place.{Place}
-use Rattle.write_room.specs.declared.Place.TheVariants.{At, Nowhere}
 
-abbrev pub place_then : ℕ → Option (List ℕ) → Option (List ℕ)
+abbrev pub place_then : ℕ → Maybe (List ℕ) → Maybe (List ℕ)
 place_then q none = none
 place_then q (some qs) = some (q ∷ qs)
 
 -- where blocks with so many bytes of data go, one after the other
-unfoldable pub places_for : List Space → List ℕ → Option (List ℕ)
+unfoldable pub places_for : List Space → List ℕ → Maybe (List ℕ)
 places_for ss [] = some []
 places_for ss (n ∷ ns) = bind (first_fit (block.header_size + n) ss) (λ f. place_then f.place (places_for f.left ns))
 
@@ -45,7 +44,7 @@ places_each P c ss [] qs e w = (tt, ap length (sym (some_is e)))
 places_each P c ss (n ∷ ns) qs e w =
     go (first_fit (block.header_size + n) ss) (λ g q. fit_each P c (block.header_size + n) ss g q w) (λ u rs q v. places_each P c u ns rs q v) e
   where
-    then : (q : ℕ) (o : Option (List ℕ)) → P (record { from = q; end = q + (block.header_size + n) })
+    then : (q : ℕ) (o : Maybe (List ℕ)) → P (record { from = q; end = q + (block.header_size + n) })
         → ((rs : List ℕ) → o ≡ some rs → PlacesIn P ns rs) → place_then q o ≡ some qs → PlacesIn P (n ∷ ns) qs
     then q none h ih z = let y : ◌≡◌ {A = ℕ} 0 1 = cc in absurd (omega arith)
     then q (some rs) h ih z =
@@ -53,7 +52,7 @@ places_each P c ss (n ∷ ns) qs e w =
         let i = ih rs refl in
         subst (PlacesIn P (n ∷ ns)) y ((h, i.0), ap suc i.1)
 
-    go : (o : Option Fit) → ((g : Fit) → o ≡ some g → FitIn P (block.header_size + n) g)
+    go : (o : Maybe Fit) → ((g : Fit) → o ≡ some g → FitIn P (block.header_size + n) g)
         → ((u : List Space) (rs : List ℕ) → places_for u ns ≡ some rs → Each P u → PlacesIn P ns rs)
         → bind o (λ g. place_then g.place (places_for g.left ns)) ≡ some qs → PlacesIn P (n ∷ ns) qs
     go none h ih z = let y : ◌≡◌ {A = ℕ} 0 1 = cc in absurd (omega arith)
@@ -64,14 +63,14 @@ pub record Planned (m : ℕ) (ns qs : List ℕ) : Type 0 where
   pub ends : EachAt (EndsWithin m) ns qs
   pub count : length qs ≡ length ns
 
-abbrev pub PlannedAt : ℕ → List ℕ → Option (List ℕ) → Type 0
+abbrev pub PlannedAt : ℕ → List ℕ → Maybe (List ℕ) → Type 0
 PlannedAt m ns none = Unit {0}
 PlannedAt m ns (some qs) = Planned m ns qs
 
 places_planned : (m : ℕ) (ss : List Space) (ns : List ℕ) → Within m ss → PlannedAt m ns (places_for ss ns)
 places_planned m ss ns w = go (places_for ss ns) (λ qs e. places_each (EndsWithin m) (λ s t h g k. omega arith) ss ns qs e w)
   where
-    go : (o : Option (List ℕ)) → ((qs : List ℕ) → o ≡ some qs → PlacesIn (EndsWithin m) ns qs) → PlannedAt m ns o
+    go : (o : Maybe (List ℕ)) → ((qs : List ℕ) → o ≡ some qs → PlacesIn (EndsWithin m) ns qs) → PlannedAt m ns o
     go none h = tt
     go (some qs) h = let k = h qs refl in record { ends = k.0; count = k.1 }
 
@@ -106,26 +105,26 @@ blocks_paired ss (b ∷ bs) (n ∷ ns) e =
     let z : length b ≡ block.header_size + n = ap (λ l. get_or l 0 0) e in
     rw z (go (first_fit (block.header_size + n) ss) (λ t. blocks_paired t bs ns (ap (drop 1) e)))
   where
-    then : (q : ℕ) (o : Option (List ℕ))
+    then : (q : ℕ) (o : Maybe (List ℕ))
         → prepend (record { place = q; bytes = b }) (over (λ qs. pair_stores qs bs) o) ≡ over (λ qs. pair_stores qs (b ∷ bs)) (place_then q o)
     then q none = refl
     then q (some qs) = refl
 
-    go : (o : Option Fit) → ((t : List Space) → place_all t bs ≡ over (λ qs. pair_stores qs bs) (places_for t ns))
+    go : (o : Maybe Fit) → ((t : List Space) → place_all t bs ≡ over (λ qs. pair_stores qs bs) (places_for t ns))
         → bind o (λ g. prepend (record { place = g.place; bytes = b }) (place_all g.left bs))
         ≡ over (λ qs. pair_stores qs (b ∷ bs)) (bind o (λ g. place_then g.place (places_for g.left ns)))
     go none ih = refl
     go (some g) ih = rw (ih g.left) (then g.place (places_for g.left ns))
 
 -- what an answer says of places that were sought
-abbrev pub planned_of : Bool → List ℕ → Option (List ℕ)
+abbrev pub planned_of : Bool → List ℕ → Maybe (List ℕ)
 planned_of true qs = some qs
 planned_of false qs = none
 
-pub planned_some : (o : Option (List ℕ)) (r : Bool) (qs : List ℕ) → o ≡ planned_of r qs → r ≡ true → o ≡ some qs
+pub planned_some : (o : Maybe (List ℕ)) (r : Bool) (qs : List ℕ) → o ≡ planned_of r qs → r ≡ true → o ≡ some qs
 planned_some o r qs e t = e ∙ ap (λ (b : Bool). planned_of b qs) t
 
-pub planned_none : (o : Option (List ℕ)) (r : Bool) (qs : List ℕ) → o ≡ planned_of r qs → r ≡ false → o ≡ none
+pub planned_none : (o : Maybe (List ℕ)) (r : Bool) (qs : List ℕ) → o ≡ planned_of r qs → r ≡ false → o ≡ none
 planned_none o r qs e t = e ∙ ap (λ (b : Bool). planned_of b qs) t
 
 pub planned_inside : (m : ℕ) (ns : List ℕ) (r : Bool) (qs : List ℕ) → PlannedAt m ns (planned_of r qs) → r ≡ true → Planned m ns qs
@@ -134,7 +133,7 @@ planned_inside m ns r qs p t = subst (λ (b : Bool). PlannedAt m ns (planned_of 
 -- ---- the loop that takes the places
 
 -- places behind others
-abbrev pub behind : List ℕ → Option (List ℕ) → Option (List ℕ)
+abbrev pub behind : List ℕ → Maybe (List ℕ) → Maybe (List ℕ)
 behind l none = none
 behind l (some m) = some (l ++ m)
 
@@ -147,14 +146,14 @@ pub record Planning (ns coming es fs₀ qs₀ fs qs : List ℕ) (i : ℕ) : Type
 pub planning_begins : (ns es fs qs : List ℕ) → Planning ns ns es fs qs fs qs 0
 planning_begins ns es fs qs = record { starts_long = refl; places_long = refl; left = go (places_for (spaces_of fs es) ns) }
   where
-    go : (o : Option (List ℕ)) → behind [] o ≡ o
+    go : (o : Maybe (List ℕ)) → behind [] o ≡ o
     go none = refl
     go (some m) = refl
 
 module _ {ns coming es fs₀ qs₀ fs qs : List ℕ} {i : ℕ} (g : Planning ns coming es fs₀ qs₀ fs qs i) where
   -- the next block, of n bytes
   module _ (n : ℕ) (later : List ℕ) (more : coming ≡ n ∷ later)
-      (r : Place) (fs' : List ℕ) (took : first_fit (block.header_size + n) (spaces_of fs es) ≡ fit_of r (spaces_of fs' es)) where
+      (r : Option ℕ) (fs' : List ℕ) (took : first_fit (block.header_size + n) (spaces_of fs es) ≡ fit_of r (spaces_of fs' es)) where
     tried : behind (take i qs) (bind (fit_of r (spaces_of fs' es)) (λ f. place_then f.place (places_for f.left later)))
         ≡ places_for (spaces_of fs₀ es) ns
     unfolding places_for
@@ -164,17 +163,17 @@ module _ {ns coming es fs₀ qs₀ fs qs : List ℕ} {i : ℕ} (g : Planning ns 
         rw more at g.left in
         rw took at v
 
-    pub planning_fails : r ≡ Nowhere → places_for (spaces_of fs₀ es) ns ≡ none
+    pub planning_fails : r ≡ None → places_for (spaces_of fs₀ es) ns ≡ none
     planning_fails q = sym (rw q at tried)
 
-    pub planning_on : i < length qs → length fs' ≡ length fs → (q : ℕ) → r ≡ At q → Planning ns later es fs₀ qs₀ fs' (set qs i q) (i + 1)
+    pub planning_on : i < length qs → length fs' ≡ length fs → (q : ℕ) → r ≡ Some q → Planning ns later es fs₀ qs₀ fs' (set qs i q) (i + 1)
     planning_on h l q a = record {
       starts_long = l ∙ g.starts_long;
       places_long = length-set qs i q ∙ g.places_long;
       left = go (places_for (spaces_of fs' es) later) (rw a at tried);
     }
       where
-        go : (o : Option (List ℕ)) → behind (take i qs) (place_then q o) ≡ places_for (spaces_of fs₀ es) ns
+        go : (o : Maybe (List ℕ)) → behind (take i qs) (place_then q o) ≡ places_for (spaces_of fs₀ es) ns
             → behind (take (i + 1) (set qs i q)) o ≡ places_for (spaces_of fs₀ es) ns
         go none w = w
         go (some m) w =

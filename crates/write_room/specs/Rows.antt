@@ -1,4 +1,5 @@
 -- The free space that the rows of areas tell, and what it is in a mounted volume.
+use Rattle.std.specs.Prelude.{Option}
 use Rattle.std.specs.Prelude.{ℕ, zero, suc, ◌+◌, ◌-◌, ◌≤◌, ◌<◌, ◌≡◌, refl, ◌≢◌, Bool, true, false, cond, List, [], ◌∷◌, ◌++◌, length, take, drop, get_or, set}
 use Rattle.std.proofs.Math.Path.{sym, ap}
 use Rattle.std.proofs.Common.{◌∙◌, append-nil, append_assoc, length-set, get_or-take, get_or-drop, drop-cons, eq-eqb, ne_eqb}
@@ -15,8 +16,8 @@ use Rattle.table_rows.specs.Parts.{part, part_long}
 use Rattle.area_pass.specs.Rows.{spans_at, stretches_at, free_at, area_rows, area_at, Tells}
 use Rattle.mount_state.specs.State.{Safe, Holds}
 use Rattle.mount_state.specs.declared.Mounted.{Mounted}
-use Rattle.write_room.specs.declared.Place.{Place}
-use Rattle.write_room.specs.Spaces.{spaces_of, fit_of, place_of, place_in, place_of_fit, fit_place, EndsAt, spaces_more, Within}
+use Rattle.table_rows.specs.Answer.{meant}
+use Rattle.write_room.specs.Spaces.{spaces_of, fit_of, place_in, place_of_fit, fit_place, EndsAt, spaces_more, Within}
 
 -- where the area of a row ends, and where its free space starts
 abbrev pub end_at : List ℕ → ℕ → ℕ
@@ -165,9 +166,9 @@ module _ {image : Bytes} {m : Mounted} {t : List ℕ} (s : Safe image m t) where
       rows_described image t 0 m.files (omega (arith, s.long)) (omega (arith, s.files_few)) (λ i l. h.readings i (omega (arith, l))) ∙ ap (spaces image) h.files
 
   -- the place taken from spaces that are those of the rows
-  pub place_found : (n : ℕ) (fs es : List ℕ) (r : Place) (left : List Space) → spaces_of fs es ≡ row_spaces t 0 m.files
+  pub place_found : (n : ℕ) (fs es : List ℕ) (r : Option ℕ) (left : List Space) → spaces_of fs es ≡ row_spaces t 0 m.files
       → first_fit n (spaces_of fs es) ≡ fit_of r left
-      → ((ds : List Descriptor) → Holds image ds m t → place_of r ≡ place_in (first_fit n (spaces image (file_areas image ds)))) × EndsAt n (length image) r
+      → ((ds : List Descriptor) → Holds image ds m t → meant r ≡ place_in (first_fit n (spaces image (file_areas image ds)))) × EndsAt n (length image) r
   place_found n fs es r left e q =
       let here : first_fit n (row_spaces t 0 m.files) ≡ fit_of r left = rw e at q in
       ((λ ds h. place_of_fit r left ∙ sym (ap place_in (sym (ap (first_fit n) (rows_are h)) ∙ here))), fit_place n (length image) _ r left here rows_within)

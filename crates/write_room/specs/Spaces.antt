@@ -1,11 +1,11 @@
 -- Free space as two lists of numbers, and where a record goes. Document 01, "Create, append, unlink".
 use Rattle.std.specs.Prelude.{ℕ, ◌+◌, ◌≤◌, ◌<◌, ◌≡◌, refl, Bool, true, false, cond, List, [], ◌∷◌, ◌++◌, length, take, set, leb}
 use Rattle.std.proofs.Common.{ap, subst, arith, add-one, length-take, take-suc-set, leb-true}
-use Rattle.std.proofs.Math.Option.{Option, none, some}
+use Rattle.std.specs.Prelude.{Option, None, Some, IfSome}
+use Rattle.std.proofs.Math.Option.{Option as Maybe, none, some}
 use Rattle.calls.specs.Storing.{Space, Fit, keep_space, first_fit}
+use Rattle.table_rows.specs.Answer.{meant}
 use Rattle.calls_laws.specs.Storing.{kept_fit}
-use Rattle.write_room.specs.declared.Place.{Place}
-use Rattle.write_room.specs.declared.Place.TheVariants.{At, Nowhere}
 
 -- the spaces that two slices hold: where each starts and where it ends
 unfoldable pub spaces_of : List ℕ → List ℕ → List Space
@@ -14,28 +14,22 @@ spaces_of (f ∷ fs) [] = []
 spaces_of (f ∷ fs) (e ∷ es) = record { from = f; end = e } ∷ spaces_of fs es
 
 -- what an answer of `take_place` says, with the spaces left
-abbrev pub fit_of : Place → List Space → Option Fit
-fit_of (At p) left = some (record { place = p; left = left })
-fit_of Nowhere left = none
-
--- what an answer of `place_one` says
-abbrev pub place_of : Place → Option ℕ
-place_of (At p) = some p
-place_of Nowhere = none
+abbrev pub fit_of : Option ℕ → List Space → Maybe Fit
+fit_of (Some p) left = some (record { place = p; left = left })
+fit_of None left = none
 
 -- the place of a fit
-abbrev pub place_in : Option Fit → Option ℕ
+abbrev pub place_in : Maybe Fit → Maybe ℕ
 place_in none = none
 place_in (some f) = some f.place
 
-pub place_of_fit : (r : Place) (left : List Space) → place_of r ≡ place_in (fit_of r left)
-place_of_fit (At p) left = refl
-place_of_fit Nowhere left = refl
+pub place_of_fit : (r : Option ℕ) (left : List Space) → meant r ≡ place_in (fit_of r left)
+place_of_fit (Some p) left = refl
+place_of_fit None left = refl
 
 -- n bytes at the place end within m
-abbrev pub EndsAt : ℕ → ℕ → Place → Type 0
-EndsAt n m (At p) = p + n ≤ m
-EndsAt n m Nowhere = Unit {0}
+abbrev pub EndsAt : ℕ → ℕ → Option ℕ → Type 0
+EndsAt n m r = IfSome r (λ p. p + n ≤ m)
 
 -- P holds of every space
 abbrev pub Each : (Space → Type 0) → List Space → Type 0
@@ -84,9 +78,9 @@ fit_each P c n (s ∷ ss) f e w = go (leb (s.from + n) s.end) refl (λ g q. fit_
         let h = ih k.0 k.1 in
         (rw k.2 h.0, rw k.3 (w.0, h.1))
 
-pub fit_place : (n m : ℕ) (ss : List Space) (r : Place) (left : List Space) → first_fit n ss ≡ fit_of r left → Within m ss → EndsAt n m r
-fit_place n m ss (At p) left e w = (fit_each (EndsWithin m) (λ s t h g k. omega arith) n ss _ e w).0
-fit_place n m ss Nowhere left e w = tt
+pub fit_place : (n m : ℕ) (ss : List Space) (r : Option ℕ) (left : List Space) → first_fit n ss ≡ fit_of r left → Within m ss → EndsAt n m r
+fit_place n m ss (Some p) left e w = (fit_each (EndsWithin m) (λ s t h g k. omega arith) n ss _ e w).0
+fit_place n m ss None left e w = tt
 
 -- one space more behind
 join_one : (fs es : List ℕ) (f e : ℕ) → length fs ≡ length es

@@ -5,21 +5,15 @@ ghost use Rattle.std.specs.Prelude.{◌≡◌, List, ◌≤◌, length, take};
 ghost use Rattle.calls.specs.Areas.{largest_image, file_areas};
 ghost use Rattle.calls.specs.Storing.{spaces, first_fit};
 ghost use Rattle.calls.specs.declared.Descriptor.{Descriptor};
+ghost use Rattle.table_rows.specs.Answer.{meant};
 ghost use Rattle.mount_state.specs.State.{Safe, Holds};
-ghost use Rattle.write_room.specs.Spaces.{spaces_of, fit_of, place_of, place_in, EndsAt};
+ghost use Rattle.write_room.specs.Spaces.{spaces_of, fit_of, place_in, EndsAt};
 ghost use Rattle.write_room.specs.First.{First};
 ghost use Rattle.write_room.specs.Rows.{AreaRows, row_spaces};
 
 use area_pass::{FREE, SPANS, STRETCHES};
 use calls::MOST_AREAS;
 use mount_state::Mounted;
-
-// Where a record goes.
-#[derive(Clone, Copy)]
-pub enum Place {
-    At(u32),
-    Nowhere,
-}
 
 // Puts the free space of the clean areas, in the order of their rows, into `froms` and `ends`; answers how many there are. A damaged area waits for collection.
 pub fn find_spaces(tables: &[u32], files: usize, froms: &mut [u32], ends: &mut [u32]) -> usize
@@ -62,24 +56,24 @@ fn first_fit(froms: &[u32], ends: &[u32], n: usize) -> usize
 }
 
 // Takes `n` bytes from the first space with room, which then starts behind them; answers where they are.
-pub fn take_place(froms: &mut [u32], ends: &[u32], n: usize) -> Place
+pub fn take_place(froms: &mut [u32], ends: &[u32], n: usize) -> Option<u32>
     requires { (length froms.old ≡ length ends.now) × (n ≤ largest_image) }
     ensures { first_fit n (spaces_of froms.old ends.now) ≡ fit_of result (spaces_of froms.new ends.now) }
 {
     let i = first_fit(&*froms, ends, n);
     if i == froms.len() {
-        return Place::Nowhere;
+        return None;
     }
     let at = froms[i];
     froms[i] = (at as usize + n) as u32;
-    Place::At(at)
+    Some(at)
 }
 
 // The place of one record of `n` bytes: in the first clean file area with room.
-pub fn place_one(image: &[u8], tables: &[u32], m: Mounted, n: usize) -> Place
+pub fn place_one(image: &[u8], tables: &[u32], m: Mounted, n: usize) -> Option<u32>
     requires safe { Safe image.now m tables.now }
     requires n_le_largest_image { n ≤ largest_image }
-    ensures is { (ds : List Descriptor) → Holds image.now ds m tables.now → place_of result ≡ place_in (first_fit n (spaces image.now (file_areas image.now ds))) }
+    ensures is { (ds : List Descriptor) → Holds image.now ds m tables.now → meant result ≡ place_in (first_fit n (spaces image.now (file_areas image.now ds))) }
     ensures inside { EndsAt n (length image.now) result }
 {
     let mut froms = [0u32; MOST_AREAS];

@@ -2,6 +2,7 @@
 use Rattle.std.specs.Prelude.{ℕ, suc, ◌+◌, ◌≤◌, ◌<◌, ◌≡◌, true, false, take, drop, get_or, set}
 use Rattle.std.proofs.Math.Path.{ap}
 use Rattle.std.proofs.Common.{◌∙◌, arith, drop_of_length-le, drop-cons}
+use Rattle.std.specs.Prelude.{Option, None, Some}
 use Rattle.std.proofs.Math.Option.{none, some}
 use mathlib.Core.List.{List, [], ◌∷◌}
 use Rattle.std.proofs.Math.ListN.{length}
@@ -10,8 +11,6 @@ use Rattle.calls.specs.Storing.{first_fit}
 use Rattle.calls.specs.Overwrite.{holds_byte}
 use Rattle.write_room.specs.Spaces.{spaces_of, fit_of}
 use Rattle.write_room.specs.Plan.{places_for, Planning, planning_begins, planning_fails, planning_on, planning_ends}
-use Rattle.write_room.specs.declared.Place.{Place}
-use Rattle.write_room.specs.declared.Place.TheVariants.{At, Nowhere}
 use Rattle.write_versions.specs.Held.{sizes_held, Position, position_begins, position_next}
 
 -- of the blocks before i, which begins at s, those that hold a byte of the range have the first k places
@@ -53,16 +52,16 @@ module _ {from to : ℕ} {ns es fs₀ qs₀ fs qs : List ℕ} {s k i : ℕ} (g :
         }
 
     -- and one that holds some
-    module _ (e : holds_byte from to s n ≡ true) (r : Place) (fs' : List ℕ)
+    module _ (e : holds_byte from to s n ≡ true) (r : Option ℕ) (fs' : List ℕ)
         (took : first_fit (block.header_size + n) (spaces_of fs es) ≡ fit_of r (spaces_of fs' es)) where
       more : sizes_held from to s (drop i ns) ≡ n ∷ later
       unfolding sizes_held
       more = rw (next, e)
 
-      pub taking_fails : r ≡ Nowhere → places_for (spaces_of fs₀ es) (sizes_held from to 0 ns) ≡ none
+      pub taking_fails : r ≡ None → places_for (spaces_of fs₀ es) (sizes_held from to 0 ns) ≡ none
       taking_fails = planning_fails g.planning n later more r fs' took
 
-      pub taking_on : length qs ≡ length ns → length fs' ≡ length fs → (q : ℕ) → r ≡ At q
+      pub taking_on : length qs ≡ length ns → length fs' ≡ length fs → (q : ℕ) → r ≡ Some q
           → Taking from to ns es fs₀ qs₀ fs' (set qs k q) (s + n) (k + 1) (i + 1)
       taking_on long l q a = record {
         position = position_next g.position h;
