@@ -23,10 +23,20 @@ damage_of k l = record {
   length = (first_stretch (drop k l)).size;
 }
 
-pub none_is : (k : ℕ) → record { stretches = 0; skipped = 0; offset = 0; length = 0 } ≡ damage_of k []
+-- no damage
+pub none_is : (d : Damage) → (d.stretches ≡ 0) × ((d.skipped ≡ 0) × ((d.offset ≡ 0) × (d.length ≡ 0))) → (k : ℕ) → d ≡ damage_of k []
 unfolding damage_of total_size first_stretch
-none_is zero = refl
-none_is (suc k) = refl
+none_is d e k = same ∙ none k
+  where
+    made : ℕ → ℕ → ℕ → ℕ → Damage
+    made a b o n = record { stretches = a; skipped = b; offset = o; length = n }
+
+    same : made d.stretches d.skipped d.offset d.length ≡ made 0 0 0 0
+    same = cc
+
+    none : (k : ℕ) → record { stretches = 0; skipped = 0; offset = 0; length = 0 } ≡ damage_of k []
+    none zero = refl
+    none (suc k) = refl
 
 -- ---- a stretch behind others
 

@@ -1,8 +1,7 @@
 -- Where the erased end of some bytes begins, sought from behind.
-use Rattle.std.specs.Prelude.{ℕ, zero, suc, ◌+◌, ◌-◌, ◌*◌, ◌^◌, ◌≤◌, ◌<◌, ◌≡◌, refl, ◌⊎◌, Bool, true, false, cond, ◌&&◌, [], ◌∷◌, ◌++◌, length, take, drop, eqb, ltb}
+use Rattle.std.specs.Prelude.{ℕ, zero, suc, ◌+◌, ◌-◌, ◌≤◌, ◌<◌, ◌≡◌, refl, ◌⊎◌, Bool, true, false, cond, ◌&&◌, [], ◌∷◌, ◌++◌, length, max, take, drop, eqb, ltb}
 use Rattle.std.proofs.Common.{sym, subst, ◌∙◌, inl, inr, arith, add-one, length-append, length-drop, drop-drop, take-suc, take_all, eq-eqb, ne_eqb, eqb-true, ltb-true, ltb-false}
 use Rattle.std.proofs.Math.Dec.{eqb-suc-suc, eqb-zero-suc}
-use Rattle.std.proofs.lemmas.Bool.{eqb-false}
 use Rattle.format.specs.Bytes.{Bytes, byte_at, le32}
 use Rattle.format.specs.Reading.{ERASED, erased_end}
 use Rattle.format_laws.specs.Bytes.{drop_byte}
@@ -117,15 +116,6 @@ erased_sixty_four s o i h e g =
     let second = erased_thirty_two_lem s o (i - 32) (and_right (erased_thirty_two s (i - 64)) (erased_thirty_two s (i - 32)) e) (subst (ErasedFrom s) x g) in
     erased_thirty_two_lem s o (i - 64) (and_left (erased_thirty_two s (i - 64)) (erased_thirty_two s (i - 32)) e) (subst (ErasedFrom s) y second)
 
--- two words as one number
-pub word_pair : (x y : ℕ) → x < 2 ^ 32 → y < 2 ^ 32 → eqb (x + y * 4294967296) 0xffffffffffffffff ≡ (eqb x ERASED_WORD && eqb y ERASED_WORD)
-word_pair x y h k = go (eqb x ERASED_WORD) (eqb y ERASED_WORD) refl refl
-  where
-    go : (a b : Bool) → eqb x ERASED_WORD ≡ a → eqb y ERASED_WORD ≡ b → eqb (x + y * 4294967296) 0xffffffffffffffff ≡ (a && b)
-    go true true p q = eq-eqb (x + y * 4294967296) 0xffffffffffffffff (omega (arith, eqb-true x ERASED_WORD p, eqb-true y ERASED_WORD q))
-    go true false p q = ne_eqb (x + y * 4294967296) 0xffffffffffffffff (λ e. eqb-false y ERASED_WORD q (omega arith))
-    go false b p q = ne_eqb (x + y * 4294967296) 0xffffffffffffffff (λ e. eqb-false x ERASED_WORD p (omega arith))
-
 -- ---- the end of what is written
 
 -- one byte more in front: the end grows only where all the others are erased
@@ -173,21 +163,10 @@ erased_bytes (b ∷ l) j h g = go j h g (erased_cons b l) (erased_bytes l)
     go (suc j) h g (inl e) ih = ih j (omega (arith, e)) (omega arith)
     go (suc j) h g (inr (f, d, e)) ih = ih j (omega (arith, e, f)) (omega arith)
 
--- the later of two places
-abbrev pub later_of : ℕ → ℕ → ℕ
-later_of a b = cond (ltb a b) b a
-
-pub later_between : (a b n : ℕ) → a ≤ n → b ≤ n → (a ≤ later_of a b) × (later_of a b ≤ n)
-later_between a b n h g = go (ltb a b) refl
-  where
-    go : (t : Bool) → ltb a b ≡ t → (a ≤ cond t b a) × (cond t b a ≤ n)
-    go true e = (omega (arith, ltb-true a b e), g)
-    go false e = (omega arith, h)
-
 -- The end of an area that was counted from a place on, seen from one behind it: where what is written ends, and how much of it is left to come.
 pub record Ended (area : Bytes) (from written : ℕ) : Type 0 where
   pub written_to : WrittenTo area from written
-  pub ends : erased_end (drop from area) ≡ length area - later_of from written
+  pub ends : erased_end (drop from area) ≡ length area - max from written
 
 pub ended : (area : Bytes) (a from n : ℕ) → a ≤ from → from ≤ length area → n ≡ erased_end (drop a area) → Ended area from (length area - n)
 ended area a from n h g e = record {
@@ -212,6 +191,6 @@ ended area a from n h g e = record {
         let z : a + (j - a) ≡ j = omega (arith, few) in
         rw z at (sym (drop_byte a area (j - a)) ∙ erased_bytes (drop a area) (j - a) (omega (arith, e, long)) (omega (arith, long, few)))
 
-    go : (t : Bool) → ltb from (length area - n) ≡ t → erased_end (drop (from - a) (drop a area)) ≡ length area - cond t (length area - n) from
+    go : (t : Bool) → ltb from (length area - n) ≡ t → erased_end (drop (from - a) (drop a area)) ≡ length area - max from (length area - n)
     go true q = let l = ltb-true from (length area - n) q in rest.whole (omega (arith, e, long)) ∙ omega (arith, e, few)
     go false q = let l = ltb-false from (length area - n) q in rest.all (omega (arith, e, long)) ∙ omega (arith, long)

@@ -3,7 +3,7 @@
 
 ghost use Rattle.std.specs.Prelude.{◌≡◌, ◌+◌, ◌≤◌, length};
 ghost use Rattle.format.specs.Reading.{erased_end};
-ghost use Rattle.area_erased.specs.Erased.{erased_eight, erased_thirty_two, ErasedFrom, later_of};
+ghost use Rattle.area_erased.specs.Erased.{erased_eight, erased_thirty_two, ErasedFrom};
 
 use byte_fields::load32;
 use byte_store::ERASED;
@@ -13,10 +13,11 @@ fn erased_eight(s: &[u8], at: usize) -> bool
     requires { at + 8 ≤ length s.now }
     ensures { result ≡ erased_eight s.now at }
 {
-    load32(s, at) as u64 + load32(s, at + 4) as u64 * 4294967296 == 0xffffffffffffffff
+    u64::from(load32(s, at)) + u64::from(load32(s, at + 4)) * 4294967296 == u64::MAX
 }
 
 // Whether the 32 bytes from `at` on are. No test waits for another.
+#[tactic(auto, unfolding(crate::specs::Erased::erased_thirty_two))]
 fn erased_thirty_two(s: &[u8], at: usize) -> bool
     requires { at + 32 ≤ length s.now }
     ensures { result ≡ erased_thirty_two s.now at }
@@ -32,10 +33,7 @@ fn erased_from(s: &[u8]) -> usize
     ensures { ErasedFrom s.now result }
 {
     let mut i = s.len();
-    while 64 <= i {
-        if erased_thirty_two(s, i - 64) & erased_thirty_two(s, i - 32) {} else {
-            return i;
-        }
+    while 64 <= i && erased_thirty_two(s, i - 64) & erased_thirty_two(s, i - 32) {
         i -= 64;
     }
     i
@@ -45,19 +43,10 @@ fn erased_from(s: &[u8]) -> usize
 pub fn erased_end(s: &[u8]) -> usize
     ensures { result ≡ erased_end s.now }
 {
-    let mut i = erased_from(s);
-    while 0 < i {
-        if s[i - 1] != ERASED {
-            return s.len() - i;
+    for i in (0..erased_from(s)).rev() {
+        if s[i] != ERASED {
+            return s.len() - (i + 1);
         }
-        i -= 1;
     }
     s.len()
-}
-
-// The later of two places.
-pub fn later(a: usize, b: usize) -> usize
-    ensures { result ≡ later_of a b }
-{
-    if a < b { b } else { a }
 }

@@ -1,6 +1,6 @@
 -- Checks 1 to 4, which turn on the areas alone, and what they answer.
-use Rattle.std.specs.Prelude.{ℕ, zero, suc, ◌+◌, ◌≤◌, ◌≡◌, refl, Bool, true, false, cond, not, List, [], ◌∷◌, ◌++◌, length, leb, eqb}
-use Rattle.std.proofs.Common.{sym, ap, ◌∙◌, arith}
+use Rattle.std.specs.Prelude.{ℕ, zero, suc, ◌≤◌, ◌≡◌, refl, Bool, true, false, cond, not, List, [], ◌∷◌, ◌++◌, length, leb, eqb, Result, Ok, Err}
+use Rattle.std.proofs.Common.{sym, ◌∙◌, arith}
 use Rattle.std.proofs.Math.Bool.{or-true}
 use borrow.Author.Tests.{eq-eqb, ne_eqb, eqb-true}
 use Rattle.format.specs.Bytes.{Bytes}
@@ -12,13 +12,18 @@ use Rattle.calls.specs.Areas.{most_areas, file_areas, scratch_areas}
 use Rattle.calls.specs.Refusal.{Check, ◌refused_by◌, first_refusal}
 use Rattle.calls.specs.Mount.{accepted_records, volume, bad_description, shared_area_id, wrong_areas, short_scratch, too_many_ids, no_root}
 use Rattle.calls.specs.Mount.{mount_checks, mount_number}
+use Rattle.calls.specs.Attempt.{number_of}
+use Rattle.calls.specs.Outcome.{outcome_of}
 use Rattle.calls.specs.declared.Descriptor.{Descriptor}
+use Rattle.calls.specs.declared.Refusal.{Refusal}
+use Rattle.calls.specs.declared.Refusal.TheVariants.{BadAreas, SameAreaId, NoFileOrScratch, ShortScratch}
 use Rattle.calls_laws.specs.Checks.{passed_first}
-use Rattle.area_kinds.specs.declared.LastScratch.{LastScratch}
+use Rattle.area_kinds.specs.declared.ScratchFound.{ScratchFound}
+use Rattle.area_kinds.specs.declared.ScratchFound.TheVariants.{One}
 use Rattle.area_kinds.specs.declared.Kinds.{Kinds}
 use Rattle.area_kinds.specs.declared.CheckedAreas.{CheckedAreas}
-use Rattle.area_list.specs.Described.{area_of, described, described_length}
-use Rattle.area_kinds.specs.Kinds.{scratch_of, scratch_count, scratch_is, all_spans, rows_of, Sorted}
+use Rattle.area_list.specs.Described.{described, described_length}
+use Rattle.area_kinds.specs.Kinds.{scratch_of, scratch_one, one_scratch, all_spans, rows_of, Sorted}
 
 -- checks 2 to 4, of the file areas and the scratch areas
 unfoldable pub kind_checks : Bytes → List Descriptor → List Descriptor → List Check
@@ -86,40 +91,52 @@ module _ (image : Bytes) (fs ss : List Descriptor) where
     unfolding first_refusal kind_checks wrong_areas short_scratch all
     kinds_pass e = rw (own, one, ne_eqb (length fs) 0 some, e)
 
--- r is what checks 2 to 4 answer for file areas, where s is found of the scratch areas
-pub record KindsAnswer (image : Bytes) (fs : List Descriptor) (s : LastScratch) (r : ℕ) : Type 0 where
-  pub is : (ss : List Descriptor) → s ≡ scratch_of ss → r ≡ first_refusal (kind_checks image fs ss)
+-- r is what checks 2 to 4 answer for file areas and scratch areas: the first refusal, or the one scratch area
+pub record KindsChecked (image : Bytes) (fs ss : List Descriptor) (r : Result Descriptor Refusal) : Type 0 where
+  pub refusal : number_of (outcome_of r) ≡ first_refusal (kind_checks image fs ss)
+  pub scratch : (d : Descriptor) → r ≡ Ok d → ss ≡ d ∷ []
 
-module _ (image : Bytes) (starts spans : List ℕ) (pairs : length starts ≡ length spans) (s : LastScratch) where
-  pub answer_shared : shared_area_id image (described starts spans) ≡ true → KindsAnswer image (described starts spans) s 2
-  answer_shared e = record { is = λ ss q. sym (kinds_shared image (described starts spans) ss e) }
+-- it is where s is found of the scratch areas
+pub record KindsAnswer (image : Bytes) (fs : List Descriptor) (s : ScratchFound) (r : Result Descriptor Refusal) : Type 0 where
+  pub is : (ss : List Descriptor) → s ≡ scratch_of ss → KindsChecked image fs ss r
 
-  module _ (own : shared_area_id image (described starts spans) ≡ false) where
-    pub answer_no_file : length starts ≡ 0 → KindsAnswer image (described starts spans) s 3
-    answer_no_file h = record { is = λ ss q. sym (kinds_no_file image (described starts spans) ss own (described_length starts spans pairs ∙ h)) }
+module _ (image : Bytes) (starts spans : List ℕ) (pairs : length starts ≡ length spans) (s : ScratchFound) where
+  abbrev fs : List Descriptor
+  fs = described starts spans
 
-    pub answer_scratch : (s.count ≡ 1 → ⊥) → KindsAnswer image (described starts spans) s 3
-    answer_scratch h = record {
-      is = λ ss q. sym (kinds_scratch image (described starts spans) ss own (λ z. h (ap (λ (x : LastScratch). x.count) q ∙ scratch_count ss ∙ z)));
+  pub answer_shared : shared_area_id image fs ≡ true → KindsAnswer image fs s (Err SameAreaId)
+  answer_shared e = record { is = λ ss q. record { refusal = sym (kinds_shared image fs ss e); scratch = λ d z. cc } }
+
+  module _ (own : shared_area_id image fs ≡ false) where
+    pub answer_no_file : length starts ≡ 0 → KindsAnswer image fs s (Err NoFileOrScratch)
+    answer_no_file h = record {
+      is = λ ss q. record { refusal = sym (kinds_no_file image fs ss own (described_length starts spans pairs ∙ h)); scratch = λ d z. cc };
     }
 
-    module _ (some : length starts ≡ 0 → ⊥) (one : s.count ≡ 1) where
-      abbrev longest : ℕ
-      longest = s.area.length
+    pub answer_scratch : ((d : Descriptor) → s ≡ One d → ⊥) → KindsAnswer image fs s (Err NoFileOrScratch)
+    answer_scratch h = record {
+      is = λ ss q. record { refusal = sym (kinds_scratch image fs ss own (λ z. let o = one_scratch ss z in h o.0 (q ∙ o.1))); scratch = λ d z. cc };
+    }
 
-      only : (ss : List Descriptor) → s ≡ scratch_of ss → ss ≡ s.area ∷ []
-      only ss q = scratch_is s ss q (sym (scratch_count ss) ∙ sym (ap (λ (x : LastScratch). x.count) q) ∙ one)
-
-      pub answer_short : all (λ n. leb n longest) spans ≡ false → KindsAnswer image (described starts spans) s 4
+    module _ (some : length starts ≡ 0 → ⊥) (area : Descriptor) (one : s ≡ One area) where
+      pub answer_short : all (λ n. leb n area.length) spans ≡ false → KindsAnswer image fs s (Err ShortScratch)
       answer_short e = record {
-        is = λ ss q. sym (kinds_short image (described starts spans) ss own (λ z. some (sym (described_length starts spans pairs) ∙ z)) s.area (only ss q)
-            (all_spans (λ n. leb n longest) starts spans pairs ∙ e));
+        is = λ ss q. record {
+          refusal = sym (kinds_short image fs ss own (λ z. some (sym (described_length starts spans pairs) ∙ z)) area (scratch_one ss area (sym q ∙ one))
+              (all_spans (λ n. leb n area.length) starts spans pairs ∙ e));
+          scratch = λ d z. cc;
+        };
       }
 
-      pub answer_pass : all (λ n. leb n longest) spans ≡ true → KindsAnswer image (described starts spans) s 0
+      pub answer_pass : all (λ n. leb n area.length) spans ≡ true → KindsAnswer image fs s (Ok area)
       answer_pass e = record {
-        is = λ ss q. sym (kinds_pass image (described starts spans) ss own (λ z. some (sym (described_length starts spans pairs) ∙ z)) s.area (only ss q)
-            (all_spans (λ n. leb n longest) starts spans pairs ∙ e));
+        is = λ ss q.
+            let o = scratch_one ss area (sym q ∙ one) in
+            record {
+              refusal = sym (kinds_pass image fs ss own (λ z. some (sym (described_length starts spans pairs) ∙ z)) area o
+                  (all_spans (λ n. leb n area.length) starts spans pairs ∙ e));
+              scratch = λ d z. let w : area ≡ d = cc in rw (← w) o;
+            };
       }
 
 -- what checks 2 to 4 give where they pass
@@ -149,10 +166,6 @@ kinds_passed image fs ss e =
 
 -- ---- the answer
 
--- a refused answer's other numbers are 0
-abbrev pub refused_areas : ℕ → CheckedAreas
-refused_areas n = record { number = n; files = 0; scratch = area_of 0 0 }
-
 -- the areas of a volume: rows that begin with its file areas, and its scratch area
 pub record Split (image : Bytes) (ds : List Descriptor) (r : CheckedAreas) (rows : List ℕ) : Type 0 where
   pub files : rows_of r.files rows ≡ file_areas image ds
@@ -160,34 +173,31 @@ pub record Split (image : Bytes) (ds : List Descriptor) (r : CheckedAreas) (rows
   pub scratch : scratch_areas image ds ≡ r.scratch ∷ []
 
 -- the answer of checks 1 to 4
-pub record Checked (image : Bytes) (ds : List Descriptor) (r : CheckedAreas) (rows : List ℕ) : Type 0 where
-  pub refusal : r.number ≡ first_refusal (area_checks image ds)
-  pub split : r.number ≡ 0 → Split image ds r rows
+pub record Checked (image : Bytes) (ds : List Descriptor) (r : Result CheckedAreas Refusal) (rows : List ℕ) : Type 0 where
+  pub refusal : number_of (outcome_of r) ≡ first_refusal (area_checks image ds)
+  pub split : (a : CheckedAreas) → r ≡ Ok a → Split image ds a rows
 
-pub bad_checked : (image : Bytes) (ds : List Descriptor) (r : CheckedAreas) (rows : List ℕ) → bad_description image ds ≡ true → r ≡ refused_areas 1
-    → Checked image ds r rows
+pub bad_checked : (image : Bytes) (ds : List Descriptor) (rows : List ℕ) → bad_description image ds ≡ true → Checked image ds (Err BadAreas) rows
 unfolding area_checks first_refusal
-bad_checked image ds r rows e q = record {
-  refusal = rw (e, q);
-  split = λ z. let one = ap (λ (x : CheckedAreas). x.number) q in absurd (omega arith);
-}
+bad_checked image ds rows e = record { refusal = rw e; split = λ a z. cc }
 
 -- the kinds are checked, after check 1
 module _ (image : Bytes) (ds : List Descriptor) (good : bad_description image ds ≡ false) (k : Kinds) (rows : List ℕ) (s : Sorted image ds k rows)
-    (n : ℕ) (answer : KindsAnswer image (rows_of k.files rows) k.scratch n) where
-  answered : n ≡ first_refusal (area_checks image ds)
+    (r : Result Descriptor Refusal) (answer : KindsAnswer image (rows_of k.files rows) k.scratch r) where
+  checked : KindsChecked image (file_areas image ds) (scratch_areas image ds) r
+  checked = rw s.files at (answer.is (scratch_areas image ds) s.scratch)
+
+  answered : number_of (outcome_of r) ≡ first_refusal (area_checks image ds)
   unfolding area_checks first_refusal
-  answered = rw good (rw s.files at (answer.is (scratch_areas image ds) s.scratch))
+  answered = rw good checked.refusal
 
-  pub checked_refused : (r : CheckedAreas) → (n ≡ 0 → ⊥) → r ≡ refused_areas n → Checked image ds r rows
-  checked_refused r h e =
-      let number : r.number ≡ n = ap (λ (x : CheckedAreas). x.number) e in
-      record { refusal = number ∙ answered; split = λ z. absurd (h (sym number ∙ z)) }
+  pub checked_refused : (e : Refusal) → r ≡ Err e → Checked image ds (Err e) rows
+  checked_refused e q = record { refusal = rw q at answered; split = λ a z. cc }
 
-  pub checked_passes : n ≡ 0 → Checked image ds (record { number = 0; files = k.files; scratch = k.scratch.area }) rows
-  checked_passes h =
-      let p = kinds_passed image _ _ (sym (rw s.files at (answer.is (scratch_areas image ds) s.scratch)) ∙ h) in
-      record {
-        refusal = sym h ∙ answered;
-        split = λ z. record { files = s.files; few = s.few; scratch = scratch_is k.scratch _ s.scratch p.one };
-      }
+  pub checked_passes : (d : Descriptor) → r ≡ Ok d → Checked image ds (Ok (record { files = k.files; scratch = d })) rows
+  checked_passes d q = record {
+    refusal = rw q at answered;
+    split = λ a z.
+        let w : record { files = k.files; scratch = d } ≡ a = cc in
+        rw (← w) (record { files = s.files; few = s.few; scratch = checked.scratch d q });
+  }

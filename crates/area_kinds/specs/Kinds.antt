@@ -26,7 +26,8 @@ use Rattle.area_read.specs.Kinds.{file_test, scratch_test, kind_of, id_of, HasId
 use Rattle.area_read.specs.declared.AreaKind.TheVariants.{File, Scratch, Invalid}
 use Rattle.table_rows.specs.Parts.{part, part_long, part_set_behind}
 use Rattle.area_pass.specs.Rows.{spans_at}
-use Rattle.area_kinds.specs.declared.LastScratch.{LastScratch}
+use Rattle.area_kinds.specs.declared.ScratchFound.{ScratchFound}
+use Rattle.area_kinds.specs.declared.ScratchFound.TheVariants.{Missing, One, Several}
 use Rattle.area_kinds.specs.declared.Kinds.{Kinds}
 
 -- ---- ids
@@ -86,30 +87,35 @@ shared_pairs image fs = shorter_once (map (id_of image) fs) ∙ ap not (pairs_ma
 
 -- ---- scratch areas
 
--- how many there are, and the last of them
-unfoldable pub gathered : LastScratch → List Descriptor → LastScratch
+abbrev pub one_more : ScratchFound → Descriptor → ScratchFound
+one_more Missing d = One d
+one_more (One e) d = Several
+one_more Several d = Several
+
+-- what is found of them, after what was found before
+unfoldable pub gathered : ScratchFound → List Descriptor → ScratchFound
 gathered s [] = s
-gathered s (d ∷ l) = gathered (record { count = s.count + 1; area = d }) l
+gathered s (d ∷ l) = gathered (one_more s d) l
 
-abbrev pub scratch_of : List Descriptor → LastScratch
-scratch_of = gathered (record { count = 0; area = area_of 0 0 })
+abbrev pub scratch_of : List Descriptor → ScratchFound
+scratch_of = gathered Missing
 
-gathered_count : (s : LastScratch) (l : List Descriptor) → (gathered s l).count ≡ s.count + length l
+gathered_several : (l : List Descriptor) → gathered Several l ≡ Several
 unfolding gathered
-gathered_count s [] = omega arith
-gathered_count s (d ∷ l) = gathered_count (record { count = s.count + 1; area = d }) l ∙ omega arith
+gathered_several [] = refl
+gathered_several (d ∷ l) = gathered_several l
 
-pub scratch_count : (l : List Descriptor) → (scratch_of l).count ≡ length l
-scratch_count l = gathered_count _ l ∙ omega arith
-
-scratch_one : (l : List Descriptor) → length l ≡ 1 → l ≡ (scratch_of l).area ∷ []
+pub scratch_one : (l : List Descriptor) (d : Descriptor) → scratch_of l ≡ One d → l ≡ d ∷ []
 unfolding gathered
-scratch_one [] e = absurd (omega arith)
-scratch_one (d ∷ []) e = refl
-scratch_one (d ∷ f ∷ l) e = absurd (omega arith)
+scratch_one [] d e = cc
+scratch_one (f ∷ []) d e = cc
+scratch_one (f ∷ g ∷ l) d e = let h = gathered_several l in cc
 
-pub scratch_is : (s : LastScratch) (l : List Descriptor) → s ≡ scratch_of l → length l ≡ 1 → l ≡ s.area ∷ []
-scratch_is s l e h = scratch_one l h ∙ ap (λ (x : LastScratch). x.area ∷ []) (sym e)
+pub one_scratch : (l : List Descriptor) → length l ≡ 1 → (d : Descriptor) × (scratch_of l ≡ One d)
+unfolding gathered
+one_scratch [] h = absurd (omega arith)
+one_scratch (d ∷ []) h = (d, refl)
+one_scratch (d ∷ f ∷ l) h = absurd (omega arith)
 
 -- ---- the areas, sorted out in one pass
 
@@ -123,22 +129,22 @@ pub record Room (size : ℕ) (pairs rows : List ℕ) : Type 0 where
 abbrev pub rows_of : ℕ → List ℕ → List Descriptor
 rows_of n rows = described (part 0 n rows) (part spans_at n rows)
 
--- what is found: so many file areas, which stand in the rows, and of the scratch areas how many there are and the last of them
+-- what is found: so many file areas, which stand in the rows, and the scratch areas
 pub record Sorted (image : Bytes) (ds : List Descriptor) (r : Kinds) (rows : List ℕ) : Type 0 where
   pub files : rows_of r.files rows ≡ file_areas image ds
   pub few : r.files ≤ most_areas
   pub scratch : r.scratch ≡ scratch_of (scratch_areas image ds)
 
 -- the areas before i are sorted out
-pub record Sorting (image : Bytes) (pairs rows₀ rows : List ℕ) (files count : ℕ) (area : Descriptor) (i : ℕ) : Type 0 where
+pub record Sorting (image : Bytes) (pairs rows₀ rows : List ℕ) (files : ℕ) (found : ScratchFound) (i : ℕ) : Type 0 where
   pub within : i * 2 ≤ length pairs
-  pub few : files + count ≤ i
+  pub few : files ≤ i
   pub long : length rows ≡ length rows₀
   pub files_are : rows_of files rows ++ file_areas image (paired (drop (i * 2) pairs)) ≡ file_areas image (paired pairs)
-  pub scratch_is : gathered (record { count = count; area = area }) (scratch_areas image (paired (drop (i * 2) pairs)))
+  pub scratch_is : gathered found (scratch_areas image (paired (drop (i * 2) pairs)))
       ≡ scratch_of (scratch_areas image (paired pairs))
 
-pub sorting_begins : (image : Bytes) (pairs rows : List ℕ) → Sorting image pairs rows rows 0 0 (area_of 0 0) 0
+pub sorting_begins : (image : Bytes) (pairs rows : List ℕ) → Sorting image pairs rows rows 0 Missing 0
 unfolding described
 sorting_begins image pairs rows = record { within = omega arith; few = omega arith; long = refl; files_are = refl; scratch_is = refl }
 
@@ -151,8 +157,8 @@ rows_more n o l rows h long =
     (ap (take (n + 1)) (drop-set-add spans_at (set rows n o) n l ∙ ap (λ (x : List ℕ). set x n l) (drop-set-lt spans_at rows n o h)))
     ∙ described_more rows (drop spans_at rows) n o l (omega arith) (omega (arith, length-drop spans_at rows))
 
-module _ (image : Bytes) (pairs rows₀ rows : List ℕ) (files count : ℕ) (a : Descriptor) (i : ℕ)
-    (s : Sorting image pairs rows₀ rows files count a i) (room : Room (length image) pairs rows₀) where
+module _ (image : Bytes) (pairs rows₀ rows : List ℕ) (files : ℕ) (found : ScratchFound) (i : ℕ)
+    (s : Sorting image pairs rows₀ rows files found i) (room : Room (length image) pairs rows₀) where
   module _ (h : i * 2 + 1 < length pairs) where
     abbrev area : Descriptor
     area = area_of (get_or pairs (i * 2) 0) (get_or pairs (i * 2 + 1) 0)
@@ -161,7 +167,7 @@ module _ (image : Bytes) (pairs rows₀ rows : List ℕ) (files count : ℕ) (a 
     area_good = pair_holds (good_area (length image)) pairs i room.good h
 
     pub sorting_file : kind_of image area ≡ File
-        → Sorting image pairs rows₀ (set (set rows files (get_or pairs (i * 2) 0)) (spans_at + files) (get_or pairs (i * 2 + 1) 0)) (files + 1) count a (i + 1)
+        → Sorting image pairs rows₀ (set (set rows files (get_or pairs (i * 2) 0)) (spans_at + files) (get_or pairs (i * 2 + 1) 0)) (files + 1) found (i + 1)
     unfolding file_areas scratch_areas
     sorting_file e = let t = kind_tests image area File e in record {
       within = omega arith;
@@ -170,36 +176,36 @@ module _ (image : Bytes) (pairs rows₀ rows : List ℕ) (files count : ℕ) (a 
       files_are = rw (rows_more files (get_or pairs (i * 2) 0) (get_or pairs (i * 2 + 1) 0) rows (omega (arith, s.few, room.few)) (omega (arith, s.long, room.long)))
           (append_assoc (rows_of files rows) (area ∷ []) _
           ∙ ap (λ (x : List Descriptor). rows_of files rows ++ x) (sym (keep_takes (pair_step pairs i h) (file_test image) t.0)) ∙ s.files_are);
-      scratch_is = sym (ap (gathered (record { count = count; area = a })) (keep_leaves (pair_step pairs i h) (scratch_test image) t.1)) ∙ s.scratch_is;
+      scratch_is = sym (ap (gathered found) (keep_leaves (pair_step pairs i h) (scratch_test image) t.1)) ∙ s.scratch_is;
     }
 
-    pub sorting_scratch : kind_of image area ≡ Scratch → Sorting image pairs rows₀ rows files (count + 1) area (i + 1)
+    pub sorting_scratch : kind_of image area ≡ Scratch → Sorting image pairs rows₀ rows files (one_more found area) (i + 1)
     unfolding file_areas scratch_areas gathered
     sorting_scratch e = let t = kind_tests image area Scratch e in record {
       within = omega arith;
       few = omega (arith, s.few);
       long = s.long;
       files_are = ap (λ (x : List Descriptor). rows_of files rows ++ x) (sym (keep_leaves (pair_step pairs i h) (file_test image) t.0)) ∙ s.files_are;
-      scratch_is = sym (ap (gathered (record { count = count; area = a })) (keep_takes (pair_step pairs i h) (scratch_test image) t.1)) ∙ s.scratch_is;
+      scratch_is = sym (ap (gathered found) (keep_takes (pair_step pairs i h) (scratch_test image) t.1)) ∙ s.scratch_is;
     }
 
-    pub sorting_passes : kind_of image area ≡ Invalid → Sorting image pairs rows₀ rows files count a (i + 1)
+    pub sorting_passes : kind_of image area ≡ Invalid → Sorting image pairs rows₀ rows files found (i + 1)
     unfolding file_areas scratch_areas
     sorting_passes e = let t = kind_tests image area Invalid e in record {
       within = omega arith;
       few = omega (arith, s.few);
       long = s.long;
       files_are = ap (λ (x : List Descriptor). rows_of files rows ++ x) (sym (keep_leaves (pair_step pairs i h) (file_test image) t.0)) ∙ s.files_are;
-      scratch_is = sym (ap (gathered (record { count = count; area = a })) (keep_leaves (pair_step pairs i h) (scratch_test image) t.1)) ∙ s.scratch_is;
+      scratch_is = sym (ap (gathered found) (keep_leaves (pair_step pairs i h) (scratch_test image) t.1)) ∙ s.scratch_is;
     }
 
-  pub sorting_ends : length pairs ≤ i * 2 + 1 → Sorted image (paired pairs) (record { files = files; scratch = record { count = count; area = a } }) rows
+  pub sorting_ends : length pairs ≤ i * 2 + 1 → Sorted image (paired pairs) (record { files = files; scratch = found }) rows
   unfolding file_areas scratch_areas gathered
   sorting_ends h = record {
     files = sym (append-nil _)
         ∙ ap (λ (x : List Descriptor). rows_of files rows ++ x) (sym (keep_ends (paired_end pairs (i * 2) h) (file_test image))) ∙ s.files_are;
     few = omega (arith, s.few, s.within, room.few);
-    scratch = sym (ap (gathered (record { count = count; area = a })) (keep_ends (paired_end pairs (i * 2) h) (scratch_test image))) ∙ s.scratch_is;
+    scratch = sym (ap (gathered found) (keep_ends (paired_end pairs (i * 2) h) (scratch_test image))) ∙ s.scratch_is;
   }
 
 -- the file areas are good too

@@ -1,5 +1,5 @@
 -- Where the areas of a volume lie, for callers of `check_areas`: inside the image, apart, together no longer than it.
-use Rattle.std.specs.Prelude.{ℕ, ◌+◌, ◌≤◌, ◌<◌, ◌≡◌, ◌≢◌, true, not, length, get_or}
+use Rattle.std.specs.Prelude.{ℕ, ◌+◌, ◌≤◌, ◌<◌, ◌≡◌, ◌≢◌, true, not, length, get_or, Ok}
 use Rattle.std.proofs.Common.{sym, ◌∙◌, arith}
 use Rattle.std.proofs.Math.Bool.{Bool}
 use mathlib.Core.List.{List, Memᴰ}
@@ -81,8 +81,8 @@ module _ (image : Bytes) (ds : List Descriptor) (p : AreasPass image ds) where
       leb→le d.length s.length (all_mem _ (file_areas image ds) (all_mem _ (scratch_areas image ds) t n) m)
 
 -- where `check_areas` does not refuse
-pub checked_pass : (image : Bytes) (ds : List Descriptor) (r : CheckedAreas) (rows : List ℕ) → Checked image ds r rows → r.number ≡ 0 → AreasPass image ds
-checked_pass image ds r rows c e = areas_pass image ds (sym c.refusal ∙ e)
+pub checked_pass : (image : Bytes) (ds : List Descriptor) (a : CheckedAreas) (rows : List ℕ) → Checked image ds (Ok a) rows → AreasPass image ds
+checked_pass image ds a rows c = areas_pass image ds (sym c.refusal)
 
 -- ---- the file areas by the rows that `check_areas` stored them in
 

@@ -9,32 +9,44 @@ ghost use Rattle.calls.specs.Mount.{shared_area_id};
 ghost use Rattle.area_list.specs.Described.{described};
 ghost use Rattle.area_list.specs.Good.{Good};
 ghost use Rattle.area_pass.specs.Rows.{spans_at};
-ghost use Rattle.area_kinds.specs.Checks.{KindsAnswer, Checked, refused_areas};
-ghost use Rattle.area_kinds.specs.Kinds.{Room, Sorted, other_id};
+ghost use Rattle.area_kinds.specs.Checks.{KindsAnswer, Checked};
+ghost use Rattle.area_kinds.specs.Kinds.{Room, Sorted, one_more, other_id};
 
 use area_list::count_good_areas;
 use area_pass::SPANS;
 use area_read::{AreaKind, area_id, area_kind};
-use calls::{BAD_AREAS, Descriptor, NO_FILE_OR_SCRATCH, SAME_AREA_ID, SHORT_SCRATCH};
+use calls::{Descriptor, Refusal};
 
-// The scratch areas found: how many, and the last of them.
+// The scratch areas found: a volume has one.
 #[derive(Clone, Copy)]
-pub struct LastScratch {
-    pub count: usize,
-    pub area: Descriptor,
+pub enum ScratchFound {
+    Missing,
+    One(Descriptor),
+    Several,
+}
+
+impl ScratchFound {
+    // With one scratch area more.
+    fn with(self, area: Descriptor) -> ScratchFound
+        ensures { result ≡ one_more self area }
+    {
+        match self {
+            ScratchFound::Missing => ScratchFound::One(area),
+            _ => ScratchFound::Several,
+        }
+    }
 }
 
 // The areas by their kinds: the number of file areas, and the scratch areas.
 #[derive(Clone, Copy)]
 pub struct Kinds {
     pub files: usize,
-    pub scratch: LastScratch,
+    pub scratch: ScratchFound,
 }
 
-// The answer of checks 1 to 4: the number of refusal, or 0 with the number of file areas and the scratch area.
+// What checks 1 to 4 pass: the number of file areas and the scratch area.
 #[derive(Clone, Copy)]
 pub struct CheckedAreas {
-    pub number: u32,
     pub files: usize,
     pub scratch: Descriptor,
 }
@@ -45,32 +57,20 @@ fn sort_areas(image: &[u8], pairs: &[u32], rows: &mut [u32]) -> Kinds
     ensures { Sorted image.now (paired pairs.now) result rows.new }
 {
     let mut files = 0;
-    let mut count = 0;
-    let mut area = Descriptor {
-        offset: 0,
-        length: 0,
-    };
-    let mut i = 0;
-    while i < pairs.len() / 2 {
+    let mut scratch = ScratchFound::Missing;
+    for i in 0..pairs.len() / 2 {
         let offset = pairs[i * 2];
         let length = pairs[i * 2 + 1];
-        let kind = area_kind(image, offset, length);
-        match kind {
+        match area_kind(image, offset, length) {
             AreaKind::File => {
                 rows[files] = offset;
                 rows[SPANS + files] = length;
                 files += 1;
-                i += 1;
             }
-            AreaKind::Scratch => {
-                count += 1;
-                area = Descriptor { offset, length };
-                i += 1;
-            }
-            AreaKind::Invalid => i += 1,
+            AreaKind::Scratch => scratch = scratch.with(Descriptor { offset, length }),
+            AreaKind::Invalid => {}
         }
     }
-    let scratch = LastScratch { count, area };
     Kinds { files, scratch }
 }
 
@@ -79,12 +79,10 @@ fn no_id(image: &[u8], id: u8, starts: &[u32], spans: &[u32]) -> bool
     requires { Good (length image.now) starts.now spans.now }
     ensures { result ≡ all (other_id image.now id) (described starts.now spans.now) }
 {
-    let mut i = 0;
-    while i < starts.len() {
-        if area_id(image, starts[i]) == id {
+    for start in starts {
+        if area_id(image, *start) == id {
             return false;
         }
-        i += 1;
     }
     true
 }
@@ -94,18 +92,11 @@ fn shared_id(image: &[u8], starts: &[u32], spans: &[u32]) -> bool
     requires { Good (length image.now) starts.now spans.now }
     ensures { result ≡ shared_area_id image.now (described starts.now spans.now) }
 {
-    let mut i = 0;
-    while i < starts.len() {
-        let next = i + 1;
-        if no_id(
-            image,
-            area_id(image, starts[i]),
-            &starts[next..],
-            &spans[next..],
-        ) {} else {
+    for (i, start) in starts.iter().enumerate() {
+        let id = area_id(image, *start);
+        if !no_id(image, id, &starts[i + 1..], &spans[i + 1..]) {
             return true;
         }
-        i = next;
     }
     false
 }
@@ -114,73 +105,45 @@ fn shared_id(image: &[u8], starts: &[u32], spans: &[u32]) -> bool
 fn none_longer(spans: &[u32], most: u32) -> bool
     ensures { result ≡ all (λ n. leb n most) spans.now }
 {
-    let mut i = 0;
-    while i < spans.len() {
-        if spans[i] > most {
-            return false;
-        }
-        i += 1;
-    }
-    true
+    spans.iter().all(|span| *span <= most)
 }
 
-// The first of refusals 2 to 4, or 0, by the file areas and what was found of the scratch areas.
-fn kinds_refusal(image: &[u8], starts: &[u32], spans: &[u32], scratch: LastScratch) -> u32
+// The one scratch area, or the first of refusals 2 to 4, by the file areas and the scratch areas found.
+fn check_kinds(
+    image: &[u8],
+    starts: &[u32],
+    spans: &[u32],
+    scratch: ScratchFound,
+) -> Result<Descriptor, Refusal>
     requires { Good (length image.now) starts.now spans.now }
     ensures { KindsAnswer image.now (described starts.now spans.now) scratch result }
 {
     if shared_id(image, starts, spans) {
-        return SAME_AREA_ID;
+        return Err(Refusal::SameAreaId);
     }
-    if starts.len() == 0 {
-        return NO_FILE_OR_SCRATCH;
+    if starts.is_empty() {
+        return Err(Refusal::NoFileOrScratch);
     }
-    if scratch.count != 1 {
-        return NO_FILE_OR_SCRATCH;
+    let ScratchFound::One(area) = scratch else {
+        return Err(Refusal::NoFileOrScratch);
+    };
+    if !none_longer(spans, area.length) {
+        return Err(Refusal::ShortScratch);
     }
-    let area = scratch.area;
-    if none_longer(spans, area.length) {} else {
-        return SHORT_SCRATCH;
-    }
-    0
-}
-
-// A refused answer.
-fn refused(number: u32) -> CheckedAreas
-    ensures { result ≡ refused_areas number }
-{
-    CheckedAreas {
-        number,
-        files: 0,
-        scratch: Descriptor {
-            offset: 0,
-            length: 0,
-        },
-    }
+    Ok(area)
 }
 
 // Checks 1 to 4 of an image and a list of areas. Where none refuses, the file areas stand in the first two columns of `rows`.
-pub fn check_areas(image: &[u8], areas: &[u32], rows: &mut [u32]) -> CheckedAreas
+pub fn check_areas(image: &[u8], areas: &[u32], rows: &mut [u32]) -> Result<CheckedAreas, Refusal>
     requires { spans_at + most_areas ≤ length rows.old }
     ensures { Checked image.now (area_list areas.now) result rows.new }
 {
     let n = count_good_areas(image, areas);
     if n == 0 {
-        return refused(BAD_AREAS);
+        return Err(Refusal::BadAreas);
     }
-    let pairs_end = n * 2;
-    let kinds = sort_areas(image, &areas[0..pairs_end], &mut *rows);
-    let files = kinds.files;
-    let scratch = kinds.scratch;
+    let Kinds { files, scratch } = sort_areas(image, &areas[..n * 2], rows);
     let end = SPANS + files;
-    let number = kinds_refusal(image, &rows[0..files], &rows[SPANS..end], scratch);
-    if number != 0 {
-        return refused(number);
-    }
-    let area = scratch.area;
-    CheckedAreas {
-        number: 0,
-        files,
-        scratch: area,
-    }
+    let scratch = check_kinds(image, &rows[0..files], &rows[SPANS..end], scratch)?;
+    Ok(CheckedAreas { files, scratch })
 }

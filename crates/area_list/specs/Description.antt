@@ -3,6 +3,7 @@ use Rattle.std.specs.Prelude.{ℕ, ◌*◌, ◌≤◌, ◌<◌, ◌≡◌, refl,
 use Rattle.std.proofs.Common.{ap, ◌∙◌, arith, lt-ltb, le-ltb, le-leb, leb-true, ltb-false}
 use Rattle.std.proofs.Math.Bool.{and_assoc, or-true}
 use Rattle.std.proofs.Math.Dec.{leb}
+use Rattle.std.proofs.Math.Decide.{ℕ_discrete}
 use Rattle.std.proofs.lemmas.Bool.{lt-leb}
 use Rattle.format.specs.Bytes.{Bytes}
 use Rattle.volume.specs.Lists.{all}
@@ -86,19 +87,23 @@ module _ (image : Bytes) (areas : List ℕ) (n : ℕ) (k : Counted areas n) wher
   pub list_long : most_areas < n → GoodList image areas 0
   list_long h = not_good image areas (bad_many image _ (omega (arith, counted_length areas n k)))
 
-  pub list_bad : (n ≡ 0 → ⊥) → n ≤ most_areas → (all (good_area (length image)) entries && all_disjoint entries) ≡ false → GoodList image areas 0
-  list_bad h g b =
-      let e = counted_length areas n k in
-      not_good image areas (bad_areas image _ (rw k.is at b) (omega arith) (omega arith))
+  pub list_bad : n ≤ most_areas → (all (good_area (length image)) entries && all_disjoint entries) ≡ false → GoodList image areas 0
+  list_bad g b = go (ℕ_discrete n 0)
+    where
+      go : Dec (n ≡ 0) → GoodList image areas 0
+      go (yes z) = list_empty z
+      go (no h) =
+          let e = counted_length areas n k in
+          not_good image areas (bad_areas image _ (rw k.is at b) (omega arith) (omega arith))
 
-  pub list_good : (n ≡ 0 → ⊥) → n ≤ most_areas → (all (good_area (length image)) entries && all_disjoint entries) ≡ true → length image ≤ largest_image
-      → GoodList image areas n
-  list_good h g b s =
+  -- an empty list is not good: there its number is the 0 of a bad one
+  pub list_good : n ≤ most_areas → (all (good_area (length image)) entries && all_disjoint entries) ≡ true → length image ≤ largest_image → GoodList image areas n
+  list_good g b s =
       let e = counted_length areas n k in
       record {
         few = g;
         within = k.within;
-        refused = λ z. absurd (h z);
+        refused = λ z. bad_empty image _ (omega arith);
         passed = λ z. good_description image _ (rw k.is at b) s (omega arith) (omega arith);
         is = λ z. k.is;
       }

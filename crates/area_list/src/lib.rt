@@ -16,14 +16,12 @@ use calls::{LARGEST_IMAGE, MOST_AREAS, SHORTEST_AREA};
 fn count_areas(areas: &[u32]) -> usize
     ensures { Counted areas.now result }
 {
-    let mut n = 0;
-    while n < areas.len() / 2 {
+    for n in 0..areas.len() / 2 {
         if areas[n * 2 + 1] == 0 {
             return n;
         }
-        n += 1;
     }
-    n
+    areas.len() / 2
 }
 
 // Where an area ends; the sum can need more than 32 bits.
@@ -34,53 +32,42 @@ pub fn area_end(offset: u32, span: u32) -> usize
 }
 
 // Whether an area has an allowed length and lies inside an image of `size` bytes.
+#[tactic(auto, unfolding(calls::specs::Areas::good_area))]
 fn good_area(size: usize, offset: u32, span: u32) -> bool
     ensures { result ≡ good_area size (area_of offset span) }
 {
     let long = span as usize;
-    if long < SHORTEST_AREA {
-        return false;
-    }
-    if long > LARGEST_IMAGE {
-        return false;
-    }
-    area_end(offset, span) <= size
+    SHORTEST_AREA <= long && long <= LARGEST_IMAGE && area_end(offset, span) <= size
 }
 
 // Whether every area of some pairs is good.
 fn all_good(size: usize, pairs: &[u32]) -> bool
     ensures { result ≡ all (good_area size) (paired pairs.now) }
 {
-    let mut i = 0;
-    while i < pairs.len() / 2 {
-        if good_area(size, pairs[i * 2], pairs[i * 2 + 1]) {} else {
+    for i in 0..pairs.len() / 2 {
+        if !good_area(size, pairs[i * 2], pairs[i * 2 + 1]) {
             return false;
         }
-        i += 1;
     }
     true
 }
 
 // Whether two areas have no byte in common.
+#[tactic(auto, unfolding(calls::specs::Areas::disjoint))]
 pub fn disjoint(offset: u32, span: u32, other: u32, extent: u32) -> bool
     ensures { result ≡ disjoint (area_of offset span) (area_of other extent) }
 {
-    if area_end(offset, span) <= other as usize {
-        return true;
-    }
-    area_end(other, extent) <= offset as usize
+    area_end(offset, span) <= other as usize || area_end(other, extent) <= offset as usize
 }
 
 // Whether an area has no byte in common with any of some pairs.
 fn disjoint_from(offset: u32, span: u32, pairs: &[u32]) -> bool
     ensures { result ≡ all (disjoint (area_of offset span)) (paired pairs.now) }
 {
-    let mut i = 0;
-    while i < pairs.len() / 2 {
-        if disjoint(offset, span, pairs[i * 2], pairs[i * 2 + 1]) {} else {
+    for i in 0..pairs.len() / 2 {
+        if !disjoint(offset, span, pairs[i * 2], pairs[i * 2 + 1]) {
             return false;
         }
-        i += 1;
     }
     true
 }
@@ -89,13 +76,11 @@ fn disjoint_from(offset: u32, span: u32, pairs: &[u32]) -> bool
 fn all_disjoint(pairs: &[u32]) -> bool
     ensures { result ≡ all_disjoint (paired pairs.now) }
 {
-    let mut i = 0;
-    while i < pairs.len() / 2 {
+    for i in 0..pairs.len() / 2 {
         let later = (i + 1) * 2;
-        if disjoint_from(pairs[i * 2], pairs[i * 2 + 1], &pairs[later..]) {} else {
+        if !disjoint_from(pairs[i * 2], pairs[i * 2 + 1], &pairs[later..]) {
             return false;
         }
-        i += 1;
     }
     true
 }
@@ -104,10 +89,7 @@ fn all_disjoint(pairs: &[u32]) -> bool
 fn good_areas(size: usize, pairs: &[u32]) -> bool
     ensures { result ≡ (all (good_area size) (paired pairs.now) && all_disjoint (paired pairs.now)) }
 {
-    if all_good(size, pairs) {} else {
-        return false;
-    }
-    all_disjoint(pairs)
+    all_good(size, pairs) && all_disjoint(pairs)
 }
 
 // Check 1: the number of areas of a good list, which are its first pairs, or 0 for a bad one.
@@ -118,14 +100,10 @@ pub fn count_good_areas(image: &[u8], areas: &[u32]) -> usize
         return 0;
     }
     let n = count_areas(areas);
-    if n == 0 {
-        return 0;
-    }
     if n > MOST_AREAS {
         return 0;
     }
-    let end = n * 2;
-    if good_areas(image.len(), &areas[0..end]) {} else {
+    if !good_areas(image.len(), &areas[..n * 2]) {
         return 0;
     }
     n

@@ -1,5 +1,5 @@
 -- Laws of the places of records, which the loops use.
-use Rattle.std.specs.Prelude.{ℕ, ◌+◌, ◌*◌, ◌≤◌, ◌<◌, ◌≡◌, refl, ◌≢◌, List, ◌++◌, length, take, set}
+use Rattle.std.specs.Prelude.{ℕ, ◌+◌, ◌*◌, ◌≤◌, ◌<◌, ◌≡◌, refl, List, [], ◌++◌, length, take, set}
 use Rattle.std.proofs.Math.Path.{sym}
 use Rattle.std.proofs.Common.{◌∙◌, append-nil, arith, add-one}
 use Rattle.std.proofs.Math.ListN.{length-set}
@@ -28,26 +28,25 @@ going_begins area base ps n r = record {
   is = rw (records_from_lem record_size area);
 }
 
-module _ (area : Bytes) (base : ℕ) (ps₀ : List ℕ) (n : ℕ) (ps : List ℕ) (k at : ℕ) (room : Room area base ps₀ n)
-    (g : Going area base ps₀ n ps k at) (f : Next) (x : Nexts area at f) where
-  pub going_ends : f.size ≡ 0 → Listed area base ps₀ n k ps
+module _ (area : Bytes) (base : ℕ) (ps₀ : List ℕ) (n : ℕ) (ps : List ℕ) (k at : ℕ) (g : Going area base ps₀ n ps k at) where
+  pub going_ends : records_from record_size area at ≡ [] → Listed area base ps₀ n k ps
   unfolding record_places
-  going_ends z = record {
-    is = sym (rw (x.none z) (append-nil (take k ps))) ∙ g.is;
+  going_ends e = record {
+    is = sym (rw e (append-nil (take k ps))) ∙ g.is;
     few = omega (arith, g.few, g.within);
   }
 
-  module _ (z : f.size ≢ 0) where
+  module _ (room : Room area base ps₀ n) (f : Next) (x : Nexts area at f) where
     pub has_room : k < length ps
-    has_room = omega (arith, g.few, g.long, x.after, x.room, x.least z, room.room)
+    has_room = omega (arith, g.few, g.long, x.after, x.room, x.least, room.room)
 
     pub going_on : Going area base ps₀ n (set ps k (base + f.at)) (k + 1) (f.at + f.size)
     unfolding record_places
     going_on = record {
       within = x.room;
       long = length-set ps k (base + f.at) ∙ g.long;
-      few = omega (arith, g.few, x.after, x.least z);
+      few = omega (arith, g.few, x.after, x.least);
       is =
           rw (add-one, take-suc-set ps k (base + f.at) has_room)
-          (append_snoc (take k ps) (base + f.at) (record_places base (records_from record_size area (f.at + f.size))) ∙ sym (rw (x.some z)) ∙ g.is);
+          (append_snoc (take k ps) (base + f.at) (record_places base (records_from record_size area (f.at + f.size))) ∙ sym (rw x.some) ∙ g.is);
     }

@@ -1,5 +1,5 @@
 -- What the reading of an area comes to, and the laws of the loop that reads. Document 01, "How an area is read", and T-08.
-use Rattle.std.specs.Prelude.{ℕ, zero, suc, ◌+◌, ◌-◌, ◌≤◌, ◌≡◌, refl, ◌≢◌, Bool, true, false, cond, take, drop, eqb}
+use Rattle.std.specs.Prelude.{ℕ, zero, suc, ◌+◌, ◌-◌, ◌≤◌, ◌≡◌, refl, Bool, true, false, cond, take, drop, eqb, Some, None}
 use Rattle.std.proofs.Math.Path.{sym, ap}
 use Rattle.std.proofs.Common.{◌∙◌, arith, length-append, drop-drop, length-take-le}
 use mathlib.Core.List.{List, [], ◌∷◌, ◌++◌, append-nil, append_assoc}
@@ -11,7 +11,7 @@ use Rattle.format.specs.Reading.{parts, Stretch, erased_end, free_size, damaged_
 use Rattle.format_laws.specs.Reading.{damaged_taken, damaged_last, free_taken, free_last, total_append}
 use Rattle.calls.specs.Areas.{largest_image}
 use Rattle.area_read.specs.Area.{next_record}
-use Rattle.area_read.specs.Laws.{Searched, searched}
+use Rattle.area_read.specs.Laws.{Found, found, not_found}
 use Rattle.area_read.specs.declared.Next.{Next}
 use Rattle.area_damage.specs.Damage.{damage_of, Fewer, kept}
 use Rattle.area_damage.specs.declared.Damage.{Damage}
@@ -94,18 +94,18 @@ fewer area k at d g s p size h = record {
 }
 
 -- the next record f, sought from a place
-module _ (area : Bytes) (k at : ℕ) (d : Damage) (g : Read area k at d) (f : Next) (e : f ≡ next_record area at) where
-  seen : Searched (drop at area) at f
-  unfolding next_record
-  seen = rw e (searched (drop at area) at)
+module _ (area : Bytes) (k at : ℕ) (d : Damage) (g : Read area k at d) where
+  module _ (f : Next) (e : Some f ≡ next_record area at) where
+    seen : Found (drop at area) at f
+    unfolding next_record
+    seen = found (drop at area) at f e
 
-  pub next_after : at ≤ f.at
-  next_after = omega (arith, seen.at_gap)
+    next_after : at ≤ f.at
+    next_after = omega (arith, seen.at_gap)
 
-  pub next_within : f.at + f.size ≤ length area
-  next_within = omega (arith, seen.at_gap, seen.within, length-drop at area, g.within)
+    next_within : f.at + f.size ≤ length area
+    next_within = omega (arith, seen.at_gap, seen.within, length-drop at area, g.within)
 
-  module _ (z : f.size ≢ 0) where
     gap_long : length (take seen.gap (drop at area)) ≡ seen.gap
     gap_long = length-take-le seen.gap (drop at area) (omega (arith, seen.within))
 
@@ -123,7 +123,7 @@ module _ (area : Bytes) (k at : ℕ) (d : Damage) (g : Read area k at d) (f : Ne
         let a : seen.gap ≡ f.at - at = omega (arith, seen.at_gap) in
         let b : at + length (take seen.gap (drop at area)) + length (take f.size (drop seen.gap (drop at area))) ≡ f.at + f.size =
         omega (arith, gap_long, size_long, seen.at_gap) in
-        ap (damaged at) (seen.some z)
+        ap (damaged at) seen.some
         ∙ damaged_taken at (take seen.gap (drop at area)) (take f.size (drop seen.gap (drop at area))) _
         ∙ rw (b, gap_long, onward, a)
 
@@ -135,14 +135,14 @@ module _ (area : Bytes) (k at : ℕ) (d : Damage) (g : Read area k at d) (f : Ne
       is = h g.so_far g.is;
       before = before_more at (f.at + f.size) g.so_far (f.at - at) (omega (arith, next_after)) g.before;
       left = append_assoc g.so_far (damaged_bytes at (f.at - at)) _ ∙ ap (λ (l : List Stretch). g.so_far ++ l) (sym split) ∙ g.left;
-      free_left = sym (ap free_size (seen.some z) ∙ free_taken (take seen.gap (drop at area)) _ _ ∙ rw onward) ∙ g.free_left;
+      free_left = sym (ap free_size seen.some ∙ free_taken (take seen.gap (drop at area)) _ _ ∙ rw onward) ∙ g.free_left;
     }
 
-  pub read_ends : f.size ≡ 0 → (free : ℕ) → at ≤ free → free ≤ length area → erased_end (drop at area) ≡ length area - free → (d' : Damage)
+  pub read_ends : None ≡ next_record area at → (free : ℕ) → at ≤ free → free ≤ length area → erased_end (drop at area) ≡ length area - free → (d' : Damage)
       → ((l : List Stretch) → d ≡ damage_of k l → d' ≡ damage_of k (l ++ damaged_bytes at (free - at))) → Reads area k d' free
-  unfolding area_free damage_of
-  read_ends z free behind inside q d' h =
-      let p = (seen.none z).1 in
+  unfolding area_free damage_of next_record
+  read_ends e free behind inside q d' h =
+      let p = not_found (drop at area) at e in
       let y : length (drop at area) - erased_end (drop at area) ≡ free - at = omega (arith, length-drop at area, q) in
       let m : damaged at (parts record_size (drop at area) 0) ≡ damaged_bytes at (free - at) = ap (damaged at) p ∙ damaged_last at (drop at area) ∙ rw y in
       let b = before_more at (length area) g.so_far (free - at) (omega arith) g.before in

@@ -2,7 +2,6 @@
 #![tactic(auto)]
 
 ghost use Rattle.std.specs.Prelude.{◌≡◌, ◌≤◌, length, take};
-ghost use Rattle.crc_laws.specs.Table.{Tables};
 ghost use Rattle.calls.specs.Report.{damage_in};
 ghost use Rattle.area_damage.specs.Damage.{damage_of};
 ghost use Rattle.area_list.specs.Described.{described};
@@ -11,9 +10,10 @@ ghost use Rattle.area_pass.specs.Listing.{places_in, Room, Listed};
 ghost use Rattle.area_pass.specs.Reading.{Reads};
 ghost use Rattle.area_pass.specs.Rows.{spans_at, Lent, Readings};
 
-use area_damage::{Damage, joined, no_damage, with_stretch};
-use area_erased::{erased_end, later};
+use area_damage::Damage;
+use area_erased::erased_end;
 use area_read::{HEADER_SIZE, next_record};
+use byte_crc16::CheckTables;
 use calls::MOST_AREAS;
 
 // The rows of the file areas in columns: starts first, then spans, stretches of damage, and where free space starts.
@@ -43,72 +43,62 @@ pub struct Listing {
 // Puts the places of the records of an area that starts at `base` behind the first `n` of `places`; of its damage, number `stretch` is kept, from 0.
 // The tables of the check are lent, as they are to `list_areas`.
 pub fn list_area(
-    high: &[u16],
-    low: &[u16],
+    tables: &CheckTables,
     area: &[u8],
     base: usize,
     places: &mut [u16],
     n: usize,
     stretch: u32,
 ) -> Pass
-    requires tables { Tables high.now low.now }
-    requires room { Room area.now base places.old n }
+    requires { Room area.now base places.old n }
     ensures listed { Listed area.now base places.old n result.count places.new }
     ensures read { Reads area.now stretch result.damage result.free }
 {
     let written = area.len() - erased_end(&area[HEADER_SIZE..]);
-    let mut k = n;
+    let mut count = n;
     let mut at = HEADER_SIZE;
-    let mut damage = no_damage();
-    loop {
-        let next = next_record(high, low, area, at, written);
-        let start = next.at;
-        if next.size == 0 {
-            let free = later(at, written);
-            return Pass {
-                count: k,
-                damage: with_stretch(damage, stretch, at, free - at),
-                free,
-            };
-        }
-        damage = with_stretch(damage, stretch, at, start - at);
-        places[k] = (base + start) as u16;
-        k += 1;
-        at = start + next.size;
+    let mut damage = Damage::default();
+    while let Some(next) = next_record(tables, area, at, written) {
+        damage = damage.with_stretch(stretch, at, next.at - at);
+        places[count] = (base + next.at) as u16;
+        count += 1;
+        at = next.at + next.size;
+    }
+    let free = at.max(written);
+    damage = damage.with_stretch(stretch, at, free - at);
+    Pass {
+        count,
+        damage,
+        free,
     }
 }
 
 // Puts the places of the records of all the file areas into `places`, and what the writers ask of their readings into their rows; answers how
 // many places there are, and the damage.
 pub fn list_areas(
-    high: &[u16],
-    low: &[u16],
+    tables: &CheckTables,
     image: &[u8],
     rows: &mut [u32],
     files: usize,
     places: &mut [u16],
 ) -> Listing
-    requires tables { Tables high.now low.now }
-    requires lent { Lent image.now rows.old files places.old }
+    requires { Lent image.now rows.old files places.old }
     ensures listed { take result.count places.new ≡ places_in image.now (described (part 0 files rows.old) (part spans_at files rows.old)) }
     ensures within { result.count ≤ length places.new }
     ensures read { Readings image.now files rows.old rows.new }
     ensures damage { result.damage ≡ damage_of 0 (damage_in image.now (described (part 0 files rows.old) (part spans_at files rows.old))) }
 {
-    let mut k = 0;
-    let mut damage = no_damage();
-    let mut i = 0;
-    while i < files {
+    let mut count = 0;
+    let mut damage = Damage::default();
+    for i in 0..files {
         let offset = rows[i];
         let start = offset as usize;
         let end = start + rows[SPANS + i] as usize;
-        let pass = list_area(high, low, &image[start..end], start, &mut *places, k, 0);
-        let of_area = pass.damage;
-        k = pass.count;
-        damage = joined(damage, offset, of_area);
-        rows[STRETCHES + i] = of_area.stretches;
+        let pass = list_area(tables, &image[start..end], start, &mut *places, count, 0);
+        count = pass.count;
+        damage = damage.joined(offset, pass.damage);
+        rows[STRETCHES + i] = pass.damage.stretches;
         rows[FREE + i] = pass.free as u32;
-        i += 1;
     }
-    Listing { count: k, damage }
+    Listing { count, damage }
 }

@@ -1,16 +1,16 @@
 -- The next record of an area.
-use Rattle.std.specs.Prelude.{ℕ, zero, suc, ◌≤◌, ◌<◌, ◌≡◌, [], ◌∷◌, length, drop}
+use Rattle.std.specs.Prelude.{ℕ, zero, suc, ◌≤◌, ◌<◌, ◌≡◌, [], ◌∷◌, length, drop, Option, Some, None}
 use Rattle.format.specs.Bytes.{Bytes, byte_at}
 use Rattle.format.specs.Record.{record_size}
 use Rattle.format.specs.Reading.{ERASED}
 use Rattle.area_read.specs.declared.Next.{Next}
 
--- the first record among the bytes t, which start at the place p
-unfoldable pub search : Bytes → ℕ → Next
-search [] p = record { at = p; size = 0 }
-search (b ∷ t) p = elim (record_size (b ∷ t)) [ zero ↦ search t (suc p) | suc n ↦ record { at = p; size = suc n } ]
+-- the first record among the bytes t, which start at the place p, if any
+unfoldable pub search : Bytes → ℕ → Option Next
+search [] p = None
+search (b ∷ t) p = elim (record_size (b ∷ t)) [ zero ↦ search t (suc p) | suc n ↦ Some (record { at = p; size = suc n }) ]
 
-unfoldable pub next_record : Bytes → ℕ → Next
+unfoldable pub next_record : Bytes → ℕ → Option Next
 next_record area from = search (drop from area) from
 
 -- what is written of an area ends at a place: from there on all bytes are erased

@@ -1,9 +1,8 @@
 -- What an area is by its header. Document 01, "Layouts": "Id 255 is scratch; any other is a file area. A descriptor without a valid header is passed over."
-use Rattle.std.specs.Prelude.{ℕ, ◌+◌, ◌≤◌, ◌≡◌, Bool, cond, drop, eqb}
+use Rattle.std.specs.Prelude.{ℕ, ◌≤◌, ◌≡◌, Bool, cond, eqb}
 use Rattle.std.proofs.Math.Path.{refl}
-use Rattle.std.proofs.Common.{sym, ◌∙◌, arith, get_or-take, get_or-drop}
 use Rattle.std.proofs.Math.Bool.{true, false}
-use Rattle.format.specs.Bytes.{Bytes, byte_at}
+use Rattle.format.specs.Bytes.{Bytes}
 use Rattle.format.specs.AreaHeader.{area_header_size, area_id, scratch_id, valid_header, is_file_area, is_scratch}
 use Rattle.calls.specs.Areas.{area_bytes}
 use Rattle.calls.specs.Collect.{count_of}
@@ -41,17 +40,9 @@ id_of image d = area_id (area_bytes image d)
 pub record HasId (image : Bytes) (o r : ℕ) : Type 0 where
   pub is : (n : ℕ) → area_header_size ≤ n → r ≡ id_of image (area_of o n)
 
--- the id byte of an area is one of the image's
-pub id_byte : (image : Bytes) (o n : ℕ) → area_header_size ≤ n → byte_at image (o + 23) ≡ id_of image (area_of o n)
-id_byte image o n h = sym (get_or-take n (drop o image) 23 0 (omega arith) ∙ get_or-drop o image 23 0)
-
 -- r is the collection count of the area at o, whatever its length
 pub record HasCount (image : Bytes) (o r : ℕ) : Type 0 where
   pub is : (n : ℕ) → area_header_size ≤ n → r ≡ count_of image (area_of o n)
-
--- the count's byte of an area is one of the image's
-pub count_byte : (image : Bytes) (o n : ℕ) → area_header_size ≤ n → byte_at image (o + 21) ≡ count_of image (area_of o n)
-count_byte image o n h = sym (get_or-take n (drop o image) 21 0 (omega arith) ∙ get_or-drop o image 21 0)
 
 -- ---- the kind by the header
 

@@ -3,13 +3,13 @@
 
 ghost use Rattle.std.specs.Prelude.{◌≡◌, true, ◌+◌, ◌≤◌, length};
 ghost use Rattle.format.specs.AreaHeader.{area_header_size, magics_right, valid_header};
-ghost use Rattle.crc_laws.specs.Table.{Tables};
 ghost use Rattle.calls.specs.Areas.{good_area, area_bytes};
 ghost use Rattle.area_list.specs.Described.{area_of};
 ghost use Rattle.area_read.specs.Area.{next_record, WrittenTo};
 ghost use Rattle.area_read.specs.Kinds.{HasId, HasCount, kind_of};
 
 use area_list::area_end;
+use byte_crc16::CheckTables;
 use byte_fields::load32;
 use record_magics::next_magic;
 use record_read::record_size;
@@ -39,7 +39,7 @@ pub const MAGIC3: u32 = 0xace08253;
 
 pub const MAGIC4: u32 = 0xb185fc8e;
 
-// The next record: where it starts and its size, which is 0 where there is none.
+// The next record: where it starts and its size.
 #[derive(Clone, Copy)]
 pub struct Next {
     pub at: usize,
@@ -56,37 +56,27 @@ pub enum AreaKind {
 }
 
 // Whether an area has the four magics.
+#[tactic(auto, unfolding(format::specs::AreaHeader::magics_right))]
 fn magics_right(area: &[u8]) -> bool
     requires { area_header_size ≤ length area.now }
     ensures { result ≡ magics_right area.now }
 {
-    if load32(area, 0) != MAGIC1 {
-        return false;
-    }
-    if load32(area, 4) != MAGIC2 {
-        return false;
-    }
-    if load32(area, 8) != MAGIC3 {
-        return false;
-    }
-    load32(area, 12) == MAGIC4
+    load32(area, 0) == MAGIC1
+        && load32(area, 4) == MAGIC2
+        && load32(area, 8) == MAGIC3
+        && load32(area, 12) == MAGIC4
 }
 
 // Whether the area, of the length that its descriptor says, has a valid header.
+#[tactic(auto, unfolding(format::specs::AreaHeader::valid_header))]
 fn valid_header(area: &[u8], described: u32) -> bool
     requires { area_header_size ≤ length area.now }
     ensures { result ≡ valid_header described area.now }
 {
-    if magics_right(area) {} else {
-        return false;
-    }
-    if load32(area, LENGTH_AT) != described {
-        return false;
-    }
-    if area[VERSION_AT] != 0 {
-        return false;
-    }
-    area[RESERVED_AT] == 0
+    magics_right(area)
+        && load32(area, LENGTH_AT) == described
+        && area[VERSION_AT] == 0
+        && area[RESERVED_AT] == 0
 }
 
 // Whether a good area of an image has a valid header.
@@ -94,9 +84,8 @@ fn valid_area(image: &[u8], offset: u32, span: u32) -> bool
     requires { good_area (length image.now) (area_of offset span) ≡ true }
     ensures { result ≡ valid_header span (area_bytes image.now (area_of offset span)) }
 {
-    let at = offset as usize;
     let end = area_end(offset, span);
-    valid_header(&image[at..end], span)
+    valid_header(&image[offset as usize..end], span)
 }
 
 // The id of the area at `offset`, whatever its length.
@@ -120,7 +109,7 @@ pub fn area_kind(image: &[u8], offset: u32, span: u32) -> AreaKind
     requires { good_area (length image.now) (area_of offset span) ≡ true }
     ensures { result ≡ kind_of image.now (area_of offset span) }
 {
-    if valid_area(image, offset, span) {} else {
+    if !valid_area(image, offset, span) {
         return AreaKind::Invalid;
     }
     if area_id(image, offset) == SCRATCH_ID {
@@ -129,23 +118,19 @@ pub fn area_kind(image: &[u8], offset: u32, span: u32) -> AreaKind
     AreaKind::File
 }
 
-// The first record that starts at `from` or after it. What is written of the area ends at `written`: nothing starts behind that, and the search
-// goes no further. The tables of the check are lent.
-pub fn next_record(high: &[u16], low: &[u16], area: &[u8], from: usize, written: usize) -> Next
-    requires tables { Tables high.now low.now }
-    requires written_to { WrittenTo area.now from written }
+// The first record that starts at `from` or after it, if any. What is written of the area ends at `written`: nothing starts behind that, and the
+// search goes no further. The tables of the check are lent.
+pub fn next_record(tables: &CheckTables, area: &[u8], from: usize, written: usize) -> Option<Next>
+    requires { WrittenTo area.now from written }
     ensures { result ≡ next_record area.now from }
 {
     let mut at = from;
     while at < written {
-        let size = record_size(high, low, &area[at..]);
+        let size = record_size(tables, &area[at..]);
         if size != 0 {
-            return Next { at, size };
+            return Some(Next { at, size });
         }
         at = next_magic(area, at + 1, written);
     }
-    Next {
-        at: area.len(),
-        size: 0,
-    }
+    None
 }

@@ -27,10 +27,3 @@ go_on (d ∷ ds) i xs = pick i d (go_on ds (i + 1) (added xs i d)) xs
 
 unfoldable pub areas_of : List Descriptor → Areas
 areas_of list = record { numbers = go_on list 0 (replicate most_numbers 0) }
-
--- one entry d at the place i of a list of n: the next place to look at, which is n where nothing more is copied, and the numbers then
-abbrev pub next_of : ℕ → ℕ → Descriptor → ℕ
-next_of i n d = pick i d (i + 1) n
-
-abbrev pub copied : List ℕ → ℕ → Descriptor → List ℕ
-copied xs i d = pick i d (added xs i d) xs

@@ -1,10 +1,10 @@
 // A list of descriptors lent as a slice of structs, copied into an array of numbers, offset and length in turn, which every call takes.
 #![tactic(auto)]
 
-ghost use Rattle.std.specs.Prelude.{◌≡◌, ◌<◌, take};
+ghost use Rattle.std.specs.Prelude.{◌≡◌, take};
 ghost use Rattle.calls.specs.Areas.{listed};
 ghost use Rattle.area_list.specs.Numbers.{area_list};
-ghost use Rattle.area_structs.specs.Entries.{most_entries, areas_of, next_of, copied};
+ghost use Rattle.area_structs.specs.Entries.{most_entries, areas_of};
 
 use calls::{Descriptor, MOST_AREAS};
 
@@ -20,32 +20,17 @@ pub struct Areas {
     pub numbers: [u32; NUMBERS],
 }
 
-// The entry `d` at the place `i` of a list of `n`: it is copied, unless it ends the list or there is no room.
-// The answer is the next place to look at.
-fn step(numbers: &mut [u32; NUMBERS], i: usize, n: usize, d: Descriptor) -> usize
-    requires { i < n }
-    ensures { (result ≡ next_of i n d) × (numbers.new ≡ copied numbers.old i d) }
-{
-    if d.length == 0 {
-        return n;
-    }
-    if i < ENTRIES {
-        numbers[i * 2] = d.offset;
-        numbers[i * 2 + 1] = d.length;
-        return i + 1;
-    }
-    n
-}
-
-// The areas of a lent list.
+// The areas of a lent list: its entries are copied, until one ends it or there is no room.
 pub fn areas_of(list: &[Descriptor]) -> Areas
     ensures { (result ≡ areas_of list.now) × (area_list result.numbers ≡ take most_entries (listed list.now)) }
 {
-    let n = list.len();
     let mut numbers = [0; NUMBERS];
-    let mut i: usize = 0;
-    while i < n {
-        i = step(&mut numbers, i, n, list[i]);
+    for (i, d) in list.iter().enumerate() {
+        if d.length == 0 || i == ENTRIES {
+            break;
+        }
+        numbers[i * 2] = d.offset;
+        numbers[i * 2 + 1] = d.length;
     }
     Areas { numbers }
 }

@@ -13,6 +13,7 @@ use byte_fields::store32;
 use byte_store::{erase, put};
 
 // The header of an area of `size` bytes. Byte 20 is the version, 0, and byte 22 is reserved.
+#[tactic(auto, unfolding(format::specs::Encoding::area_header))]
 fn area_header(size: u32, count: u8, id: u8) -> [u8; HEADER_SIZE]
     ensures { result ≡ area_header size count id }
 {
@@ -32,16 +33,16 @@ pub fn write_area_header(image: &mut [u8], at: usize, size: u32, count: u8, id: 
     requires { at + area_header_size ≤ length image.old }
     ensures { image.new ≡ put image.old at (area_header size count id) }
 {
-    let header = area_header(size, count, id);
-    put(image, at, &header);
+    put(image, at, &area_header(size, count, id));
 }
 
 // Erases an area and writes its header.
+#[tactic(auto, using(crate::specs::Headed::headed))]
 pub fn write_area(image: &mut [u8], offset: u32, span: u32, count: u8, id: u8)
     requires { (offset + span ≤ length image.old) × (area_header_size ≤ span) × (length image.old ≤ largest_image) }
     ensures { image.new ≡ put image.old offset (empty_area span count id) }
 {
     let at = offset as usize;
-    erase(&mut *image, at, span as usize);
-    write_area_header(&mut *image, at, span, count, id);
+    erase(image, at, span as usize);
+    write_area_header(image, at, span, count, id);
 }

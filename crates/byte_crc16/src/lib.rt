@@ -5,65 +5,72 @@ mod tables;
 
 ghost use Rattle.std.specs.Prelude.{◌≡◌};
 ghost use Rattle.format.specs.Crc.{crc_over, check};
-ghost use Rattle.crc_laws.specs.Table.{TableOf, Tables, high_later, low_later};
+ghost use Rattle.crc_laws.specs.Table.{Tables};
 
 use crc16_register::{four, one, two};
 use tables::{HIGH, LOW};
 
-// From about so many bytes on the tables pay, on x86-64: compiled code copies them to the stack for each slice. No value depends on it.
+// From so many bytes on `over` goes by the tables. No value depends on it.
 const LONG: usize = 24;
+
+// The two tables of the check, each of a byte of the register. They are statics, which no compiled code copies; who checks records lends them down.
+#[derive(Drop)]
+pub struct CheckTables {
+    high: &'static [u16; 256],
+    low: &'static [u16; 256],
+    ghost right: { Tables high.now low.now },
+}
 
 // The register after the bytes of `s`, two a turn.
 fn two_a_turn(start: u16, s: &[u8]) -> u16
     ensures { result ≡ crc_over start s.now }
 {
+    let (twos, rest) = s.as_chunks::<2>();
     let mut r = start;
-    let mut i = 0;
-    while i + 1 < s.len() {
-        r = two(r, s[i], s[i + 1]);
-        i += 2;
+    for [b, c] in twos {
+        r = two(r, *b, *c);
     }
-    if i < s.len() {
-        return one(r, s[i]);
+    for b in rest {
+        r = one(r, *b);
     }
     r
 }
 
-// The register after the bytes of `s`, four a turn.
-fn four_a_turn(high: &[u16], low: &[u16], start: u16, s: &[u8]) -> u16
-    requires { Tables high.now low.now }
-    ensures { result ≡ crc_over start s.now }
-{
-    let mut r = start;
-    let mut i = 0;
-    while i + 3 < s.len() {
-        r = four(high, low, r, s[i], s[i + 1], s[i + 2], s[i + 3]);
-        i += 4;
+impl CheckTables {
+    // The tables, which are right: the proof tests each entry.
+    pub fn new() -> CheckTables {
+        CheckTables {
+            high: &HIGH,
+            low: &LOW,
+        }
     }
-    two_a_turn(r, &s[i..])
+
+    // The register after the bytes of `s`, four a turn.
+    fn over(&self, start: u16, s: &[u8]) -> u16
+        ensures { result ≡ crc_over start s.now }
+    {
+        let (fours, rest) = s.as_chunks::<4>();
+        let mut r = start;
+        for [b, c, d, e] in fours {
+            r = four(self.high, self.low, r, *b, *c, *d, *e);
+        }
+        two_a_turn(r, rest)
+    }
+
+    // The check over the header bytes before the check field, and then the body: four bytes a turn in slices of every length.
+    #[tactic(auto, unfolding(format::specs::Crc::check))]
+    pub fn check(&self, front: &[u8], body: &[u8]) -> u16
+        ensures { result ≡ check front.now body.now }
+    {
+        self.over(self.over(0, front), body)
+    }
 }
 
-// The table of the register's high byte. Compiled code copies it, so that who checks many records sets it up once and lends it to `check_by`.
-pub fn high_table() -> [u16; 256]
-    ensures { TableOf high_later result }
-{
-    HIGH
-}
-
-// The table of its low byte.
-pub fn low_table() -> [u16; 256]
-    ensures { TableOf low_later result }
-{
-    LOW
-}
-
-// The register after the bytes of `s`, by the tables. A function of its own, which copies them when it starts, so that short slices do not.
+// The register after the bytes of `s`, by the tables.
 fn by_tables(start: u16, s: &[u8]) -> u16
     ensures { result ≡ crc_over start s.now }
 {
-    let high = high_table();
-    let low = low_table();
-    four_a_turn(&high, &low, start, s)
+    CheckTables::new().over(start, s)
 }
 
 // The register after the bytes of `s`. Who checks a body in parts goes on from one to the next.
@@ -77,16 +84,9 @@ pub fn over(start: u16, s: &[u8]) -> u16
 }
 
 // The check over the header bytes before the check field, and then the body.
+#[tactic(auto, unfolding(format::specs::Crc::check))]
 pub fn check(front: &[u8], body: &[u8]) -> u16
     ensures { result ≡ check front.now body.now }
 {
     over(over(0, front), body)
-}
-
-// The same check by lent tables, which nobody copies: four bytes a turn in slices of every length.
-pub fn check_by(high: &[u16], low: &[u16], front: &[u8], body: &[u8]) -> u16
-    requires { Tables high.now low.now }
-    ensures { result ≡ check front.now body.now }
-{
-    four_a_turn(high, low, four_a_turn(high, low, 0, front), body)
 }

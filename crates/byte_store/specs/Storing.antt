@@ -1,6 +1,6 @@
--- The loop that stores bytes one by one: the invariant of put, erase and copy, which differ only in where the bytes come from.
+-- The loop that stores bytes one by one: the invariants of put and of copy, which differ only in where the bytes come from.
 use Rattle.std.specs.Prelude.{ℕ, ◌+◌, ◌≤◌, ◌<◌, ◌≡◌, refl, [], ◌∷◌, ◌++◌, length, set, take}
-use Rattle.std.proofs.Common.{sym, ap, ◌∙◌, arith, add-one, length-set, length-take-le, take-suc, take_all}
+use Rattle.std.proofs.Common.{sym, ap, ◌∙◌, arith, add-one, length-set, length-take-le, take-suc}
 use Rattle.std.proofs.lemmas.List.{set_split}
 use Rattle.format.specs.Bytes.{Bytes, byte_at}
 use Rattle.calls.specs.Image.{put, part}
@@ -35,9 +35,6 @@ module _ (x₀ : Bytes) (p : ℕ) (b : Bytes) where
           stored = one ∙ rw (s.stored, next) (rw k at both);
         }
 
-    pub storing_ends : length b ≤ i → x ≡ put x₀ p b
-    storing_ends h = s.stored ∙ ap (put x₀ p) (take_all i b h)
-
 -- where the bytes are those of another place of the image, apart from where they go, the next of them is still there
 storing_copied : (x₀ : Bytes) (from to n i : ℕ) (x : Bytes) → Storing x₀ to (part x₀ from n) i x
     → (from + n ≤ length x₀) × (to + n ≤ length x₀) → Apart from n to n → i < n → byte_at x (from + i) ≡ byte_at (part x₀ from n) i
@@ -67,6 +64,3 @@ module _ (x₀ : Bytes) (from to n : ℕ) where
       storing = λ a. storing_step x₀ to (part x₀ from n) i x (c.storing a) (rw long_part fits.1) _ (rw long_part h)
           (storing_copied x₀ from to n i x (c.storing a) fits a h);
     }
-
-    pub copying_ends : n ≤ i → Apart from n to n → x ≡ put x₀ to (part x₀ from n)
-    copying_ends h a = storing_ends x₀ to (part x₀ from n) i x (c.storing a) (rw long_part fits.1) (rw long_part h)

@@ -14,10 +14,8 @@ pub fn put(image: &mut [u8], at: usize, b: &[u8])
     requires { at + length b.now ≤ length image.old }
     ensures { image.new ≡ put image.old at b.now }
 {
-    let mut i = 0;
-    while i < b.len() {
-        image[at + i] = b[i];
-        i += 1;
+    for (i, byte) in b.iter().enumerate() {
+        image[at + i] = *byte;
     }
 }
 
@@ -26,10 +24,8 @@ pub fn erase(image: &mut [u8], at: usize, n: usize)
     requires { at + n ≤ length image.old }
     ensures { image.new ≡ put image.old at (erased n) }
 {
-    let mut i = 0;
-    while i < n {
-        image[at + i] = ERASED;
-        i += 1;
+    for byte in &mut image[at..at + n] {
+        *byte = ERASED;
     }
 }
 
@@ -38,9 +34,7 @@ pub fn copy(image: &mut [u8], from: usize, to: usize, n: usize)
     requires { (from + n ≤ length image.old) × (to + n ≤ length image.old) }
     ensures { Apart from n to n → image.new ≡ put image.old to (part image.old from n) }
 {
-    let mut i = 0;
-    while i < n {
+    for i in 0..n {
         image[to + i] = image[from + i];
-        i += 1;
     }
 }

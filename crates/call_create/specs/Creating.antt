@@ -9,20 +9,21 @@ use Rattle.format.specs.Encoding.{inode_bytes}
 use Rattle.volume.specs.View.{by_bytes}
 use Rattle.volume.specs.Counting.{Volume, inode_ids}
 use Rattle.volume.specs.Path.{path_names}
-use Rattle.volume.specs.Tree.{Found, found, absent}
+use Rattle.volume.specs.Tree.{found, absent}
 use Rattle.calls.specs.Refusal.{◌refused_by◌, first_refusal}
 use Rattle.calls.specs.Areas.{file_areas}
 use Rattle.calls.specs.Mount.{most_inodes, volume, mount_number}
 use Rattle.calls.specs.Storing.{Store, Space, spaces, place_all, no_place, stored_or, named_ids, unused_id}
 use Rattle.calls.specs.Attempt.{Attempt, goes, refuses, leaves, unless, at_found, attempt_at}
+use Rattle.calls.specs.Outcome.{code, code_nonzero}
 use Rattle.calls.specs.Create.{last_name, first_id_of, new_id, new_inode, name_checks, create_in, creating, create_answer, create_image, create_of, image_created}
 use Rattle.calls.specs.declared.Descriptor.{Descriptor}
+use Rattle.calls.specs.declared.Refusal.{Refusal}
 use Rattle.calls.specs.declared.Created.{Created}
-use Rattle.path_walk.specs.Resolved.{refusal_of}
 use Rattle.path_find.specs.NewName.{name_refused, name_passed}
 use Rattle.path_find.specs.Parent.{parent_of}
 use Rattle.write_inodes.specs.Stored.{place_number}
-use Rattle.mount_state.specs.State.{Safe, Holds, Mounts}
+use Rattle.mount_state.specs.State.{Safe, Holds}
 use Rattle.mount_state.specs.Bridge.{inodes_number}
 use Rattle.mount_state.specs.declared.Mounted.{Mounted}
 
@@ -148,30 +149,28 @@ module _ (image : Bytes) (ds : List Descriptor) (base path : Bytes) (kind : ℕ)
 
 -- ---- by the tables of a mount
 
-pub create_refused : {image : Bytes} {ds : List Descriptor} {m : Mounted} {t ps : List ℕ} → Mounts image ds m t ps
-    → (base path : Bytes) (kind : ℕ) → m.number ≢ 0 → Outcome image ds base path kind (not_created m.number) image
-create_refused {image} {ds} c base path kind h = rw c.number (not_mounted image ds base path kind (λ z. h (c.number ∙ z)))
+pub create_refused : (image : Bytes) (ds : List Descriptor) (base path : Bytes) (kind : ℕ) (r : Refusal) → code r ≡ mount_number image ds
+    → Outcome image ds base path kind (not_created (code r)) image
+create_refused image ds base path kind r e = rw e (not_mounted image ds base path kind (λ z. code_nonzero r (e ∙ z)))
 
-module _ {image : Bytes} {ds : List Descriptor} {m : Mounted} {t : List ℕ} (s : Safe image m t) (h : Holds image ds m t) (base path : Bytes) (kind : ℕ)
-    (f : Found) (e : f ≡ parent_of by_bytes (volume image ds) base path) where
-  pub create_absent : (n : ℕ) → f ≡ absent n → (k : ℕ) → k ≡ refusal_of f → (r : Created) → r ≡ not_created k → Outcome image ds base path kind r image
-  create_absent n q k a r b =
-      let z : r ≡ not_created n = b ∙ ap not_created (a ∙ ap refusal_of q) in
-      rw z (where_absent image ds base path kind h.number n (sym e ∙ q))
+module _ {image : Bytes} {ds : List Descriptor} {m : Mounted} {t : List ℕ} (s : Safe image m t) (h : Holds image ds m t) (base path : Bytes) (kind : ℕ) where
+  pub create_absent : (n : ℕ) → absent n ≡ parent_of by_bytes (volume image ds) base path → Outcome image ds base path kind (not_created n) image
+  create_absent n e = where_absent image ds base path kind h.number n (sym e)
 
-  module _ (d : ℕ) (q : f ≡ found d) (n : Bytes) (l : n ≡ last_name (path_names base path)) (k : ℕ) (g : k ≡ first_refusal (name_checks (volume image ds) d n)) where
+  module _ (d : ℕ) (e : found d ≡ parent_of by_bytes (volume image ds) base path) (n : Bytes) (l : n ≡ last_name (path_names base path))
+      (k : ℕ) (g : k ≡ first_refusal (name_checks (volume image ds) d n)) where
     checks_are : k ≡ first_refusal (name_checks (volume image ds) d (last_name (path_names base path)))
     checks_are = rw l at g
 
-    pub create_fails : k ≢ 0 → (r : Created) → r ≡ not_created k → Outcome image ds base path kind r image
-    create_fails z r b = rw b (where_refused image ds base path kind h.number d (sym e ∙ q) k checks_are z)
+    pub create_fails : k ≢ 0 → Outcome image ds base path kind (not_created k) image
+    create_fails z = where_refused image ds base path kind h.number d (sym e) k checks_are z
 
-    pub create_full : k ≡ 0 → most_inodes ≤ m.inodes → (r : Created) → r ≡ not_created 5 → Outcome image ds base path kind r image
-    create_full z w r b = rw b (where_full image ds base path kind h.number d (sym e ∙ q) (sym checks_are ∙ z) (omega (arith, inodes_number s h)))
+    pub create_full : k ≡ 0 → most_inodes ≤ m.inodes → Outcome image ds base path kind (not_created 5) image
+    create_full z w = where_full image ds base path kind h.number d (sym e) (sym checks_are ∙ z) (omega (arith, inodes_number s h))
 
     pub create_stored : k ≡ 0 → m.inodes < most_inodes → (r : Created) (x : Bytes)
         → r ≡ stored_answer (volume image ds) kind (place_all (spaces image (file_areas image ds)) (new_inode (volume image ds) kind d n ∷ []))
         → x ≡ stored_or image (place_all (spaces image (file_areas image ds)) (new_inode (volume image ds) kind d n ∷ []))
         → Outcome image ds base path kind r x
     create_stored z w r x a b =
-        where_stored image ds base path kind h.number d (sym e ∙ q) (sym checks_are ∙ z) (omega (arith, inodes_number s h)) r (rw l at a) x (rw l at b)
+        where_stored image ds base path kind h.number d (sym e) (sym checks_are ∙ z) (omega (arith, inodes_number s h)) r (rw l at a) x (rw l at b)

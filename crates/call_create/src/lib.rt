@@ -7,15 +7,15 @@ ghost use Rattle.calls.specs.Areas.{file_areas};
 ghost use Rattle.calls.specs.Mount.{volume};
 ghost use Rattle.calls.specs.Storing.{spaces, place_all, stored_or};
 ghost use Rattle.calls.specs.Create.{first_id_of, new_inode, create_of, image_created};
+ghost use Rattle.calls.specs.Answers.{created_seen};
 ghost use Rattle.calls.specs.declared.Descriptor.{Descriptor};
 ghost use Rattle.path_find.specs.Parent.{ShortName};
 ghost use Rattle.mount_state.specs.State.{Safe, Holds, SafePlaces, HoldsPlaces};
-ghost use Rattle.call_create.specs.Creating.{not_created, stored_answer};
+ghost use Rattle.call_create.specs.Creating.{stored_answer};
 
-use calls::{Created, DIRECTORY, MOST_INODES, TOO_MANY_IDS};
+use calls::{DIRECTORY, MOST_INODES, Refusal};
 use mount_state::Mounted;
-use path_find::{find_parent, last_name, name_refusal};
-use path_walk::Resolved;
+use path_find::{check_name, find_parent, last_name};
 use record_read::{FIRST_FILE_ID, InodeHeader, ROOT};
 use write_ids::unused_id;
 use write_inodes::store_inode;
@@ -32,14 +32,7 @@ fn first_id(kind: u32) -> u32
     }
 }
 
-// The answer of a refused create.
-pub fn not_created(number: u32) -> Created
-    ensures { result ≡ not_created number }
-{
-    Created { number, id: 0 }
-}
-
-// Stores a new inode of an id that no record names.
+// Stores a new inode of an id that no record names; answers the id.
 fn create_in(
     image: &mut [u8],
     tables: &[u32],
@@ -48,28 +41,24 @@ fn create_in(
     directory: u32,
     name: &[u8],
     kind: u32,
-) -> Created
+) -> Result<u32, Refusal>
     requires safe { Safe image.old m tables.now }
     requires safe_places { SafePlaces image.old m places.now }
     requires short_name { ShortName name.now }
-    ensures { (ds : List Descriptor) → Holds image.old ds m tables.now → HoldsPlaces image.old ds m places.now → (result ≡ stored_answer (volume image.old ds) kind (place_all (spaces image.old (file_areas image.old ds)) (new_inode (volume image.old ds) kind directory name.now ∷ []))) × (image.new ≡ stored_or image.old (place_all (spaces image.old (file_areas image.old ds)) (new_inode (volume image.old ds) kind directory name.now ∷ []))) }
+    ensures { (ds : List Descriptor) → Holds image.old ds m tables.now → HoldsPlaces image.old ds m places.now → (created_seen result ≡ stored_answer (volume image.old ds) kind (place_all (spaces image.old (file_areas image.old ds)) (new_inode (volume image.old ds) kind directory name.now ∷ []))) × (image.new ≡ stored_or image.old (place_all (spaces image.old (file_areas image.old ds)) (new_inode (volume image.old ds) kind directory name.now ∷ []))) }
 {
-    let records = m.records;
-    let id = unused_id(&*image, &places[0..records], first_id(kind));
+    let id = unused_id(image, &places[..m.records], first_id(kind));
     let inode = InodeHeader {
         id,
         sequence: 0,
         parent: directory,
         length: name.len() as u32,
     };
-    let number = store_inode(&mut *image, tables, m, inode, name);
-    if number != 0 {
-        return not_created(number);
-    }
-    Created { number: 0, id }
+    store_inode(image, tables, m, inode, name)?;
+    Ok(id)
 }
 
-// Creates a file or a directory.
+// Creates a file or a directory; answers its id.
 pub fn create_mounted<'a>(
     image: &mut [u8],
     tables: &[u32],
@@ -78,22 +67,16 @@ pub fn create_mounted<'a>(
     base: &'a [u8],
     path: &'a [u8],
     kind: u32,
-) -> Created
+) -> Result<u32, Refusal>
     requires safe { Safe image.old m tables.now }
     requires safe_places { SafePlaces image.old m places.now }
-    ensures { (ds : List Descriptor) → Holds image.old ds m tables.now → HoldsPlaces image.old ds m places.now → (result ≡ create_of image.old ds base.now path.now kind) × (image.new ≡ image_created image.old ds base.now path.now kind) }
+    ensures { (ds : List Descriptor) → Holds image.old ds m tables.now → HoldsPlaces image.old ds m places.now → (created_seen result ≡ create_of image.old ds base.now path.now kind) × (image.new ≡ image_created image.old ds base.now path.now kind) }
 {
-    let found = find_parent(&*image, tables, m, base, path);
-    let Resolved::Inode(directory, _) = found else {
-        return not_created(found.refusal());
-    };
+    let directory = find_parent(image, tables, m, base, path)?;
     let name = last_name(base, path);
-    let refusal = name_refusal(&*image, tables, m, directory, name);
-    if refusal != 0 {
-        return not_created(refusal);
-    }
+    check_name(image, tables, m, directory, name)?;
     if MOST_INODES <= m.inodes {
-        return not_created(TOO_MANY_IDS);
+        return Err(Refusal::TooManyIds);
     }
-    create_in(&mut *image, tables, places, m, directory, name, kind)
+    create_in(image, tables, places, m, directory, name, kind)
 }

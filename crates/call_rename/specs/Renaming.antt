@@ -7,26 +7,27 @@ use Rattle.format.specs.Bytes.{Bytes}
 use Rattle.format.specs.Ids.{root_id}
 use Rattle.volume.specs.View.{by_bytes}
 use Rattle.volume.specs.Path.{good_path, path_names}
-use Rattle.volume.specs.Tree.{Found, found, absent, lookup_names}
+use Rattle.volume.specs.Tree.{found, absent, lookup_names}
 use Rattle.calls.specs.Refusal.{◌refused_by◌, first_refusal}
 use Rattle.calls.specs.Mount.{volume, mount_number}
 use Rattle.calls.specs.Lookup.{resolve}
 use Rattle.calls.specs.Storing.{is_among}
 use Rattle.calls.specs.Attempt.{Attempt, goes, refuses, number_of, leaves, unless, at_found, attempt_at}
+use Rattle.calls.specs.Outcome.{code, code_nonzero}
 use Rattle.calls.specs.Create.{is_root, last_name, name_checks}
 use Rattle.calls.specs.Rewrite.{rewrite_checks, rewrite_number, image_rewritten}
 use Rattle.calls.specs.Rename.{moves_into_itself, move_number, moving, renaming, rename_of, rename_image, image_renamed}
 use Rattle.calls.specs.declared.Descriptor.{Descriptor}
+use Rattle.calls.specs.declared.Refusal.{Refusal}
 use Rattle.record_places.specs.Place.{by_place}
 use Rattle.area_pass.specs.Bridge.{placed_volume}
 use Rattle.table_rows.specs.Rows.{RowsOf}
 use Rattle.inode_lineage.specs.Lineage.{lineage_by, lineage_rows}
-use Rattle.path_walk.specs.Resolved.{refusal_of}
 use Rattle.path_find.specs.Below.{not_below}
 use Rattle.path_find.specs.NewName.{name_refused, name_passed}
 use Rattle.path_find.specs.Parent.{parent_of}
 use Rattle.write_inodes.specs.Rewriting.{image_if}
-use Rattle.mount_state.specs.State.{Holds, Mounts}
+use Rattle.mount_state.specs.State.{Holds}
 use Rattle.mount_state.specs.Bridge.{lineage_is}
 use Rattle.mount_state.specs.declared.Mounted.{Mounted}
 
@@ -153,27 +154,22 @@ module _ (image : Bytes) (ds : List Descriptor) (base old new : Bytes) where
 
 -- ---- by the tables of a mount
 
-pub rename_refused : {image : Bytes} {ds : List Descriptor} {m : Mounted} {t ps : List ℕ} → Mounts image ds m t ps
-    → (base old new : Bytes) → m.number ≢ 0 → Outcome image ds base old new m.number image
-rename_refused {image} {ds} c base old new h = rw c.number (not_mounted image ds base old new (λ z. h (c.number ∙ z)))
+pub rename_refused : (image : Bytes) (ds : List Descriptor) (base old new : Bytes) (r : Refusal) → code r ≡ mount_number image ds
+    → Outcome image ds base old new (code r) image
+rename_refused image ds base old new r e = rw e (not_mounted image ds base old new (λ z. code_nonzero r (e ∙ z)))
 
 module _ {image : Bytes} {ds : List Descriptor} {m : Mounted} {t : List ℕ} (h : Holds image ds m t) (base old new : Bytes) where
   pub rename_bad : not_below base new ≡ true → Outcome image ds base old new 8 image
   rename_bad = bad_new image ds base old new h.number
 
-  module _ (below : not_below base new ≡ false) (f : Found) (what : f ≡ resolve image ds base old) where
-    pub rename_absent : (n : ℕ) → f ≡ absent n → (r : ℕ) → r ≡ refusal_of f → Outcome image ds base old new r image
-    rename_absent n q r k =
-        let z : r ≡ n = k ∙ ap refusal_of q in
-        rw z (old_absent image ds base old new h.number below n (sym what ∙ q))
+  module _ (below : not_below base new ≡ false) where
+    pub rename_absent : (n : ℕ) → absent n ≡ resolve image ds base old → Outcome image ds base old new n image
+    rename_absent n e = old_absent image ds base old new h.number below n (sym e)
 
-    module _ (i : ℕ) (e : f ≡ found i) (g : Found) (where_to : g ≡ parent_of by_bytes (volume image ds) base new) where
-      pub rename_nowhere : (n : ℕ) → g ≡ absent n → (r : ℕ) → r ≡ refusal_of g → Outcome image ds base old new r image
-      rename_nowhere n q r k =
-          let z : r ≡ n = k ∙ ap refusal_of q in
-          rw z (new_absent image ds base old new h.number below i (sym what ∙ e) n (sym where_to ∙ q))
+    module _ (i : ℕ) (e : found i ≡ resolve image ds base old) where
+      pub rename_nowhere : (n : ℕ) → absent n ≡ parent_of by_bytes (volume image ds) base new → Outcome image ds base old new n image
+      rename_nowhere n q = new_absent image ds base old new h.number below i (sym e) n (sym q)
 
-      pub rename_moved : (d : ℕ) → g ≡ found d → (n : Bytes) → n ≡ last_name (path_names base new) → (r : ℕ) (x : Bytes) → Moved image ds i d n r x
-          → Outcome image ds base old new r x
-      rename_moved d q n l r x w =
-          new_found image ds base old new h.number below i (sym what ∙ e) d (sym where_to ∙ q) r x (rw l at w)
+      pub rename_moved : (d : ℕ) → found d ≡ parent_of by_bytes (volume image ds) base new → (n : Bytes) → n ≡ last_name (path_names base new)
+          → (r : ℕ) (x : Bytes) → Moved image ds i d n r x → Outcome image ds base old new r x
+      rename_moved d q n l r x w = new_found image ds base old new h.number below i (sym e) d (sym q) r x (rw l at w)

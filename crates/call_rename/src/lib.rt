@@ -3,17 +3,18 @@
 
 ghost use Rattle.std.specs.Prelude.{◌≡◌, List};
 ghost use Rattle.calls.specs.Mount.{volume};
+ghost use Rattle.calls.specs.Attempt.{number_of};
+ghost use Rattle.calls.specs.Outcome.{outcome_of};
 ghost use Rattle.calls.specs.Rename.{moves_into_itself, move_number, rename_of, image_renamed};
 ghost use Rattle.calls.specs.declared.Descriptor.{Descriptor};
 ghost use Rattle.path_find.specs.Parent.{ShortName};
 ghost use Rattle.write_inodes.specs.Rewriting.{image_if};
 ghost use Rattle.mount_state.specs.State.{Safe, Holds};
 
-use calls::{BAD_PATH, INTO_ITSELF};
+use calls::Refusal;
 use inode_lineage::in_lineage;
 use mount_state::{INODE_IDS, INODE_SPOTS, Mounted};
-use path_find::{find_parent, find_path, is_below_root, last_name, name_refusal};
-use path_walk::Resolved;
+use path_find::{check_name, find_parent, find_path, is_below_root, last_name};
 use record_read::ROOT;
 use write_inodes::rewrite_inode;
 
@@ -44,19 +45,16 @@ fn move_inode(
     id: u32,
     directory: u32,
     name: &[u8],
-) -> u32
+) -> Result<(), Refusal>
     requires safe { Safe image.old m tables.now }
     requires short_name { ShortName name.now }
-    ensures { (ds : List Descriptor) → Holds image.old ds m tables.now → (result ≡ move_number image.old ds id directory name.now) × (image.new ≡ image_if result image.old ds id directory name.now) }
+    ensures { (ds : List Descriptor) → Holds image.old ds m tables.now → (number_of (outcome_of result) ≡ move_number image.old ds id directory name.now) × (image.new ≡ image_if (number_of (outcome_of result)) image.old ds id directory name.now) }
 {
-    let refusal = name_refusal(&*image, tables, m, directory, name);
-    if refusal != 0 {
-        return refusal;
+    check_name(image, tables, m, directory, name)?;
+    if moves_into_itself(image, tables, m, id, directory) {
+        return Err(Refusal::IntoItself);
     }
-    if moves_into_itself(&*image, tables, m, id, directory) {
-        return INTO_ITSELF;
-    }
-    rewrite_inode(&mut *image, tables, m, id, directory, name)
+    rewrite_inode(image, tables, m, id, directory, name)
 }
 
 // Renames what the old path leads to; what lies below a directory goes with it.
@@ -67,21 +65,14 @@ pub fn rename_mounted<'a>(
     base: &'a [u8],
     old: &'a [u8],
     new: &'a [u8],
-) -> u32
+) -> Result<(), Refusal>
     requires { Safe image.old m tables.now }
-    ensures { (ds : List Descriptor) → Holds image.old ds m tables.now → (result ≡ rename_of image.old ds base.now old.now new.now) × (image.new ≡ image_renamed image.old ds base.now old.now new.now) }
+    ensures { (ds : List Descriptor) → Holds image.old ds m tables.now → (number_of (outcome_of result) ≡ rename_of image.old ds base.now old.now new.now) × (image.new ≡ image_renamed image.old ds base.now old.now new.now) }
 {
-    if is_below_root(base, new) {} else {
-        return BAD_PATH;
+    if !is_below_root(base, new) {
+        return Err(Refusal::BadPath);
     }
-    let found = find_path(&*image, tables, m, base, old);
-    let Resolved::Inode(id, _) = found else {
-        return found.refusal();
-    };
-    let above = find_parent(&*image, tables, m, base, new);
-    let Resolved::Inode(directory, _) = above else {
-        return above.refusal();
-    };
-    let name = last_name(base, new);
-    move_inode(&mut *image, tables, m, id, directory, name)
+    let id = find_path(image, tables, m, base, old)?;
+    let directory = find_parent(image, tables, m, base, new)?;
+    move_inode(image, tables, m, id, directory, last_name(base, new))
 }

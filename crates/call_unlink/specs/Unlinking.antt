@@ -5,16 +5,17 @@ use Rattle.std.proofs.Common.{◌∙◌, ne_eqb, eqb-true}
 use Rattle.format.specs.Bytes.{Bytes}
 use Rattle.format.specs.Ids.{NONE}
 use Rattle.volume.specs.View.{by_bytes}
-use Rattle.volume.specs.Tree.{Found, found, absent}
+use Rattle.volume.specs.Tree.{found, absent}
 use Rattle.calls.specs.Mount.{volume, mount_number}
 use Rattle.calls.specs.Rewrite.{rewrite_number, image_rewritten}
 use Rattle.calls.specs.Attempt.{Attempt, goes, refuses, number_of, leaves, unless, at_found, attempt_at}
 use Rattle.calls.specs.Unlink.{unlink_one, unlinking, unlink_of, image_unlinked}
 use Rattle.calls.specs.declared.Descriptor.{Descriptor}
-use Rattle.path_walk.specs.Resolved.{refusal_of}
+use Rattle.calls.specs.Outcome.{code, code_nonzero}
+use Rattle.calls.specs.declared.Refusal.{Refusal}
 use Rattle.path_find.specs.Tree.{below_root}
 use Rattle.write_inodes.specs.Rewriting.{image_if}
-use Rattle.mount_state.specs.State.{Holds, Mounts}
+use Rattle.mount_state.specs.State.{Holds}
 use Rattle.mount_state.specs.declared.Mounted.{Mounted}
 
 -- ---- the ways that an unlink ends
@@ -59,15 +60,13 @@ module _ (image : Bytes) (ds : List Descriptor) (base path : Bytes) where
 
 -- ---- by the tables of a mount
 
-pub unlink_refused : {image : Bytes} {ds : List Descriptor} {m : Mounted} {t ps : List ℕ} → Mounts image ds m t ps
-    → (base path : Bytes) → m.number ≢ 0 → Outcome image ds base path m.number image
-unlink_refused {image} {ds} c base path h = rw c.number (not_mounted image ds base path (λ z. h (c.number ∙ z)))
+pub unlink_refused : (image : Bytes) (ds : List Descriptor) (base path : Bytes) (r : Refusal) → code r ≡ mount_number image ds → Outcome image ds base path (code r) image
+unlink_refused image ds base path r e = rw e (not_mounted image ds base path (λ z. code_nonzero r (e ∙ z)))
 
-module _ {image : Bytes} {ds : List Descriptor} {m : Mounted} {t : List ℕ} (h : Holds image ds m t) (base path : Bytes)
-    (f : Found) (what : f ≡ below_root by_bytes (volume image ds) base path) where
-  pub unlink_absent : (n : ℕ) → f ≡ absent n → (r : ℕ) → r ≡ refusal_of f → Outcome image ds base path r image
-  unlink_absent n q r k = let z : r ≡ n = k ∙ ap refusal_of q in rw z (what_absent image ds base path h.number n (sym what ∙ q))
+module _ {image : Bytes} {ds : List Descriptor} {m : Mounted} {t : List ℕ} (h : Holds image ds m t) (base path : Bytes) where
+  pub unlink_absent : (n : ℕ) → absent n ≡ below_root by_bytes (volume image ds) base path → Outcome image ds base path n image
+  unlink_absent n e = what_absent image ds base path h.number n (sym e)
 
-  pub unlink_found : (i : ℕ) → f ≡ found i → (r : ℕ) (x : Bytes) → r ≡ rewrite_number image ds i NONE [] → x ≡ image_if r image ds i NONE []
-      → Outcome image ds base path r x
-  unlink_found i q = what_found image ds base path h.number i (sym what ∙ q)
+  pub unlink_found : (i : ℕ) → found i ≡ below_root by_bytes (volume image ds) base path → (r : ℕ) (x : Bytes)
+      → r ≡ rewrite_number image ds i NONE [] → x ≡ image_if r image ds i NONE [] → Outcome image ds base path r x
+  unlink_found i e = what_found image ds base path h.number i (sym e)

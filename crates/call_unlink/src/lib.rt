@@ -2,13 +2,15 @@
 #![tactic(auto)]
 
 ghost use Rattle.std.specs.Prelude.{◌≡◌, List};
+ghost use Rattle.calls.specs.Attempt.{number_of};
+ghost use Rattle.calls.specs.Outcome.{outcome_of};
 ghost use Rattle.calls.specs.Unlink.{unlink_of, image_unlinked};
 ghost use Rattle.calls.specs.declared.Descriptor.{Descriptor};
 ghost use Rattle.mount_state.specs.State.{Safe, Holds};
 
+use calls::Refusal;
 use mount_state::Mounted;
 use path_find::find_below;
-use path_walk::Resolved;
 use record_read::NONE;
 use write_inodes::rewrite_inode;
 
@@ -19,13 +21,10 @@ pub fn unlink_mounted<'a>(
     m: Mounted,
     base: &'a [u8],
     path: &'a [u8],
-) -> u32
+) -> Result<(), Refusal>
     requires { Safe image.old m tables.now }
-    ensures { (ds : List Descriptor) → Holds image.old ds m tables.now → (result ≡ unlink_of image.old ds base.now path.now) × (image.new ≡ image_unlinked image.old ds base.now path.now) }
+    ensures { (ds : List Descriptor) → Holds image.old ds m tables.now → (number_of (outcome_of result) ≡ unlink_of image.old ds base.now path.now) × (image.new ≡ image_unlinked image.old ds base.now path.now) }
 {
-    let found = find_below(&*image, tables, m, base, path);
-    let Resolved::Inode(id, _) = found else {
-        return found.refusal();
-    };
-    rewrite_inode(&mut *image, tables, m, id, NONE, b"")
+    let id = find_below(image, tables, m, base, path)?;
+    rewrite_inode(image, tables, m, id, NONE, b"")
 }

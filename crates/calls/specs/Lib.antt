@@ -20,3 +20,4 @@ pub mod Unlink
 pub mod Rename
 pub mod Collect
 pub mod Program
+pub mod Answers

@@ -1,5 +1,6 @@
 -- What the code answers of a call that may be refused, in the words of the definitions. Document 01, "Numbers of refusal, in order of check".
-use Rattle.std.specs.Prelude.{ℕ, Result, Ok, Err}
+use Rattle.std.specs.Prelude.{ℕ, ◌≢◌, Result, Ok, Err}
+use Rattle.std.proofs.Common.{arith}
 use Rattle.calls.specs.Attempt.{Attempt, goes, refuses}
 use Rattle.calls.specs.declared.Refusal.{Refusal}
 use Rattle.calls.specs.declared.Refusal.TheVariants.{BadAreas, SameAreaId, NoFileOrScratch, ShortScratch, TooManyIds, Conflict, NoRoot, BadPath, NotFound, Ambiguous, WrongKind, Exists, Broken, PastEnd, NoRoom, LastSequence, NoSource, IntoItself}
@@ -29,3 +30,24 @@ code IntoItself = 18
 abbrev pub outcome_of : {A : Type 0} → Result A Refusal → Attempt A
 outcome_of (Ok a) = goes a
 outcome_of (Err r) = refuses (code r)
+
+-- "0 is success"
+pub code_nonzero : (r : Refusal) → code r ≢ 0
+code_nonzero BadAreas e = omega (arith, e)
+code_nonzero SameAreaId e = omega (arith, e)
+code_nonzero NoFileOrScratch e = omega (arith, e)
+code_nonzero ShortScratch e = omega (arith, e)
+code_nonzero TooManyIds e = omega (arith, e)
+code_nonzero Conflict e = omega (arith, e)
+code_nonzero NoRoot e = omega (arith, e)
+code_nonzero BadPath e = omega (arith, e)
+code_nonzero NotFound e = omega (arith, e)
+code_nonzero Ambiguous e = omega (arith, e)
+code_nonzero WrongKind e = omega (arith, e)
+code_nonzero Exists e = omega (arith, e)
+code_nonzero Broken e = omega (arith, e)
+code_nonzero PastEnd e = omega (arith, e)
+code_nonzero NoRoom e = omega (arith, e)
+code_nonzero LastSequence e = omega (arith, e)
+code_nonzero NoSource e = omega (arith, e)
+code_nonzero IntoItself e = omega (arith, e)

@@ -4,6 +4,7 @@
 ghost use Rattle.std.specs.Prelude.{◌≡◌};
 ghost use Rattle.calls.specs.Attempt.{number_of};
 ghost use Rattle.calls.specs.Outcome.{code, outcome_of};
+ghost use Rattle.calls.specs.Answers.{report_seen, area_report_seen, read_seen, tree_seen, created_seen};
 
 // The limits, of document 01 and by T-06: areas of a list, places of the tables, the shortest area, the largest image.
 pub const MOST_AREAS: usize = 16;
@@ -76,7 +77,7 @@ pub struct Handle {
 
 // The state of a volume: distinct inode ids, live ones, damage stretches and their bytes, and where the first stretch lies in the image.
 #[repr(C)]
-#[derive(Clone, Copy)]
+#[derive(Clone, Copy, Default)]
 pub struct Report {
     pub number: u32,
     pub inodes: u32,
@@ -90,7 +91,7 @@ pub struct Report {
 // One area: its kind, id and collection count by its header; records, damage stretches and their bytes, and bytes of free space by its reading;
 // and where one of the stretches lies, from the area's start.
 #[repr(C)]
-#[derive(Clone, Copy)]
+#[derive(Clone, Copy, Default)]
 pub struct AreaReport {
     pub number: u32,
     pub kind: u32,
@@ -123,8 +124,15 @@ pub struct Opened {
 }
 
 // How many bytes a read gave, and how many block headers it followed.
-#[repr(C)]
 #[derive(Clone, Copy)]
+pub struct BytesRead {
+    pub given: u32,
+    pub headers: u32,
+}
+
+// The same, as C sees it.
+#[repr(C)]
+#[derive(Clone, Copy, Default)]
 pub struct ReadAnswer {
     pub number: u32,
     pub given: u32,
@@ -133,7 +141,7 @@ pub struct ReadAnswer {
 
 // How long the text of the tree is, all of it.
 #[repr(C)]
-#[derive(Clone, Copy)]
+#[derive(Clone, Copy, Default)]
 pub struct TreeAnswer {
     pub number: u32,
     pub length: u32,
@@ -141,7 +149,7 @@ pub struct TreeAnswer {
 
 // A created inode.
 #[repr(C)]
-#[derive(Clone, Copy)]
+#[derive(Clone, Copy, Default)]
 pub struct Created {
     pub number: u32,
     pub id: u32,
@@ -163,5 +171,79 @@ pub fn number(outcome: Result<(), Refusal>) -> u32
     match outcome {
         Ok(()) => 0,
         Err(refusal) => refusal.number(),
+    }
+}
+
+impl From<Result<Report, Refusal>> for Report {
+    ghost from_gives = { λ outcome answer. answer ≡ report_seen outcome };
+
+    fn from(outcome: Result<Report, Refusal>) -> Report {
+        match outcome {
+            Ok(report) => report,
+            Err(refusal) => Report {
+                number: refusal.number(),
+                ..Report::default()
+            },
+        }
+    }
+}
+
+impl From<Result<AreaReport, Refusal>> for AreaReport {
+    ghost from_gives = { λ outcome answer. answer ≡ area_report_seen outcome };
+
+    fn from(outcome: Result<AreaReport, Refusal>) -> AreaReport {
+        match outcome {
+            Ok(report) => report,
+            Err(refusal) => AreaReport {
+                number: refusal.number(),
+                ..AreaReport::default()
+            },
+        }
+    }
+}
+
+impl From<Result<BytesRead, Refusal>> for ReadAnswer {
+    ghost from_gives = { λ outcome answer. answer ≡ read_seen outcome };
+
+    fn from(outcome: Result<BytesRead, Refusal>) -> ReadAnswer {
+        match outcome {
+            Ok(BytesRead { given, headers }) => ReadAnswer {
+                number: 0,
+                given,
+                headers,
+            },
+            Err(refusal) => ReadAnswer {
+                number: refusal.number(),
+                ..ReadAnswer::default()
+            },
+        }
+    }
+}
+
+impl From<Result<u32, Refusal>> for TreeAnswer {
+    ghost from_gives = { λ outcome answer. answer ≡ tree_seen outcome };
+
+    fn from(outcome: Result<u32, Refusal>) -> TreeAnswer {
+        match outcome {
+            Ok(length) => TreeAnswer { number: 0, length },
+            Err(refusal) => TreeAnswer {
+                number: refusal.number(),
+                ..TreeAnswer::default()
+            },
+        }
+    }
+}
+
+impl From<Result<u32, Refusal>> for Created {
+    ghost from_gives = { λ outcome answer. answer ≡ created_seen outcome };
+
+    fn from(outcome: Result<u32, Refusal>) -> Created {
+        match outcome {
+            Ok(id) => Created { number: 0, id },
+            Err(refusal) => Created {
+                number: refusal.number(),
+                ..Created::default()
+            },
+        }
     }
 }

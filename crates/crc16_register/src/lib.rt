@@ -10,7 +10,7 @@ ghost use Rattle.crc_laws.specs.Table.{Tables};
 fn pair(b: u8, c: u8) -> u16
     ensures { result ≡ b * 256 + c }
 {
-    (b as u16) * 256 + (c as u16)
+    u16::from(b) * 256 + u16::from(c)
 }
 
 // The register `x` two bytes later, without a table: what is left of it and 16 zero bits, divided by the polynomial.
@@ -23,18 +23,18 @@ fn remainder(x: u16) -> u16
 }
 
 // The register `x` four bytes later, by the tables of its high byte and of its low one.
-fn later(high: &[u16], low: &[u16], x: u16) -> u16
+fn later(high: &[u16; 256], low: &[u16; 256], x: u16) -> u16
     requires { Tables high.now low.now }
     ensures { result ≡ crc_bits 32 x }
 {
-    high[(x / 256) as usize] ^ low[(x % 256) as usize]
+    high[usize::from(x / 256)] ^ low[usize::from(x % 256)]
 }
 
 // The register after one byte.
 pub fn one(r: u16, b: u8) -> u16
     ensures { result ≡ crc_byte r b }
 {
-    remainder((r / 256) ^ (b as u16)) ^ ((r % 256) * 256)
+    remainder((r / 256) ^ u16::from(b)) ^ ((r % 256) * 256)
 }
 
 // The register after two bytes.
@@ -45,7 +45,7 @@ pub fn two(r: u16, b: u8, c: u8) -> u16
 }
 
 // The register after four bytes.
-pub fn four(high: &[u16], low: &[u16], r: u16, b: u8, c: u8, d: u8, e: u8) -> u16
+pub fn four(high: &[u16; 256], low: &[u16; 256], r: u16, b: u8, c: u8, d: u8, e: u8) -> u16
     requires { Tables high.now low.now }
     ensures { result ≡ crc_byte (crc_byte (crc_byte (crc_byte r b) c) d) e }
 {

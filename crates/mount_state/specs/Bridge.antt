@@ -1,6 +1,6 @@
 -- What the tables of a mounted volume tell of the volume that the calls speak of: places for bytes, and parts for slices.
 use Rattle.std.specs.Prelude.{ℕ, ◌+◌, ◌-◌, ◌≤◌, ◌<◌, ◌≡◌, List, length, take, drop}
-use Rattle.std.proofs.Common.{sym, ap, ap₂, ◌∙◌, arith, length-take, get_or-take}
+use Rattle.std.proofs.Common.{sym, ap, subst, ◌∙◌, arith, length-take, get_or-take}
 use Rattle.format.specs.Bytes.{Bytes}
 use Rattle.volume.specs.View.{by_bytes}
 use Rattle.volume.specs.Counting.{inode_of, inode_ids, volume_of}
@@ -17,7 +17,7 @@ use Rattle.area_list.specs.Described.{described}
 use Rattle.area_pass.specs.Listing.{AreasFit}
 use Rattle.area_pass.specs.Bridge.{placed_volume, volume_places}
 use Rattle.area_pass.specs.Rows.{spans_at}
-use Rattle.table_rows.specs.Parts.{part_long, lent, lent_front, both}
+use Rattle.table_rows.specs.Parts.{part_long, lent, both}
 use Rattle.table_rows.specs.Laws.{rows_number}
 use Rattle.table_rows.specs.Rows.{InodeTable, BlockTable, RowsOf}
 use Rattle.mount_state.specs.State.{inode_ids_in, inode_spots_in, inode_ids_at, inode_spots_at, block_ids_at, block_spots_at, Safe, Holds, SafePlaces, HoldsPlaces}
@@ -52,11 +52,11 @@ module _ {image : Bytes} {m : Mounted} {t : List ℕ} (s : Safe image m t) where
   pub blocks_few : length (take (block_ids_at + m.blocks - block_ids_at) (drop block_ids_at t)) ≤ most_blocks
   blocks_few = omega (arith, s.blocks_few, length-take (block_ids_at + m.blocks - block_ids_at) (drop block_ids_at t))
 
-  pub fit_lent : AreasFit image (take (m.files - 0) t) (take (spans_at + m.files - spans_at) (drop spans_at t))
-  fit_lent = both (AreasFit image) (lent_front m.files t) (lent spans_at m.files t) s.fit
+  pub fit_lent : AreasFit image (take m.files t) (take (spans_at + m.files - spans_at) (drop spans_at t))
+  fit_lent = subst (AreasFit image (take m.files t)) (sym (lent spans_at m.files t)) s.fit
 
-  pub starts_few : length (take (m.files - 0) t) ≤ most_areas
-  starts_few = omega (arith, s.files_few, length-take (m.files - 0) t)
+  pub starts_few : length (take m.files t) ≤ most_areas
+  starts_few = omega (arith, s.files_few, length-take m.files t)
 
 module _ {image : Bytes} {ds : List Descriptor} {m : Mounted} {t : List ℕ} (h : Holds image ds m t) where
   pub rows_lent : RowsOf (by_place image) (placed_volume image ds).inodes
@@ -67,8 +67,8 @@ module _ {image : Bytes} {ds : List Descriptor} {m : Mounted} {t : List ℕ} (h 
       (take (block_ids_at + m.blocks - block_ids_at) (drop block_ids_at t)) (take (block_spots_at + m.blocks - block_spots_at) (drop block_spots_at t))
   block_rows_lent = both (RowsOf (by_place image) (placed_volume image ds).blocks) (lent block_ids_at m.blocks t) (lent block_spots_at m.blocks t) h.blocks
 
-  pub files_lent : described (take (m.files - 0) t) (take (spans_at + m.files - spans_at) (drop spans_at t)) ≡ file_areas image ds
-  files_lent = ap₂ described (lent_front m.files t) (lent spans_at m.files t) ∙ h.files
+  pub files_lent : described (take m.files t) (take (spans_at + m.files - spans_at) (drop spans_at t)) ≡ file_areas image ds
+  files_lent = ap (described (take m.files t)) (lent spans_at m.files t) ∙ h.files
 
 -- ---- how many inodes and blocks there are
 
@@ -82,17 +82,17 @@ module _ {image : Bytes} {ds : List Descriptor} {m : Mounted} {t : List ℕ} (s 
       ∙ rows_number (by_place image) (placed_volume image ds).inodes (length (inode_ids_in m t)) (inode_ids_in m t) (inode_spots_in m t) h.inodes (omega arith)
       ∙ ap length (ids_are image ds)
 
--- ---- the places of all records, as `&places[0..records]` lends them
+-- ---- the places of all records, as `&places[..records]` lends them
 
 pub places_lent : {image : Bytes} {m : Mounted} {ps : List ℕ} → SafePlaces image m ps
-    → AllLie image (take (m.records - 0) ps) (length (take (m.records - 0) ps)) × (length (take (m.records - 0) ps) ≤ most_records)
+    → AllLie image (take m.records ps) (length (take m.records ps)) × (length (take m.records ps) ≤ most_records)
 places_lent {image} {m} {ps} s =
-    let e = length-take (m.records - 0) ps in (
-      λ i h. let k : i < m.records - 0 = omega arith in rw (get_or-take (m.records - 0) ps i 0 k) (s.lie i (omega arith)),
+    let e = length-take m.records ps in (
+      λ i h. let k : i < m.records = omega arith in rw (get_or-take m.records ps i 0 k) (s.lie i (omega arith)),
       omega (arith, s.records_few),
     )
 
 -- what they name is what the volume names
 pub names_lent : (image : Bytes) (ds : List Descriptor) (m : Mounted) (ps : List ℕ) → HoldsPlaces image ds m ps
-    → named_ids (over_volume (bytes_at image) (volume_of (by_place image) (take (m.records - 0) ps))) ≡ named_ids (volume image ds)
-names_lent image ds m ps h = rw (lent_front m.records ps, h) (ap named_ids (sym (volume_places image ds)))
+    → named_ids (over_volume (bytes_at image) (volume_of (by_place image) (take m.records ps))) ≡ named_ids (volume image ds)
+names_lent image ds m ps h = rw h (ap named_ids (sym (volume_places image ds)))

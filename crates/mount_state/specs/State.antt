@@ -1,13 +1,15 @@
 -- What a mounted volume is: where its parts stand, what the code relies on for any tables, and what the tables hold.
-use Rattle.std.specs.Prelude.{ℕ, ◌+◌, ◌≤◌, ◌<◌, ◌≡◌, ◌≢◌, List, [], ◌∷◌, length, take}
+use Rattle.std.specs.Prelude.{ℕ, ◌+◌, ◌≤◌, ◌<◌, ◌≡◌, List, [], ◌∷◌, length, take, Result, Ok, Err}
 use Rattle.format.specs.Bytes.{Bytes}
 use Rattle.record_places.specs.Place.{by_place, AllLie}
 use Rattle.table_rows.specs.Parts.{part}
 use Rattle.table_rows.specs.Rows.{InodeTable, BlockTable, RowsOf}
 use Rattle.calls.specs.Areas.{most_areas, file_areas, scratch_areas}
 use Rattle.calls.specs.Mount.{most_inodes, most_blocks, most_records, mount_number}
+use Rattle.calls.specs.Outcome.{code}
 use Rattle.calls.specs.Report.{damage_in}
 use Rattle.calls.specs.declared.Descriptor.{Descriptor}
+use Rattle.calls.specs.declared.Refusal.{Refusal}
 use Rattle.area_damage.specs.Damage.{damage_of}
 use Rattle.area_pass.specs.Rows.{spans_at, area_rows, area_at, Tells, Small}
 use Rattle.area_list.specs.Described.{described}
@@ -89,23 +91,14 @@ pub record SafePlaces (image : Bytes) (m : Mounted) (places : List ℕ) : Type 0
 abbrev pub HoldsPlaces : Bytes → List Descriptor → Mounted → List ℕ → Type 0
 HoldsPlaces image ds m places = take m.records places ≡ places_in image (file_areas image ds)
 
--- a refused mount's other numbers are 0
-abbrev pub refused_mount : ℕ → Mounted
-refused_mount n = record {
-  number = n;
-  files = 0;
-  records = 0;
-  inodes = 0;
-  blocks = 0;
-  damage = record { stretches = 0; skipped = 0; offset = 0; length = 0 };
-  scratch = record { offset = 0; length = 0 };
-}
+-- the lent slices hold the volume, with the places of its records
+pub record Held (image : Bytes) (ds : List Descriptor) (m : Mounted) (tables places : List ℕ) : Type 0 where
+  pub safe : Safe image m tables
+  pub holds : Holds image ds m tables
+  pub safe_places : SafePlaces image m places
+  pub holds_places : HoldsPlaces image ds m places
 
 -- what a mount answers and leaves; what the lent slices hold after a refused one has no meaning
-pub record Mounts (image : Bytes) (ds : List Descriptor) (m : Mounted) (tables places : List ℕ) : Type 0 where
-  pub number : m.number ≡ mount_number image ds
-  pub refused : m.number ≢ 0 → m ≡ refused_mount m.number
-  pub safe : m.number ≡ 0 → Safe image m tables
-  pub holds : m.number ≡ 0 → Holds image ds m tables
-  pub safe_places : m.number ≡ 0 → SafePlaces image m places
-  pub holds_places : m.number ≡ 0 → HoldsPlaces image ds m places
+abbrev pub Mounts : Bytes → List Descriptor → Result Mounted Refusal → List ℕ → List ℕ → Type 0
+Mounts image ds (Ok m) tables places = Held image ds m tables places
+Mounts image ds (Err r) tables places = code r ≡ mount_number image ds

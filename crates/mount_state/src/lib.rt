@@ -17,11 +17,10 @@ pub const BLOCK_SPOTS: usize = BLOCK_IDS + MOST_BLOCKS;
 
 pub const TABLES: usize = BLOCK_SPOTS + MOST_BLOCKS;
 
-// The answer of a mount: the number of refusal, or 0 with how many file areas, records, inodes and blocks there are, the damage of the file areas
-// with its first stretch, and the scratch area.
+// What a mount answers: how many file areas, records, inodes and blocks there are, the damage of the file areas with its first stretch, and the
+// scratch area.
 #[derive(Clone, Copy)]
 pub struct Mounted {
-    pub number: u32,
     pub files: usize,
     pub records: usize,
     pub inodes: usize,

@@ -4,13 +4,14 @@
 ghost use Rattle.std.specs.Prelude.{◌≡◌, ◌+◌, ◌≤◌};
 ghost use Rattle.format.specs.Bytes.{le32};
 ghost use Rattle.format.specs.Record.{inode};
-ghost use Rattle.record_places.specs.Place.{block_at, size_at, by_place, Lies};
+ghost use Rattle.record_places.specs.Place.{block_at, size_at, bytes_at, by_place, Lies};
 
 use byte_equal::equal;
-use byte_fields::{load16, load32, wide};
+use byte_fields::{load16, load32};
 use record_read::{BlockHeader, ID_AT, InodeHeader, LINK_AT, SEQUENCE_AT};
 
 // The 32-bit field at `k` of the header of the record at `p`; the shorter header, an inode's, has 20 bytes.
+#[tactic(auto, using(crate::specs::Laws::size_least))]
 fn word_at(image: &[u8], p: u32, k: usize) -> u32
     requires lies { Lies image.now p }
     requires k_bound { k + 4 ≤ inode.header_size }
@@ -60,28 +61,34 @@ pub fn is_block_at(image: &[u8], p: u32) -> bool
 }
 
 // Its size.
+#[tactic(auto, using(crate::specs::Laws::size_block, crate::specs::Laws::size_inode, crate::specs::Laws::size_least))]
 pub fn size_at(image: &[u8], p: u32) -> usize
     requires { Lies image.now p }
     ensures { result ≡ size_at image.now p }
 {
     if is_block_at(image, p) {
-        return BlockHeader::SIZE + load16(image, p as usize + BlockHeader::LENGTH_AT) as usize;
+        BlockHeader::SIZE + load16(image, p as usize + BlockHeader::LENGTH_AT) as usize
+    } else {
+        InodeHeader::SIZE + usize::from(image[p as usize + InodeHeader::LENGTH_AT])
     }
-    InodeHeader::SIZE + wide(image[p as usize + InodeHeader::LENGTH_AT]) as usize
+}
+
+// Its bytes.
+#[tactic(auto, unfolding(crate::specs::Place::bytes_at))]
+fn bytes_at(image: &[u8], p: u32) -> &[u8]
+    requires { Lies image.now p }
+    ensures { result.now ≡ bytes_at image.now p }
+{
+    let at = p as usize;
+    &image[at..at + size_at(image, p)]
 }
 
 // Whether the records at `p` and `q` have the same bytes. Their ids tell most records apart at once.
+#[tactic(auto, using(crate::specs::Laws::ids_apart))]
 pub fn same_bytes(image: &[u8], p: u32, q: u32) -> bool
     requires lies { Lies image.now p }
     requires lies_2 { Lies image.now q }
     ensures { result ≡ (by_place image.now).same p q }
 {
-    if id_at(image, p) != id_at(image, q) {
-        return false;
-    }
-    let a = p as usize;
-    let b = q as usize;
-    let e = a + size_at(image, p);
-    let f = b + size_at(image, q);
-    equal(&image[a..e], &image[b..f])
+    id_at(image, p) == id_at(image, q) && equal(bytes_at(image, p), bytes_at(image, q))
 }

@@ -17,11 +17,10 @@ ghost use Rattle.format.specs.Record.{
   acceptable,
   record_size,
 };
-ghost use Rattle.crc_laws.specs.Table.{Tables};
 ghost use Rattle.record_read.specs.Headers.{inode_header, block_header};
 
-use byte_crc16::check_by;
-use byte_fields::{load16, load32, wide};
+use byte_crc16::CheckTables;
+use byte_fields::{load16, load32};
 
 // The id of nothing: no parent, no block before this one.
 pub const NONE: u32 = 0xffffffff;
@@ -67,6 +66,7 @@ pub struct BlockHeader {
 }
 
 // Whether an id is one of a directory.
+#[tactic(auto, unfolding(format::specs::Ids::is_directory_id))]
 pub fn is_directory_id(id: u32) -> bool
     ensures { result ≡ is_directory_id id }
 {
@@ -74,6 +74,7 @@ pub fn is_directory_id(id: u32) -> bool
 }
 
 // Whether an id is one of a file.
+#[tactic(auto, unfolding(format::specs::Ids::is_file_id))]
 pub fn is_file_id(id: u32) -> bool
     ensures { result ≡ is_file_id id }
 {
@@ -81,6 +82,7 @@ pub fn is_file_id(id: u32) -> bool
 }
 
 // Whether an id is one of a block.
+#[tactic(auto, unfolding(format::specs::Ids::is_block_id))]
 pub fn is_block_id(id: u32) -> bool
     ensures { result ≡ is_block_id id }
 {
@@ -100,6 +102,7 @@ impl InodeHeader {
     pub const LENGTH_AT: usize = 17;
 
     // The header at the front of `b`.
+    #[tactic(auto, unfolding(crate::specs::Headers::inode_header))]
     pub fn load(b: &[u8]) -> InodeHeader
         requires { 20 ≤ length b.now }
         ensures { result ≡ inode_header b.now }
@@ -108,11 +111,12 @@ impl InodeHeader {
             id: load32(b, ID_AT),
             sequence: load32(b, SEQUENCE_AT),
             parent: load32(b, LINK_AT),
-            length: wide(b[InodeHeader::LENGTH_AT]),
+            length: u32::from(b[InodeHeader::LENGTH_AT]),
         }
     }
 
     // Whether id, parent and name length go together.
+    #[tactic(auto, unfolding(format::specs::Record::inode_rule, format::specs::Ids::is_inode_id))]
     pub fn rule(self) -> bool
         ensures { result ≡ inode_rule self.id self.parent self.length }
     {
@@ -122,24 +126,16 @@ impl InodeHeader {
         if self.id == ROOT {
             return self.parent == NONE && self.length == 0;
         }
-        if self.parent == NONE {
-            return true;
-        }
-        self.parent < FIRST_FILE_ID && 0 < self.length
+        self.parent == NONE || (is_directory_id(self.parent) && 0 < self.length)
     }
 }
 
 // Whether a block of the id `id` may name `previous` as the one before it.
+#[tactic(auto, unfolding(format::specs::Record::previous_rule))]
 fn previous_rule(id: u32, previous: u32) -> bool
     ensures { result ≡ previous_rule id previous }
 {
-    if previous == NONE {
-        return true;
-    }
-    if previous == id {
-        return false;
-    }
-    is_block_id(previous)
+    previous == NONE || (previous != id && is_block_id(previous))
 }
 
 impl BlockHeader {
@@ -155,6 +151,7 @@ impl BlockHeader {
     pub const LENGTH_AT: usize = 20;
 
     // The header at the front of `b`.
+    #[tactic(auto, unfolding(crate::specs::Headers::block_header))]
     pub fn load(b: &[u8]) -> BlockHeader
         requires { 24 ≤ length b.now }
         ensures { result ≡ block_header b.now }
@@ -169,64 +166,47 @@ impl BlockHeader {
     }
 
     // Whether id, owner, previous and data length go together.
+    #[tactic(auto, unfolding(format::specs::Record::block_rule))]
     pub fn rule(self) -> bool
         ensures { result ≡ block_rule self.id self.owner self.previous self.length }
     {
-        if is_block_id(self.id) {} else {
-            return false;
-        }
-        if is_file_id(self.owner) {} else {
-            return false;
-        }
-        if previous_rule(self.id, self.previous) {} else {
-            return false;
-        }
-        0 < self.length && self.length <= LONGEST_DATA
+        is_block_id(self.id)
+            && is_file_id(self.owner)
+            && previous_rule(self.id, self.previous)
+            && 0 < self.length
+            && self.length <= LONGEST_DATA
     }
 }
 
 // Whether a name has no '/' and no NUL.
+#[tactic(auto, unfolding(format::specs::Record::name_good))]
 pub fn name_good(s: &[u8]) -> bool
     ensures { result ≡ name_good s.now }
 {
-    let mut i = 0;
-    while i < s.len() {
-        let b = s[i];
-        if b == 0 {
-            return false;
-        }
-        if b == b'/' {
-            return false;
-        }
-        i += 1;
-    }
-    true
+    s.iter().all(|b| *b != 0 && *b != b'/')
 }
 
 // Whether the check field at `offset`, the last of a header of `size` bytes, is right for the record `b`.
-fn check_right(high: &[u16], low: &[u16], b: &[u8], offset: usize, size: usize) -> bool
-    requires tables { Tables high.now low.now }
-    requires offset_in_bounds { (offset + 2 ≤ length b.now) × (size ≤ length b.now) }
+fn check_right(tables: &CheckTables, b: &[u8], offset: usize, size: usize) -> bool
+    requires { (offset + 2 ≤ length b.now) × (size ≤ length b.now) }
     ensures { result ≡ eqb (le16 b.now offset) (check (take offset b.now) (drop size b.now)) }
 {
-    load16(b, offset) == check_by(high, low, &b[..offset], &b[size..]) as u32
+    load16(b, offset) == u32::from(tables.check(&b[..offset], &b[size..]))
 }
 
 // The rules of an inode: of its reserved byte, of its header's fields, and of its name.
+#[tactic(auto, unfolding(format::specs::Record::inode_rules, crate::specs::Headers::inode_header))]
 fn inode_rules(b: &[u8]) -> bool
     requires { 20 ≤ length b.now }
     ensures { result ≡ inode_rules b.now }
 {
-    if b[InodeHeader::RESERVED_AT] != 0 {
-        return false;
-    }
-    if InodeHeader::load(b).rule() {} else {
-        return false;
-    }
-    name_good(&b[InodeHeader::SIZE..])
+    b[InodeHeader::RESERVED_AT] == 0
+        && InodeHeader::load(b).rule()
+        && name_good(&b[InodeHeader::SIZE..])
 }
 
 // The rules of a block: of its header's fields.
+#[tactic(auto, unfolding(format::specs::Record::block_rules, crate::specs::Headers::block_header))]
 fn block_rules(b: &[u8]) -> bool
     requires { 24 ≤ length b.now }
     ensures { result ≡ block_rules b.now }
@@ -236,86 +216,64 @@ fn block_rules(b: &[u8]) -> bool
 
 // The size of the record whose bytes are `b`, with a header of `size` bytes and the check field at `offset`; 0 if its rules, which `lawful` tells, or
 // its check are broken.
-fn right_size(
-    high: &[u16],
-    low: &[u16],
-    b: &[u8],
-    lawful: bool,
-    offset: usize,
-    size: usize,
-) -> usize
-    requires tables { Tables high.now low.now }
-    requires offset_in_bounds { (offset + 2 ≤ length b.now) × (size ≤ length b.now) }
+fn right_size(tables: &CheckTables, b: &[u8], lawful: bool, offset: usize, size: usize) -> usize
+    requires { (offset + 2 ≤ length b.now) × (size ≤ length b.now) }
     ensures { result ≡ cond (lawful && eqb (le16 b.now offset) (check (take offset b.now) (drop size b.now))) (length b.now) 0 }
 {
-    if lawful {} else {
-        return 0;
+    if lawful && check_right(tables, b, offset, size) {
+        b.len()
+    } else {
+        0
     }
-    if check_right(high, low, b, offset, size) {
-        return b.len();
-    }
-    0
 }
 
 // The size of the inode at the front of `t`, which has the magic of one; 0 if it is not acceptable.
-fn inode_size(high: &[u16], low: &[u16], t: &[u8]) -> usize
-    requires tables { Tables high.now low.now }
-    requires in_bounds { (20 ≤ length t.now) × (le32 t.now 0 ≡ inode.magic) }
+fn inode_size(tables: &CheckTables, t: &[u8]) -> usize
+    requires { (20 ≤ length t.now) × (le32 t.now 0 ≡ inode.magic) }
     ensures { result ≡ record_size t.now }
 {
-    let end = InodeHeader::SIZE + wide(t[InodeHeader::LENGTH_AT]) as usize;
-    if t.len() < end {
+    let end = InodeHeader::SIZE + usize::from(t[InodeHeader::LENGTH_AT]);
+    let Some(record) = t.get(..end) else {
         return 0;
-    }
-    let lawful = inode_rules(&t[..end]);
+    };
     right_size(
-        high,
-        low,
-        &t[..end],
-        lawful,
+        tables,
+        record,
+        inode_rules(record),
         InodeHeader::CHECK_OFFSET,
         InodeHeader::SIZE,
     )
 }
 
 // The same for a block.
-fn block_size(high: &[u16], low: &[u16], t: &[u8]) -> usize
-    requires tables { Tables high.now low.now }
-    requires in_bounds { (24 ≤ length t.now) × (le32 t.now 0 ≡ block.magic) }
+fn block_size(tables: &CheckTables, t: &[u8]) -> usize
+    requires { (24 ≤ length t.now) × (le32 t.now 0 ≡ block.magic) }
     ensures { result ≡ record_size t.now }
 {
     let end = BlockHeader::SIZE + load16(t, BlockHeader::LENGTH_AT) as usize;
-    if t.len() < end {
+    let Some(record) = t.get(..end) else {
         return 0;
-    }
-    let lawful = block_rules(&t[..end]);
+    };
     right_size(
-        high,
-        low,
-        &t[..end],
-        lawful,
+        tables,
+        record,
+        block_rules(record),
         BlockHeader::CHECK_OFFSET,
         BlockHeader::SIZE,
     )
 }
 
 // The size of the acceptable record at the front of `t`, 0 where there is none. The tables of the check are lent.
-pub fn record_size(high: &[u16], low: &[u16], t: &[u8]) -> usize
-    requires { Tables high.now low.now }
+#[tactic(auto, using(format_laws::specs::Record::too_short, format_laws::specs::Record::no_magic, format_laws::specs::Record::only_block, format_laws::specs::Record::kind_short))]
+pub fn record_size(tables: &CheckTables, t: &[u8]) -> usize
     ensures { result ≡ record_size t.now }
 {
     if t.len() < InodeHeader::SIZE {
         return 0;
     }
-    let magic = load32(t, 0);
-    if magic == InodeHeader::MAGIC {
-        return inode_size(high, low, t);
+    match load32(t, 0) {
+        InodeHeader::MAGIC => inode_size(tables, t),
+        BlockHeader::MAGIC if BlockHeader::SIZE <= t.len() => block_size(tables, t),
+        _ => 0,
     }
-    if magic != BlockHeader::MAGIC {
-        return 0;
-    }
-    if t.len() < BlockHeader::SIZE {
-        return 0;
-    }
-    block_size(high, low, t)
 }

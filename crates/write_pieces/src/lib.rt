@@ -24,7 +24,7 @@ use mount_state::Mounted;
 use record_read::{BlockHeader, FIRST_BLOCK_ID};
 use record_write::write_block;
 use write_ids::{ID_WORDS, mark_named, take_id};
-use write_room::{Place, find_spaces, take_place};
+use write_room::{find_spaces, take_place};
 use write_sizes::smaller;
 
 // Takes a place for each piece; answers whether there is room for all.
@@ -43,7 +43,7 @@ fn take_places(
     let mut i = 0;
     while start < text.len() {
         let n = smaller(size, text.len() - start);
-        let Place::At(at) = take_place(&mut *froms, ends, BlockHeader::SIZE + n) else {
+        let Some(at) = take_place(froms, ends, BlockHeader::SIZE + n) else {
             return false;
         };
         places[i] = at;

@@ -27,7 +27,7 @@ use mount_state::Mounted;
 use record_places::sequence_at;
 use record_read::{BlockHeader, GREATEST_SEQUENCE, ID_AT, LINK_AT, SEQUENCE_AT};
 use record_write::write_changed;
-use write_room::{Place, find_spaces, take_place};
+use write_room::{find_spaces, take_place};
 
 // The bytes of a file from `from` up to `to`.
 #[derive(Clone, Copy)]
@@ -108,7 +108,7 @@ fn take_places(
     while i < sizes.len() {
         let n = sizes[i] as usize;
         if holds(range, s, n) {
-            let Place::At(at) = take_place(&mut *froms, ends, BlockHeader::SIZE + n) else {
+            let Some(at) = take_place(froms, ends, BlockHeader::SIZE + n) else {
                 return false;
             };
             places[k] = at;

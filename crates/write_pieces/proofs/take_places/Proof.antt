@@ -30,14 +30,14 @@ returns c =
     placing_fails c.requires.0.1 c.loop-start.invariant c.loop-start-test.true c.smaller-n.result c.smaller-n.ensures c.take_place.result c.take_place.new.froms c.take_place.ensures c.in_default.is
 
 -- there is a row for the place
-row : (c : tie.In-At invariant-loop decreases-loop) → c.loop-start.i < length c.loop-start.places
+row : (c : tie.In-Some invariant-loop decreases-loop) → c.loop-start.i < length c.loop-start.places
 row c =
     placing_room c.requires.0.1 c.loop-start.invariant c.loop-start-test.true c.smaller-n.result c.smaller-n.ensures
 
 loop-again : tie.Need-loop-start-preserved invariant-loop decreases-loop
 loop-again c =
     placing_on c.requires.0.1 c.loop-start.invariant c.loop-start-test.true c.smaller-n.result c.smaller-n.ensures c.take_place.result c.take_place.new.froms c.take_place.ensures c.take_place.auto.froms
-    c.in-At.at c.in-At.is
+    c.in-Some.at c.in-Some.is
 
 returns-2 : tie.Need-returns invariant-loop decreases-loop
 returns-2 c =

@@ -37,7 +37,7 @@ loop-again : tie.Need-loop-i-preserved-then-holds invariant-loop decreases-loop
 loop-again c =
     taking_on c.loop-i.invariant c.loop-i-test.true (sym c.holds.ensures ∙ c.if-holds.true)
     c.take_place.result c.take_place.new.froms c.take_place.ensures
-    (c.loop-i.invariant.planning.places_long ∙ c.requires.0.1) c.take_place.auto.froms c.in-At.at c.in-At.is
+    (c.loop-i.invariant.planning.places_long ∙ c.requires.0.1) c.take_place.auto.froms c.in-Some.at c.in-Some.is
 
 loop-again-2 : tie.Need-loop-i-preserved invariant-loop decreases-loop
 loop-again-2 c =

@@ -1,0 +1,5 @@
+use Rattle.area_erased.specs.Erased.{ErasedFrom}
+use Rattle.area_erased.proofs.erased_end.Given as goal
+
+abbrev pub invariant-loop-i : goal.invariant-loop-i
+invariant-loop-i l = ErasedFrom l.s l.i

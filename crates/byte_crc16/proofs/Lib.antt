@@ -1,0 +1,2 @@
+-- The laws that only this crate's functions cite.
+pub mod Chunks
