@@ -12,7 +12,6 @@ use Rattle.calls.specs.Areas.{largest_image, area_bytes, good_area}
 use Rattle.calls.specs.Mount.{most_records}
 use Rattle.calls.specs.AreaReport.{area_report, refused_area_report, area_report_number, area_report_of}
 use Rattle.calls.specs.declared.Descriptor.{Descriptor}
-use Rattle.calls.specs.declared.AreaReport.{AreaReport}
 use Rattle.area_list.specs.Numbers.{area_list}
 use Rattle.area_list.specs.Described.{area_of}
 use Rattle.area_list.specs.Listing.{pair_holds, paired_at, paired_length}
@@ -50,9 +49,9 @@ module _ (image : Bytes) (areas : List ℕ) (n i : ℕ) (g : GoodList image area
       go (yes z) = rw (g.refused z)
       go (no z) = rw (g.passed z, list_length z, le-leb n i h)
 
-  pub area_refused : n ≤ i → (k : ℕ) (r : AreaReport) → r ≡ refused_area_report 1 → r ≡ area_report_of image (area_list areas) i k
+  pub area_refused : n ≤ i → (k : ℕ) → refused_area_report 1 ≡ area_report_of image (area_list areas) i k
   unfolding area_report_of
-  area_refused h k r e = e ∙ rw (number_refused h)
+  area_refused h k = rw (number_refused h)
 
   module _ (h : i < n) where
     abbrev here : Descriptor
