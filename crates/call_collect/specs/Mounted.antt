@@ -12,7 +12,6 @@ use Rattle.calls.specs.Attempt.{number_of, leaves}
 use Rattle.calls.specs.Collect.{source_of, collected, collect_from, collecting, collect_of, image_collected}
 use Rattle.calls.specs.declared.Descriptor.{Descriptor}
 use Rattle.record_places.specs.Place.{by_place, AllLie}
-use Rattle.table_rows.specs.Parts.{lent_front}
 use Rattle.area_list.specs.Described.{area_of, described, described_at}
 use Rattle.area_kinds.specs.Checks.{area_checks, mount_refused}
 use Rattle.area_kinds.specs.Places.{AreasPass, areas_pass}
@@ -32,11 +31,11 @@ use Rattle.call_collect.specs.Source.{copies_fit, moved_copies}
 -- the places of the records, as they are lent, and the copies of an area among them
 abbrev pub copies_of : Bytes → Mounted → List ℕ → List ℕ → Descriptor → List ℕ
 copies_of image m tables places s =
-    copied_places image s.offset s.length (take (m.records - 0) places) (tables_of m.inodes m.blocks tables)
+    copied_places image s.offset s.length (take m.records places) (tables_of m.inodes m.blocks tables)
 
 -- what `list_copies` asks
 pub copies_lent : {image : Bytes} {m : Mounted} {tables places : List ℕ} → Safe image m tables → SafePlaces image m places
-    → (copies : List ℕ) → length copies ≡ most_copies → Lent image (take (m.records - 0) places) m.inodes m.blocks tables copies
+    → (copies : List ℕ) → length copies ≡ most_copies → Lent image (take m.records places) m.inodes m.blocks tables copies
 copies_lent s p copies l = record {
   lie = (places_lent p).0;
   rows = record { long = s.long; inodes_few = s.inodes_few; blocks_few = s.blocks_few; inodes = s.inodes.usable; blocks = s.blocks.usable };
@@ -66,7 +65,7 @@ module _ {image : Bytes} {m : Mounted} {tables : List ℕ} (s : Safe image m tab
 
     pub area_copies_lie : AllLie image copies (length copies)
     area_copies_lie =
-        copies_lie image (file_at tables r).offset (file_at tables r).length (take (m.records - 0) places) (tables_of m.inodes m.blocks tables) (places_lent p).0
+        copies_lie image (file_at tables r).offset (file_at tables r).length (take m.records places) (tables_of m.inodes m.blocks tables) (places_lent p).0
 
     pub area_removable : r < m.files → fits image m.scratch copies ≡ true → Removable image m.scratch (file_at tables r) copies
     area_removable h e =
@@ -100,8 +99,8 @@ module _ {image : Bytes} {ds : List Descriptor} {m : Mounted} {tables : List ℕ
     file_area : Memᴰ s (file_areas image ds)
     file_area = subst (λ l. Memᴰ s l) h.files (row_file safe r among)
 
-    listed : take (m.records - 0) places ≡ places_in image (file_areas image ds)
-    listed = lent_front m.records places ∙ p
+    listed : take m.records places ≡ places_in image (file_areas image ds)
+    listed = p
 
     pub area_fits : fits image m.scratch (copies_of image m tables places s) ≡ true
     area_fits = rw listed (copies_fit image ds pass m.scratch one_scratch s file_area (tables_of m.inodes m.blocks tables) rows)

@@ -2,58 +2,70 @@
 #![tactic(auto)]
 
 ghost use Rattle.std.specs.Prelude.{◌≡◌, List, ◌<◌};
+ghost use Rattle.calls.specs.Attempt.{number_of};
+ghost use Rattle.calls.specs.Outcome.{outcome_of};
 ghost use Rattle.calls.specs.Collect.{collected, collect_of, image_collected};
 ghost use Rattle.calls.specs.declared.Descriptor.{Descriptor};
 ghost use Rattle.mount_state.specs.State.{Safe, Holds, SafePlaces, HoldsPlaces};
 ghost use Rattle.call_collect.specs.Mounted.{file_at};
 
 use area_pass::SPANS;
-use calls::NO_SOURCE;
+use calls::Refusal;
 use collect_copies::{MOST_COPIES, list_copies};
 use collect_source::choose_source;
 use collect_stores::{fits, move_records};
 use mount_state::Mounted;
 
-// Collects the file area of a row of a mounted volume into scratch; answers 0. Where the copies do not fit, which the tables of no image that
-// mounts bring about, it stores nothing and answers as if there were no source.
-fn collect_from(image: &mut [u8], tables: &[u32], places: &[u16], m: Mounted, source: usize) -> u32
+// Collects the file area of a row of a mounted volume into scratch. Where the copies do not fit, which the tables of no image that mounts bring
+// about, it stores nothing and answers as if there were no source.
+fn collect_from(
+    image: &mut [u8],
+    tables: &[u32],
+    places: &[u16],
+    m: Mounted,
+    source: usize,
+) -> Result<(), Refusal>
     requires safe { Safe image.old m tables.now }
     requires safe_places { SafePlaces image.old m places.now }
     requires source_lt_files { source < m.files }
-    ensures { (ds : List Descriptor) → Holds image.old ds m tables.now → HoldsPlaces image.old ds m places.now → (result ≡ 0) × (image.new ≡ collected image.old ds m.scratch (file_at tables.now source)) }
+    ensures { (ds : List Descriptor) → Holds image.old ds m tables.now → HoldsPlaces image.old ds m places.now → (number_of (outcome_of result) ≡ 0) × (image.new ≡ collected image.old ds m.scratch (file_at tables.now source)) }
 {
     let mut copies = [0u16; MOST_COPIES];
-    let n = m.records;
     let offset = tables[source];
     let span = tables[SPANS + source];
     let k = list_copies(
-        &*image,
+        image,
         offset,
         span,
-        &places[0..n],
+        &places[..m.records],
         tables,
         m.inodes,
         m.blocks,
-        &mut copies[..],
+        &mut copies,
     );
-    if fits(&*image, m.scratch, &copies[..k]) {} else {
-        return NO_SOURCE;
+    if !fits(image, m.scratch, &copies[..k]) {
+        return Err(Refusal::NoSource);
     }
-    move_records(&mut *image, offset, span, m.scratch, &copies[..k]);
-    0
+    move_records(image, offset, span, m.scratch, &copies[..k]);
+    Ok(())
 }
 
-// Collects a mounted volume; answers the number of refusal, or 0.
-pub fn collect_mounted(image: &mut [u8], tables: &[u32], places: &[u16], m: Mounted) -> u32
+// Collects a mounted volume.
+pub fn collect_mounted(
+    image: &mut [u8],
+    tables: &[u32],
+    places: &[u16],
+    m: Mounted,
+) -> Result<(), Refusal>
     requires safe { Safe image.old m tables.now }
     requires safe_places { SafePlaces image.old m places.now }
-    ensures { (ds : List Descriptor) → Holds image.old ds m tables.now → HoldsPlaces image.old ds m places.now → (result ≡ collect_of image.old ds) × (image.new ≡ image_collected image.old ds) }
+    ensures { (ds : List Descriptor) → Holds image.old ds m tables.now → HoldsPlaces image.old ds m places.now → (number_of (outcome_of result) ≡ collect_of image.old ds) × (image.new ≡ image_collected image.old ds) }
 {
     let n = m.files;
     let end = SPANS + n;
-    let source = choose_source(&*image, &tables[0..n], &tables[SPANS..end], m.scratch);
+    let source = choose_source(image, &tables[..n], &tables[SPANS..end], m.scratch);
     if source < n {
-        return collect_from(&mut *image, tables, places, m, source);
+        return collect_from(image, tables, places, m, source);
     }
-    NO_SOURCE
+    Err(Refusal::NoSource)
 }

@@ -4,13 +4,15 @@
 ghost use Rattle.std.specs.Prelude.{◌≡◌, true, cond, ◌≤◌, ◌<◌, length};
 ghost use Rattle.format.specs.AreaHeader.{scratch_id};
 ghost use Rattle.area_list.specs.Numbers.{paired, area_list};
+ghost use Rattle.calls.specs.Attempt.{number_of};
+ghost use Rattle.calls.specs.Outcome.{outcome_of};
 ghost use Rattle.calls.specs.Format.{longest_length, labelled, blanked, rooted, formatted, format_number, image_formatted};
 ghost use Rattle.call_format.specs.Areas.{Lent, scratch_here, next_file, first_file};
 
 use area_list::count_good_areas;
 use area_read::{HEADER_SIZE, SCRATCH_ID};
 use area_write::write_area;
-use calls::{BAD_AREAS, NO_FILE_OR_SCRATCH};
+use calls::Refusal;
 use record_read::{InodeHeader, NONE};
 use record_write::write_inode;
 
@@ -116,19 +118,19 @@ fn format_areas(image: &mut [u8], pairs: &[u32])
     write_root(&mut *image, pairs, most);
 }
 
-// Formats the image under a list of areas; answers the number of refusal, or 0.
-pub fn format(image: &mut [u8], areas: &[u32]) -> u32
-    ensures number { result ≡ format_number image.old (area_list areas.now) }
+// Formats the image under a list of areas.
+pub fn format(image: &mut [u8], areas: &[u32]) -> Result<(), Refusal>
+    ensures number { number_of (outcome_of result) ≡ format_number image.old (area_list areas.now) }
     ensures image { image.new ≡ image_formatted image.old (area_list areas.now) }
 {
-    let n = count_good_areas(&*image, areas);
+    let n = count_good_areas(image, areas);
     if n == 0 {
-        return BAD_AREAS;
+        return Err(Refusal::BadAreas);
     }
     if n == 1 {
-        return NO_FILE_OR_SCRATCH;
+        return Err(Refusal::NoFileOrScratch);
     }
     let end = n * 2;
-    format_areas(&mut *image, &areas[0..end]);
-    0
+    format_areas(image, &areas[..end]);
+    Ok(())
 }

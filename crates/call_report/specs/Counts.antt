@@ -1,5 +1,5 @@
 -- The inodes and the live ones by their rows, and the report.
-use Rattle.std.specs.Prelude.{ℕ, ◌≤◌, ◌≡◌, ◌≢◌, List, length, take}
+use Rattle.std.specs.Prelude.{ℕ, ◌≤◌, ◌≡◌, List, length, take}
 use Rattle.std.proofs.Common.{sym, ap, ◌∙◌, arith, length-take}
 use borrow.Author.Tests.{eq-eqb, ne_eqb}
 use Rattle.format.specs.Bytes.{Bytes}
@@ -13,11 +13,12 @@ use Rattle.inode_fate.specs.Fates.{live_by, live_rows}
 use Rattle.inode_fate.specs.Laws.{live_rows_lem}
 use Rattle.calls.specs.Mount.{volume, mount_number}
 use Rattle.calls.specs.Report.{refused_report, mounted_report, report_of}
+use Rattle.calls.specs.Outcome.{code, code_nonzero}
 use Rattle.calls.specs.declared.Descriptor.{Descriptor}
-use Rattle.calls.specs.declared.Report.{Report}
+use Rattle.calls.specs.declared.Refusal.{Refusal}
 use Rattle.area_pass.specs.Bridge.{placed_volume, volume_places}
 use Rattle.area_damage.specs.Damage.{damage_of}
-use Rattle.mount_state.specs.State.{inode_ids_in, inode_spots_in, Safe, Holds, Mounts}
+use Rattle.mount_state.specs.State.{inode_ids_in, inode_spots_in, Safe, Holds}
 use Rattle.mount_state.specs.Bridge.{inodes_number}
 use Rattle.mount_state.specs.declared.Mounted.{Mounted}
 
@@ -26,10 +27,9 @@ pub live_few : (image : Bytes) (n : ℕ) (ids spots : List ℕ) → length (live
 unfolding live_rows
 live_few image n ids spots = omega (arith, keep_shorter (live_by (by_place image) n ids spots) (take n ids), length-take n ids)
 
-pub report_refused : {image : Bytes} {ds : List Descriptor} {m : Mounted} {t ps : List ℕ} → Mounts image ds m t ps → m.number ≢ 0
-    → (r : Report) → r ≡ refused_report m.number → r ≡ report_of image ds
+pub report_refused : (image : Bytes) (ds : List Descriptor) (r : Refusal) → code r ≡ mount_number image ds → refused_report (code r) ≡ report_of image ds
 unfolding report_of
-report_refused {image} {ds} c h r e = e ∙ rw (c.number, ne_eqb (mount_number image ds) 0 (λ z. h (c.number ∙ z)))
+report_refused image ds r e = rw (e, ne_eqb (mount_number image ds) 0 (λ z. code_nonzero r (e ∙ z)))
 
 module _ {image : Bytes} {ds : List Descriptor} {m : Mounted} {t : List ℕ} (s : Safe image m t) (h : Holds image ds m t) where
   live_are : length (live_rows (by_place image) (length (inode_ids_in m t)) (inode_ids_in m t) (inode_spots_in m t)) ≡ length (live_ids by_bytes (volume image ds))

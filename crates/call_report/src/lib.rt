@@ -2,28 +2,13 @@
 #![tactic(auto)]
 
 ghost use Rattle.std.specs.Prelude.{◌≡◌, List};
-ghost use Rattle.calls.specs.Report.{refused_report, report_of};
+ghost use Rattle.calls.specs.Report.{report_of};
 ghost use Rattle.calls.specs.declared.Descriptor.{Descriptor};
 ghost use Rattle.mount_state.specs.State.{Safe, Holds};
 
 use calls::Report;
 use inode_fate::live_count;
 use mount_state::{INODE_IDS, INODE_SPOTS, Mounted};
-
-// A refused report.
-pub fn refused_report(number: u32) -> Report
-    ensures { result ≡ refused_report number }
-{
-    Report {
-        number,
-        inodes: 0,
-        live: 0,
-        stretches: 0,
-        skipped: 0,
-        first_offset: 0,
-        first_length: 0,
-    }
-}
 
 // The report, by the rows of inodes and the damage that the mount found: no area is read again.
 pub fn report_mounted(image: &[u8], tables: &[u32], m: Mounted) -> Report

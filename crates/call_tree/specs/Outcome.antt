@@ -1,5 +1,5 @@
 -- What the tree of a mounted volume is.
-use Rattle.std.specs.Prelude.{ℕ, ◌≤◌, ◌≡◌, ◌≢◌, true, false, List, eqb}
+use Rattle.std.specs.Prelude.{ℕ, ◌≤◌, ◌≡◌, ◌≢◌, true, false, List, eqb, Err}
 use Rattle.std.proofs.Common.{sym, ap, ◌∙◌, arith}
 use Rattle.std.proofs.Math.Option.{none, some}
 use Rattle.std.proofs.Math.Nat.{zero-add}
@@ -15,7 +15,10 @@ use Rattle.volume_laws.specs.Listing.{ids_shown, shown_few}
 use Rattle.volume_laws.specs.Map.{over, show_directory_map, tree_text_map}
 use Rattle.calls.specs.Mount.{volume, mount_number, no_root}
 use Rattle.calls.specs.Tree.{attempt_tree, tree_answer, buffer_with}
+use Rattle.calls.specs.Outcome.{code, code_nonzero}
+use Rattle.calls.specs.Answers.{tree_seen}
 use Rattle.calls.specs.declared.Descriptor.{Descriptor}
+use Rattle.calls.specs.declared.Refusal.{Refusal}
 use Rattle.calls.specs.declared.TreeAnswer.{TreeAnswer}
 use Rattle.calls_laws.specs.Checks.{passes}
 use Rattle.calls_laws.specs.Records.{volume_sound}
@@ -85,9 +88,8 @@ root_found image ds e z =
     omega (arith, c)
 
 -- a refused mount is passed on, and nothing is written
-pub tree_refused : {image : Bytes} {ds : List Descriptor} {n : ℕ} → n ≡ mount_number image ds → n ≢ 0 → (x : Bytes)
-    → Answers image ds x x (record { number = n; length = 0 })
+pub tree_refused : (image : Bytes) (ds : List Descriptor) (r : Refusal) → code r ≡ mount_number image ds → (x : Bytes) → Answers image ds x x (tree_seen (Err r))
 unfolding attempt_tree tree_answer buffer_with
-tree_refused {image} {ds} {n} e h x =
-    let z : eqb (mount_number image ds) 0 ≡ false = ne_eqb (mount_number image ds) 0 (λ q. h (e ∙ q)) in
+tree_refused image ds r e x =
+    let z : eqb (mount_number image ds) 0 ≡ false = ne_eqb (mount_number image ds) 0 (λ q. code_nonzero r (e ∙ q)) in
     record { answer = rw (attempt_tree, z, ← e); buffer = rw (attempt_tree, z) }

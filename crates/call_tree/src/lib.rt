@@ -9,6 +9,7 @@ ghost use Rattle.volume.specs.Counting.{Volume, inode_of};
 ghost use Rattle.volume.specs.Listing.{most_depth, show_directory, tree_text};
 ghost use Rattle.volume_laws.specs.Listing.{ids_shown};
 ghost use Rattle.calls.specs.Mount.{most_inodes, most_blocks};
+ghost use Rattle.calls.specs.Answers.{tree_seen};
 ghost use Rattle.calls.specs.declared.Descriptor.{Descriptor};
 ghost use Rattle.record_places.specs.Place.{by_place};
 ghost use Rattle.table_rows.specs.Rows.{BlockTable};
@@ -18,19 +19,12 @@ ghost use Rattle.tree_show.specs.Show.{Lists};
 ghost use Rattle.mount_state.specs.State.{Safe, Holds};
 ghost use Rattle.call_tree.specs.Outcome.{Answers};
 
-use calls::{NO_ROOT, TreeAnswer};
+use calls::Refusal;
 use inode_order::order_inodes;
 use mount_state::{BLOCK_IDS, BLOCK_SPOTS, INODE_IDS, INODE_SPOTS, Mounted};
 use record_read::ROOT;
 use table_rows::find;
 use tree_show::show_tree;
-
-// A refused listing.
-pub fn not_listed(number: u32) -> TreeAnswer
-    ensures { result ≡ record { number = number; length = 0 } }
-{
-    TreeAnswer { number, length: 0 }
-}
 
 // Puts the inodes at their places in order, and shows the tree of which the root is at `root`; `ids` and `spots` are those of the blocks.
 fn show_ordered(
@@ -56,17 +50,18 @@ fn show_ordered(
     show_tree(image, ids, spots, &order[..n], text, root)
 }
 
-// The tree of a mounted volume: as much of its text as fits goes into the front of `text`; `order` is lent to put the inodes in order.
+// The tree of a mounted volume: as much of its text as fits goes into the front of `text`, and how long all of it is is answered; `order` is lent to put
+// the inodes in order.
 pub fn tree_mounted(
     image: &[u8],
     tables: &[u32],
     m: Mounted,
     order: &mut [u32],
     text: &mut [u8],
-) -> TreeAnswer
+) -> Result<u32, Refusal>
     requires safe { Safe image.now m tables.now }
     requires order_len { length order.old ≡ most_inodes }
-    ensures { (ds : List Descriptor) → Holds image.now ds m tables.now → Answers image.now ds text.old text.new result }
+    ensures { (ds : List Descriptor) → Holds image.now ds m tables.now → Answers image.now ds text.old text.new (tree_seen result) }
 {
     let ids_end = INODE_IDS + m.inodes;
     let spots_end = INODE_SPOTS + m.inodes;
@@ -74,7 +69,7 @@ pub fn tree_mounted(
     let block_spots_end = BLOCK_SPOTS + m.blocks;
     let spots = &tables[INODE_SPOTS..spots_end];
     let Some(root) = find(&tables[INODE_IDS..ids_end], spots, ROOT) else {
-        return not_listed(NO_ROOT);
+        return Err(Refusal::NoRoot);
     };
     let length = show_ordered(
         image,
@@ -85,8 +80,5 @@ pub fn tree_mounted(
         text,
         root,
     );
-    TreeAnswer {
-        number: 0,
-        length: length as u32,
-    }
+    Ok(length as u32)
 }

@@ -85,5 +85,5 @@ pub fn choose_source(image: &[u8], starts: &[u32], spans: &[u32], scratch: Descr
     if leading < starts.len() {
         return leading;
     }
-    position(spans, spans.len(), wanted)
+    position(spans, wanted)
 }

@@ -7,8 +7,8 @@ use Rattle.volume.specs.Fate.{Fate, live, dead, orphan, is_live, fate_within}
 use Rattle.table_rows.specs.Table.{found}
 use Rattle.inode_fate.specs.declared.Fate.{Fate as Told}
 use Rattle.inode_fate.specs.declared.Fate.TheVariants.{Live, Dead, Orphan}
-use Rattle.inode_fate.specs.declared.Step.{Step}
-use Rattle.inode_fate.specs.declared.Step.TheVariants.{Ends, Above}
+use Rattle.std.specs.declared.ops.ControlFlow.{ControlFlow}
+use Rattle.std.specs.declared.ops.ControlFlow.TheVariants.{Continue, Break}
 
 abbrev pub meaning : Told → Fate
 meaning Live = live
@@ -16,9 +16,9 @@ meaning Dead = dead
 meaning Orphan = orphan
 
 -- what the chain of parents does: its fate, or the parent's id
-abbrev pub step_of : Step → Fate ⊎ ℕ
-step_of (Ends f) = inl (meaning f)
-step_of (Above i) = inr i
+abbrev pub step_of : ControlFlow Told ℕ → Fate ⊎ ℕ
+step_of (Break f) = inl (meaning f)
+step_of (Continue i) = inr i
 
 abbrev pub parent_up : View ℕ → Fate ⊎ ℕ → Fate ⊎ ℕ
 parent_up F (inl f) = inl f

@@ -1,6 +1,6 @@
--- The laws of fates by a table: one step up a chain of parents, the live ids, and the volume whose inodes the rows are.
-use Prim.Native.Nat.{ℕ, suc, ◌+◌, ◌-◌, ◌≤◌, ◌<◌}
-use Rattle.std.specs.Prelude.{◌≡◌, refl, ◌⊎◌, ◌≢◌, Bool, true, false, List, take, drop, get_or}
+-- The laws of fates by a table: one step up a chain of parents, and the volume whose inodes the rows are.
+use Prim.Native.Nat.{ℕ, suc, ◌-◌, ◌≤◌, ◌<◌}
+use Rattle.std.specs.Prelude.{◌≡◌, refl, ◌⊎◌, ◌≢◌, List}
 use Rattle.std.proofs.Math.Path.{sym, ap}
 use Rattle.std.proofs.Common.{◌∙◌, inl, inr}
 use Rattle.std.proofs.Math.Option.{Option, none, some}
@@ -8,12 +8,10 @@ use native.Mathlib.Omega.{arith}
 use Rattle.std.proofs.Math.ListN.{length}
 use borrow.Author.Tests.{eq-eqb, ne_eqb}
 use Rattle.format.specs.Ids.{NONE, root_id}
-use Rattle.volume.specs.Lists.{keep}
 use Rattle.volume.specs.View.{View}
 use Rattle.volume.specs.Counting.{Volume, inode_of, inode_ids}
 use Rattle.volume.specs.Fate.{Fate, live, dead, orphan, is_live, ascend, climb, fate_within, fate_of, live_ids}
 use Rattle.volume_laws.specs.Lists.{keep_cong}
-use Rattle.volume_laws.specs.Steps.{front_step, front_end}
 use Rattle.volume_laws.specs.Climb.{climb_stop, climb_on, climb_same}
 use Rattle.table_rows.specs.Table.{found, Rows}
 use Rattle.table_rows.specs.Laws.{rows_number}
@@ -69,36 +67,6 @@ module _ {X : Type 0} (F : View ℕ) (stop : Fate → X) (on : ℕ → X → X) 
         go (inl g) q e = let z : ◌≡◌ {A = ℕ} 0 1 = cc in absurd (omega arith)
         go (inr r) q e = let z : F.parent r ≡ p = cc in
             (r, z, ap (λ j. climb F stop on c j i) suc_less ∙ climb_on F stop on c (k - 1) i r q ∙ ap (λ j. on r (climb F stop on c (k - 1) j)) z)
-
--- ---- the live among the first n ids, an id at a time
-
--- i of the first n ids are passed, and `live` of them pass a test
-pub record Counted (f : ℕ → Bool) (n : ℕ) (l : List ℕ) (live i : ℕ) : Type 0 where
-  pub within : i ≤ n
-  pub few : live ≤ i
-  pub with_rest : live + length (keep f (drop i (take n l))) ≡ length (keep f (take n l))
-
-pub count_starts : (f : ℕ → Bool) (n : ℕ) (l : List ℕ) → Counted f n l 0 0
-count_starts f n l = record { within = omega arith; few = omega arith; with_rest = omega arith }
-
-module _ (f : ℕ → Bool) (n : ℕ) (l : List ℕ) (long : n ≤ length l) (live i : ℕ) (so_far : Counted f n l live i) where
-  pub count_one : i < n → f (get_or l i 0) ≡ true → Counted f n l (live + 1) (i + 1)
-  unfolding keep
-  count_one h e =
-      let s : length (keep f (drop i (take n l))) ≡ suc (length (keep f (drop (i + 1) (take n l)))) = rw (front_step l n i long h, e) in
-      record { within = omega arith; few = omega (arith, so_far.few); with_rest = omega (arith, so_far.with_rest) }
-
-  pub count_none : i < n → f (get_or l i 0) ≡ false → Counted f n l live (i + 1)
-  unfolding keep
-  count_none h e =
-      let s : length (keep f (drop i (take n l))) ≡ length (keep f (drop (i + 1) (take n l))) = rw (front_step l n i long h, e) in
-      record { within = omega arith; few = omega (arith, so_far.few); with_rest = omega (arith, so_far.with_rest) }
-
-  pub count_ends : n ≤ i → live ≡ length (keep f (take n l))
-  unfolding keep
-  count_ends h =
-      let s : length (keep f (drop i (take n l))) ≡ 0 = rw (front_end l n i long h) in
-      omega (arith, so_far.with_rest)
 
 -- ---- the volume whose inodes the first n rows are
 

@@ -10,7 +10,7 @@ use area_damage::Damage;
 use area_kinds::check_areas;
 use area_pass::list_areas;
 use byte_crc16::{high_table, low_table};
-use calls::{Descriptor, MOST_BLOCKS, MOST_INODES, NO_ROOT};
+use calls::{Descriptor, MOST_BLOCKS, MOST_INODES, Refusal};
 use mount_state::{INODE_IDS, Mounted, TABLES};
 use record_read::ROOT;
 use table_fill::{ID_INDEX, TWIN_INDEX, gather};
@@ -50,7 +50,7 @@ fn fill_tables(image: &[u8], places: &[u16], n: usize, rows: &mut [u32]) -> Fill
     let mut bwords = [0u64; BLOCK_WORDS];
     let mut ids = [0u16; ID_INDEX];
     let mut twins = [0u16; TWIN_INDEX];
-    let number = gather(
+    let gathered = gather(
         image,
         places,
         n,
@@ -60,14 +60,14 @@ fn fill_tables(image: &[u8], places: &[u16], n: usize, rows: &mut [u32]) -> Fill
         &mut *rows,
         &mut twins[..],
     );
-    if number != 0 {
-        return unfilled(number);
+    if let Err(refusal) = gathered {
+        return unfilled(refusal.number());
     }
     let inodes = taken(&iwords[..]);
     let blocks = taken(&bwords[..]);
     let end = MOST_INODES + inodes;
     let Some(_) = find(&rows[0..inodes], &rows[MOST_INODES..end], ROOT) else {
-        return unfilled(NO_ROOT);
+        return unfilled(Refusal::NoRoot.number());
     };
     Filled {
         number: 0,

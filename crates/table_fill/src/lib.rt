@@ -3,12 +3,14 @@
 
 ghost use Rattle.std.specs.Prelude.{◌≡◌, [], ◌∷◌, ◌++◌, ◌≤◌, ◌<◌, length, take};
 ghost use Rattle.volume.specs.Counting.{all_agree};
+ghost use Rattle.calls.specs.Attempt.{number_of};
+ghost use Rattle.calls.specs.Outcome.{outcome_of};
 ghost use Rattle.record_places.specs.Place.{by_place, Lies, AllLie};
 ghost use Rattle.table_fill.specs.Gather.{AllGood, twins, Tabulates, Ready, Gathered};
 ghost use Rattle.table_fill.specs.Parts.{tables_in, Room, Indexed};
 ghost use Rattle.table_fill.specs.Twins.{slot_of_twins, TwinIndex, NoTwins};
 
-use calls::{CONFLICT, MOST_BLOCKS, MOST_INODES, MOST_RECORDS, TOO_MANY_IDS};
+use calls::{MOST_BLOCKS, MOST_INODES, MOST_RECORDS, Refusal};
 use record_places::{id_at, is_block_at, same_bytes, sequence_at};
 use table_index::{SLOTS, before, newest, put, slot_of};
 use table_rows::{Updated, update};
@@ -34,10 +36,7 @@ fn are_twins(image: &[u8], p: u32, q: u32) -> bool
     requires lies_2 { Lies image.now q }
     ensures { result ≡ twins (by_place image.now) p q }
 {
-    if id_at(image, p) != id_at(image, q) {
-        return false;
-    }
-    sequence_at(image, p) == sequence_at(image, q)
+    id_at(image, p) == id_at(image, q) && sequence_at(image, p) == sequence_at(image, q)
 }
 
 // The slot of the record at `p` in the index of all records: the same for all of its id and sequence.
@@ -60,12 +59,12 @@ fn still_agree(image: &[u8], places: &[u16], twins: &[u16], n: usize, p: u32, ag
     requires agreed_value { agreed ≡ all_agree (by_place image.now) (take n places.now) }
     ensures { result ≡ all_agree (by_place image.now) (take n places.now ++ (p ∷ [])) }
 {
-    if agreed {} else {
+    if !agreed {
         return false;
     }
     let mut k = newest(twins, twin_slot(image, p));
     while 0 < k {
-        let q = places[k - 1] as u32;
+        let q = u32::from(places[k - 1]);
         if are_twins(image, p, q) {
             return same_bytes(image, p, q);
         }
@@ -110,7 +109,7 @@ fn tabulate(
     )
 }
 
-// Puts the records at the first `n` places into empty tables, and answers 5 or 6 where they are refused, else 0; `ids` and `twins` are empty indexes.
+// Puts the records at the first `n` places into empty tables, unless refusal 5 or 6 is theirs; `ids` and `twins` are empty indexes.
 // One pass: a full table answers 5 at once, and a clash is only noted, so that 5 comes before 6 wherever the records lie.
 // A record that counts now has a sequence greater than all before of its id, so it has no twin to be compared with.
 pub fn gather(
@@ -122,30 +121,26 @@ pub fn gather(
     ids: &mut [u16],
     rows: &mut [u32],
     twins: &mut [u16],
-) -> u32
+) -> Result<(), Refusal>
     requires ready { Ready image.now places.now n (tables_in iwords.old bwords.old rows.old) }
     requires room { Room iwords.old bwords.old rows.old }
     requires indexed { Indexed iwords.old bwords.old ids.old rows.old }
     requires no_twins { NoTwins image.now places.now twins.old n }
-    ensures { Gathered image.now (take n places.now) (tables_in iwords.old bwords.old rows.old) result (tables_in iwords.new bwords.new rows.new) }
+    ensures { Gathered image.now (take n places.now) (tables_in iwords.old bwords.old rows.old) (number_of (outcome_of result)) (tables_in iwords.new bwords.new rows.new) }
 {
     let mut agreed = true;
-    let mut i = 0;
-    while i < n {
-        let p = places[i] as u32;
-        let updated = tabulate(image, &mut *iwords, &mut *bwords, &mut *ids, &mut *rows, p);
-        match updated {
-            Updated::Full => return TOO_MANY_IDS,
-            Updated::Newer => {
-                put(&mut *twins, twin_slot(image, p), i + 1);
-                i += 1;
-            }
-            Updated::Older => {
-                agreed = still_agree(image, places, &*twins, i, p, agreed);
-                put(&mut *twins, twin_slot(image, p), i + 1);
-                i += 1;
-            }
+    for i in 0..n {
+        let p = u32::from(places[i]);
+        match tabulate(image, &mut *iwords, &mut *bwords, &mut *ids, &mut *rows, p) {
+            Updated::Full => return Err(Refusal::TooManyIds),
+            Updated::Newer => {}
+            Updated::Older => agreed = still_agree(image, places, &*twins, i, p, agreed),
         }
+        put(&mut *twins, twin_slot(image, p), i + 1);
     }
-    if agreed { 0 } else { CONFLICT }
+    if agreed {
+        Ok(())
+    } else {
+        Err(Refusal::Conflict)
+    }
 }

@@ -27,7 +27,7 @@ pub fn newest(index: &[u16], slot: usize) -> usize
     requires { (slot < slots) × (slots ≤ length index.now) }
     ensures { result ≡ newest_of index.now slot }
 {
-    index[slot] as usize
+    usize::from(index[slot])
 }
 
 // The item before an item in its slot, 0 if there is none.
@@ -35,7 +35,7 @@ pub fn before(index: &[u16], item: usize) -> usize
     requires { (0 < item) × (slots + item ≤ length index.now) }
     ensures { result ≡ before_of index.now item }
 {
-    index[SLOTS + item - 1] as usize
+    usize::from(index[SLOTS + item - 1])
 }
 
 // Puts an item into a slot.

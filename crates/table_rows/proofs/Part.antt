@@ -28,6 +28,10 @@ module _ {image : Bytes} {most : ℕ} {words part : List ℕ} (g : GoodPart imag
   pub taken_in : taken words ≤ length part
   taken_in = omega (arith, part_long, taken_few)
 
+  -- the lowest free row is the number of taken rows
+  pub number : (n : ℕ) → n ≡ first_zero (bits words) → n ≡ taken words
+  number n e = e ∙ low_first (bits words) g.good.low
+
   -- the record of a taken row lies in the image
   pub spot_lies : (k : ℕ) → k < taken words → Lies image (get_or part (most + k) 0)
   spot_lies k h = rw (get_or-drop most part k 0) at (g.good.lie k h)
@@ -73,7 +77,7 @@ module _ {image : Bytes} {most : ℕ} {words part : List ℕ} (g : GoodPart imag
           → free < most → bits words' ≡ set (bits words) free 1
           → IndexedPart most words' (with_item index (slot_of i) (free + 1)) (set (set part free i) (most + free) p)
       indexed_new h i free words' is first room took =
-          let f : free ≡ taken words = first ∙ low_first (bits words) g.good.low in
+          let f = number free first in
           let t : taken words' ≡ free + 1 = omega (arith, f, next_total words words' free g.good.low first (omega (arith, g.room)) took) in
           record {
             long = item_long index (slot_of i) (free + 1) ∙ x.long;

@@ -63,10 +63,5 @@ pub fn find(ids: &[u32], spots: &[u32], id: u32) -> Option<u32>
     requires { length spots.now ≡ length ids.now }
     ensures { meant result ≡ found (length ids.now) ids.now spots.now id }
 {
-    let n = ids.len();
-    let k = position(ids, n, id);
-    if k < n {
-        return Some(spots[k]);
-    }
-    None
+    spots.get(position(ids, id)).copied()
 }

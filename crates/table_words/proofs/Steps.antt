@@ -9,8 +9,10 @@ use Prim.Native.Nat.{ℕ, zero, suc, ◌+◌, ◌*◌, ◌≤◌, ◌<◌}
 use native.Mathlib.Nat.{suc-add}
 use native.Mathlib.Numerals.{add-one}
 use native.Mathlib.Omega.{arith}
-use lib.ListN.{length, set, get_or, take, drop, drop_of_length-le}
-use lib.Seq.{drop-cons, get_or-take, length-take-le, set-append_left}
+use lib.ListN.{length, set, get_or, drop, drop_of_length-le}
+use Rattle.std.specs.Prelude.{sum_by}
+use Rattle.std.proofs.lemmas.List.Recursion.{is_sum_by}
+use lib.Seq.{drop-cons, set-append_left}
 use Rattle.table_words.specs.Position.{position_of, Before, in_four}
 use Rattle.table_words.specs.Occupancy.{digits, bits, first_zero, total}
 use Rattle.table_words.specs.Laws.{position_hit, position_miss, position_left, position_right, total_append, length_digits}
@@ -35,34 +37,31 @@ none_of_four l i x e =
     let a = or_false (eqb (get_or l i 0) x) (eqb (get_or l (i + 1) 0) x) b.0 in
     record { first = eqb-false _ _ a.0; second = eqb-false _ _ a.1; third = eqb-false _ _ b.1; fourth = eqb-false _ _ c.1 }
 
--- ---- the search of the first n of a list's numbers, at i
+-- ---- the search of a list's numbers, at i
 
-module _ (x n i : ℕ) (l : List ℕ) (within : n ≤ length l) where
-  next_id : i < n → drop i (take n l) ≡ get_or l i 0 ∷ drop (i + 1) (take n l)
-  next_id h = rw (add-one, drop-cons (take n l) i 0 (rw (length-take-le n l within) h), get_or-take n l i 0 h)
+module _ (x i : ℕ) (l : List ℕ) where
+  next_id : i < length l → drop i l ≡ get_or l i 0 ∷ drop (i + 1) l
+  next_id h = rw (add-one, drop-cons l i 0)
 
-  pub search_hit : i < n → get_or l i 0 ≡ x → position_of x (drop i (take n l)) ≡ 0
-  search_hit h e = rw (next_id h) (position_hit x (get_or l i 0) (drop (i + 1) (take n l)) e)
+  pub search_hit : i < length l → get_or l i 0 ≡ x → position_of x (drop i l) ≡ 0
+  search_hit h e = rw (next_id h) (position_hit x (get_or l i 0) (drop (i + 1) l) e)
 
-  pub search_miss : i < n → (get_or l i 0 ≡ x → ⊥) → position_of x (drop i (take n l)) ≡ suc (position_of x (drop (i + 1) (take n l)))
-  search_miss h e = rw (next_id h) (position_miss x (get_or l i 0) (drop (i + 1) (take n l)) e)
+  pub search_miss : i < length l → (get_or l i 0 ≡ x → ⊥) → position_of x (drop i l) ≡ suc (position_of x (drop (i + 1) l))
+  search_miss h e = rw (next_id h) (position_miss x (get_or l i 0) (drop (i + 1) l) e)
 
-  pub search_end : n ≤ i → position_of x (drop i (take n l)) ≡ 0
+  pub search_end : length l ≤ i → position_of x (drop i l) ≡ 0
   unfolding position_of
-  search_end h = rw (drop_of_length-le (take n l) {i = i} (rw (length-take-le n l within) h))
+  search_end h = rw (drop_of_length-le l {i = i} h)
 
 -- x is not among the first none; one number more is not x, four more, and eight more
 pub before_none : (x : ℕ) (l : List ℕ) → Before x l 0
 before_none x l = record { within = omega arith; rest = omega arith }
 
-module _ (x n : ℕ) (l : List ℕ) (within : n ≤ length l) where
-  before_one : (i : ℕ) → i < n → get_or l i 0 ≢ x → Before x (take n l) i → Before x (take n l) (i + 1)
-  before_one i h d b = record {
-    within = omega (arith, length-take-le n l within);
-    rest = omega (arith, b.rest, search_miss x n i l within h d);
-  }
+module _ (x : ℕ) (l : List ℕ) where
+  before_one : (i : ℕ) → i < length l → get_or l i 0 ≢ x → Before x l i → Before x l (i + 1)
+  before_one i h d b = record { within = omega arith; rest = omega (arith, b.rest, search_miss x i l h d) }
 
-  before_four : (i : ℕ) → i + 4 ≤ n → in_four l i x ≡ false → Before x (take n l) i → Before x (take n l) (i + 4)
+  before_four : (i : ℕ) → i + 4 ≤ length l → in_four l i x ≡ false → Before x l i → Before x l (i + 4)
   before_four i h e b =
       let d = none_of_four l i x e in
       let p : i + 1 + 1 ≡ i + 2 = omega arith in
@@ -72,7 +71,7 @@ module _ (x n : ℕ) (l : List ℕ) (within : n ≤ length l) where
       (rw q at (before_one (i + 2) (omega arith) d.third
       (rw p at (before_one (i + 1) (omega arith) d.second (before_one i (omega arith) d.first b))))))
 
-  pub before_eight : (i : ℕ) → i + 8 ≤ n → (in_four l i x || in_four l (i + 4) x) ≡ false → Before x (take n l) i → Before x (take n l) (i + 8)
+  pub before_eight : (i : ℕ) → i + 8 ≤ length l → (in_four l i x || in_four l (i + 4) x) ≡ false → Before x l i → Before x l (i + 8)
   before_eight i h e b =
       let d = or_false (in_four l i x) (in_four l (i + 4) x) e in
       let p : i + 4 + 4 ≡ i + 8 = omega arith in
@@ -93,13 +92,15 @@ module _ (i : ℕ) (ws : List ℕ) (within : i < length ws) where
       let e = position_right 0 (digits 64 (get_or ws i 0)) (bits (drop (i + 1) ws)) (rw length_digits h) in
       rw next_word (omega (arith, length_digits 64 (get_or ws i 0)))
 
-  pub word_total : total (bits (drop i ws)) ≡ total (digits 64 (get_or ws i 0)) + total (bits (drop (i + 1) ws))
-  word_total = rw next_word (total_append _ _)
-
 -- past the last word there is no place
 pub words_end : (i : ℕ) (ws : List ℕ) → length ws ≤ i → bits (drop i ws) ≡ []
 unfolding bits
 words_end i ws h = rw (drop_of_length-le ws {i = i} h)
+
+-- the places taken of all words
+pub total_words : (ws : List ℕ) → total (bits ws) ≡ sum_by (λ w. total (digits 64 w)) ws
+unfolding bits total
+total_words = is_sum_by (λ ws. total (bits ws)) (λ w. total (digits 64 w)) refl (λ w ws. total_append (digits 64 w) (bits ws))
 
 -- ---- the word i stored with its place j taken
 

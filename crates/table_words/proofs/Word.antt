@@ -7,7 +7,7 @@ use native.Mathlib.Nat.{pow-suc, max-zero, max-eq_right, mul-div_cancel, mul-mod
 use native.Mathlib.Omega.{arith}
 use lib.Arith.{lt-one}
 use lib.Bits.{bit_or, or_step, or_zero_r}
-use lib.Count.{count_trailing_zeros, trailing_le, under, ones, ones_step}
+use lib.Count.{count_trailing_zeros, under, ones, ones_step}
 use lib.Dec.{eqb, lit<}
 use lib.ListN.{set}
 use Rattle.table_words.specs.Position.{position_of}
@@ -34,10 +34,6 @@ trailing_not (suc k) w h =
     let l : w < 2 ^ k * 2 = rw pow-suc at h in
     rw (pow-suc 2 k, lowest_not (2 ^ k) w l, half_not (2 ^ k) w l, trailing_not k (w / 2) (omega arith))
     (turned (w % 2) (first_zero (digits k (w / 2))) (omega arith))
-
--- a count so small fits the answer's type
-pub trailing_small : (w : ℕ) → count_trailing_zeros 64 w < 2 ^ 64
-trailing_small w = omega (arith, trailing_le 64 w)
 
 -- the count of ones: the number taken
 pub ones_total : (k w : ℕ) → w < 2 ^ k → ones w ≡ total (digits k w)

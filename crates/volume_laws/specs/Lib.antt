@@ -1,6 +1,7 @@
 -- Laws of what the records of a volume mean, for any view of records, in reading order.
 pub mod Tests
 pub mod Lists
+pub mod Library
 pub mod Steps
 pub mod Once
 pub mod Sort
