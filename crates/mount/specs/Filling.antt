@@ -1,5 +1,5 @@
 -- Checks 5 to 7 by the tables are those by the records, and the tables filled are those of a mounted volume.
-use Rattle.std.specs.Prelude.{Option as Answer, ℕ, ◌+◌, ◌-◌, ◌/◌, ◌≤◌, ◌<◌, ◌≡◌, refl, Bool, true, false, cond, List, [], ◌∷◌, length, take, drop, replicate}
+use Rattle.std.specs.Prelude.{Option as Answer, Result, Ok, Err, IfOk, ℕ, ◌+◌, ◌-◌, ◌/◌, ◌≤◌, ◌<◌, ◌≡◌, refl, Bool, true, false, cond, List, [], ◌∷◌, length, take, drop, replicate}
 use Rattle.std.proofs.Common.{sym, ap, ◌∙◌, arith, length-take, length-drop, get_or-take, get_or-drop}
 use Rattle.std.proofs.Math.Bool.{not}
 use Rattle.std.proofs.Math.Option.{Option, none, some}
@@ -19,13 +19,17 @@ use Rattle.table_words.specs.Laws.{total_within, fresh_total}
 use Rattle.table_rows.specs.Answer.{meant}
 use Rattle.table_rows.specs.Table.{taken, found, Rows, Good}
 use Rattle.table_rows.specs.Laws.{fresh_good, ids_room, spots_room}
-use Rattle.table_rows.specs.Parts.{part, part_long, part_part, part_first, lent, lent_front}
+use Rattle.table_rows.specs.Parts.{part, part_long, part_part, part_first, lent}
 use Rattle.table_index.specs.Rows.{no_rows}
 use Rattle.table_rows.specs.Rows.{IndexedPart, Usable, RowsOf, InodeTable, BlockTable, rows_exact, usable_exact, inode_table, block_table}
 use Rattle.table_fill.specs.Gather.{Tables, SameKind, overfull, Gathered}
 use Rattle.table_fill.specs.Gather.{Ready as GatherReady}
 use Rattle.table_fill.specs.Parts.{tables_in, Room, all_rows, inode_rows, block_rows, inode_part, block_part, inode_index_size, id_index_size, Indexed}
 use Rattle.table_fill.specs.Twins.{place_slot, NoTwins}
+use Rattle.calls.specs.Attempt.{number_of}
+use Rattle.calls.specs.Outcome.{code, code_nonzero, outcome_of}
+use Rattle.calls.specs.declared.Refusal.{Refusal}
+use Rattle.calls.specs.declared.Refusal.TheVariants.{NoRoot}
 use Rattle.calls.specs.Refusal.{Check, ◌refused_by◌, first_refusal}
 use Rattle.calls.specs.Mount.{most_inodes, most_blocks, most_records, records_in, too_many_ids, no_root}
 use Rattle.calls.specs.declared.Descriptor.{Descriptor}
@@ -70,9 +74,9 @@ pub record Rowed (image : Bytes) (ps : List ℕ) (r : Filled) (rows : List ℕ) 
   pub block_rows_lem : RowsOf (by_place image) (volume_of (by_place image) ps).blocks (part inode_rows r.blocks rows) (part (inode_rows + most_blocks) r.blocks rows)
 
 -- the answer of checks 5 to 7 for the file areas whose records the places are
-pub record Fills (image : Bytes) (places : List ℕ) (n : ℕ) (r : Filled) (rows : List ℕ) : Type 0 where
-  pub number : (fs : List Descriptor) → take n places ≡ places_in image fs → r.number ≡ first_refusal (checks_in image fs)
-  pub rowed : r.number ≡ 0 → Rowed image (take n places) r rows
+pub record Fills (image : Bytes) (places : List ℕ) (n : ℕ) (r : Result Filled Refusal) (rows : List ℕ) : Type 0 where
+  pub number : (fs : List Descriptor) → take n places ≡ places_in image fs → number_of (outcome_of r) ≡ first_refusal (checks_in image fs)
+  pub rowed : IfOk r (λ f. Rowed image (take n places) f rows)
 
 module _ (image : Bytes) (fs : List Descriptor) where
   abbrev v : Volume ℕ
@@ -227,10 +231,10 @@ exact image ps words a most rows h room good rw_s =
 -- the tables that `gather` left
 module _ (image : Bytes) (places : List ℕ) (n : ℕ) (rows : List ℕ) (number : ℕ) (iw bw rows' : List ℕ)
     (g : Gathered image (take n places) (fresh rows) number (tables_in iw bw rows')) (room : Room iw bw rows') where
-  pub fill_refused : (number ≡ 0 → ⊥) → Fills image places n (record { number = number; inodes = 0; blocks = 0 }) rows'
-  fill_refused h = record {
-    number = λ fs e. refused_records image fs rows number (rw e at g.number) h;
-    rowed = λ z. absurd (h z);
+  pub fill_refused : (r : Refusal) → number ≡ code r → Fills image places n (Err r) rows'
+  fill_refused r q = record {
+    number = λ fs e. sym q ∙ refused_records image fs rows number (rw e at g.number) (λ z. code_nonzero r (sym q ∙ z));
+    rowed = tt;
   }
 
   module _ (z : number ≡ 0) where
@@ -248,23 +252,23 @@ module _ (image : Bytes) (places : List ℕ) (n : ℕ) (rows : List ℕ) (number
 
     -- the search for the root, in the rows that are taken
     module _ (ni nb : ℕ) (ei : ni ≡ taken iw) (eb : nb ≡ taken bw) (s : Answer ℕ)
-        (e : meant s ≡ found (length (take (ni - 0) rows')) (take (ni - 0) rows') (take (most_inodes + ni - most_inodes) (drop most_inodes rows')) 0) where
+        (e : meant s ≡ found (length (take ni rows')) (take ni rows') (take (most_inodes + ni - most_inodes) (drop most_inodes rows')) 0) where
       sought : meant s ≡ found (length (part 0 (taken iw) rows')) (part 0 (taken iw) rows') (part most_inodes (taken iw) rows') 0
-      sought = e ∙ rw (lent_front ni rows', lent most_inodes ni rows', ei)
+      sought = e ∙ rw (lent most_inodes ni rows', ei)
 
       rooted : (fs : List Descriptor) → take n places ≡ places_in image fs → inode_of (by_place image) (volume_of (by_place image) (places_in image fs)) root_id ≡ meant s
       rooted fs l = (rw l at (inodes.rows.counts 0)) ∙ sym sought
 
-      pub fill_rootless : meant s ≡ none → Fills image places n (record { number = 7; inodes = 0; blocks = 0 }) rows'
+      pub fill_rootless : meant s ≡ none → Fills image places n (Err NoRoot) rows'
       fill_rootless q = record {
         number = λ fs l. no_root_lem image fs rows number (rw l at g.number) z (rooted fs l ∙ q);
-        rowed = λ y. absurd (omega arith);
+        rowed = tt;
       }
 
-      pub fill_passes : (p : ℕ) → meant s ≡ some p → Fills image places n (record { number = 0; inodes = ni; blocks = nb }) rows'
+      pub fill_passes : (p : ℕ) → meant s ≡ some p → Fills image places n (Ok (record { inodes = ni; blocks = nb })) rows'
       fill_passes p q = rw (ei, eb) (record {
         number = λ fs l. root_found image fs rows number (rw l at g.number) z p (rooted fs l ∙ q);
-        rowed = λ y. record {
+        rowed = record {
           inodes_few = inodes_few;
           blocks_few = blocks_few;
           inodes = inode_table inodes.usable (take n places) inodes.rows;
