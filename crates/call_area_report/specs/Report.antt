@@ -36,6 +36,9 @@ records_counted area ps r ps' s m e l =
     let few : r ≤ most_records = omega (arith, l.few) in
     (sym (length-take-le r ps' (omega arith)) ∙ ap length l.is ∙ places_length 0 (area_records record_size area), few)
 
+pub fits_long : (image : Bytes) (d : Descriptor) → AreaFits (length image) d → length (area_bytes image d) ≡ d.length
+fits_long image d f = omega (arith, length-take d.length (drop d.offset image), length-drop d.offset image, f.inside)
+
 -- the list is bad, or has no area i
 module _ (image : Bytes) (areas : List ℕ) (n i : ℕ) (g : GoodList image areas n) where
   list_length : n ≢ 0 → length (area_list areas) ≡ n
@@ -73,8 +76,8 @@ module _ (image : Bytes) (areas : List ℕ) (n i : ℕ) (g : GoodList image area
     pub area_fits : AreaFits (length image) here
     area_fits = fits (length image) here area_good
 
-    pub area_long : length (area_bytes image here) ≡ here.length
-    area_long = omega (arith, length-take here.length (drop here.offset image), length-drop here.offset image, area_fits.inside)
+    area_long : length (area_bytes image here) ≡ here.length
+    area_long = fits_long image here area_fits
 
     is_here : (e : Descriptor) → get_or (area_list areas) i e ≡ here
     is_here e = ap (λ (l : List Descriptor). get_or l i e) (sym (g.is (λ z. omega arith))) ∙ paired_at i (take (n * 2) areas) e front_long ∙ rw (offset_front, length_front)

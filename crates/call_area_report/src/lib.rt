@@ -7,14 +7,13 @@ ghost use Rattle.calls.specs.Mount.{most_records};
 ghost use Rattle.calls.specs.Answers.{area_report_seen};
 ghost use Rattle.calls.specs.AreaReport.{area_report_of};
 ghost use Rattle.area_list.specs.Numbers.{area_list};
-ghost use Rattle.area_list.specs.Described.{area_of};
 ghost use Rattle.call_area_report.specs.Header.{HeaderSays};
 
-use area_list::{area_end, count_good_areas};
+use area_list::{area_at, area_end, count_good_areas};
 use area_pass::list_area;
 use area_read::{AreaKind, area_count, area_id, area_kind};
 use byte_crc16::CheckTables;
-use calls::{AREA_FILE, AREA_PASSED_OVER, AREA_SCRATCH, AreaReport, Refusal};
+use calls::{AREA_FILE, AREA_PASSED_OVER, AREA_SCRATCH, AreaReport, Descriptor, Refusal};
 
 // What a header says; without a valid one, zeros.
 #[derive(Clone, Copy)]
@@ -25,13 +24,13 @@ pub struct Header {
 }
 
 // What the header of a good area says.
-fn header_of(image: &[u8], offset: u32, span: u32) -> Header
-    requires { good_area (length image.now) (area_of offset span) ≡ true }
-    ensures { HeaderSays image.now (area_of offset span) result }
+fn header_of(image: &[u8], area: Descriptor) -> Header
+    requires { good_area (length image.now) area ≡ true }
+    ensures { HeaderSays image.now area result }
 {
-    let kind = area_kind(image, offset, span);
-    let id = u32::from(area_id(image, offset));
-    let count = u32::from(area_count(image, offset));
+    let kind = area_kind(image, area);
+    let id = u32::from(area_id(image, area.offset));
+    let count = u32::from(area_count(image, area.offset));
     match kind {
         AreaKind::File => Header {
             kind: AREA_FILE,
@@ -67,11 +66,10 @@ pub fn report_area(
     if n <= i {
         return Err(Refusal::BadAreas);
     }
-    let offset = areas[i * 2];
-    let span = areas[i * 2 + 1];
-    let header = header_of(image, offset, span);
-    let start = offset as usize;
-    let end = area_end(offset, span);
+    let area = area_at(areas, i);
+    let header = header_of(image, area);
+    let start = area.offset as usize;
+    let end = area_end(area);
     let tables = CheckTables::new();
     let pass = list_area(&tables, &image[start..end], 0, places, 0, stretch);
     let damage = pass.damage;
@@ -83,7 +81,7 @@ pub fn report_area(
         records: pass.count as u32,
         stretches: damage.stretches,
         skipped: damage.skipped,
-        free: span - pass.free as u32,
+        free: area.length - pass.free as u32,
         offset: damage.offset,
         length: damage.length,
     })
