@@ -9,28 +9,10 @@ use Rattle.volume.specs.Contents.{text_of}
 use Rattle.volume_laws.specs.Map.{over}
 use Rattle.record_places.specs.Place.{by_place}
 use Rattle.table_rows.specs.Rows.{RowsOf}
-use Rattle.file_blocks.specs.declared.Last.{Last}
-use Rattle.file_blocks.specs.declared.Last.TheVariants.{Start, Several}
-use Rattle.file_blocks.specs.declared.Size.{Size}
-use Rattle.file_blocks.specs.declared.Size.TheVariants.{Whole, Broken}
 
 -- the rows are those of the blocks of a volume, held by their places
 abbrev pub BlocksOf : Bytes → List ℕ → List ℕ → Volume ℕ → Type 0
 BlocksOf image ids spots v = RowsOf (by_place image) v.blocks ids spots
-
--- what an answer of `last_block` says
-abbrev pub last_of : Last → Option ℕ
-last_of (Start i) = some i
-last_of Several = none
-
--- what an answer of `file_size` says
-abbrev pub size_of : Size → Option ℕ
-size_of (Whole n) = some n
-size_of Broken = none
-
-abbrev pub bytes_of : Size → ℕ
-bytes_of (Whole n) = n
-bytes_of Broken = 0
 
 -- the size of a file's contents, none if it is broken
 abbrev pub text_size : {A : Type 0} → View A → Option (List A) → Option ℕ

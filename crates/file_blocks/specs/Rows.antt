@@ -1,29 +1,30 @@
 -- The rows of a table of blocks tell of a file what its volume tells.
 use Prim.Native.Nat.{ℕ, zero, suc, ◌+◌, ◌≤◌, ◌<◌}
-use Rattle.std.specs.Prelude.{◌≡◌, Bool, ◌&&◌, drop}
+use Rattle.std.specs.Prelude.{◌≡◌, Bool, ◌&&◌, take, drop, Option, None, Some}
+use Rattle.std.specs.List.{filter, list_all}
+use Rattle.std.specs.Option.{is_some, unwrap_or}
 use Rattle.std.proofs.Math.Path.{refl, sym, ap}
 use Rattle.std.proofs.Common.{ap₂, ◌∙◌, length-drop, drop_of_length-le, get_or-drop, drop-drop}
 use Rattle.std.proofs.Math.Bool.{true, false, cond, not}
 use Rattle.std.proofs.Math.Option.{none, some}
-use mathlib.Core.List.{List, [], ◌∷◌, map, Memᴰ}
+use mathlib.Core.List.{List, [], ◌∷◌, ◌++◌, map, append-nil, Memᴰ}
 use native.Mathlib.Omega.{arith}
 use Rattle.std.proofs.Math.ListN.{length, get_or}
-use Rattle.std.proofs.lemmas.List.{length-map}
+use Rattle.std.proofs.lemmas.List.{length-map, take_all, take_more, take-append-drop}
 use Rattle.std.proofs.Math.Seq.{take-length}
 use Rattle.std.proofs.Math.Dec.{eqb}
-use Rattle.format.specs.Bytes.{Bytes}
 use Rattle.format.specs.Ids.{NONE}
 use Rattle.volume.specs.Lists.{keep, all, has, only}
 use Rattle.volume.specs.View.{View}
 use Rattle.volume.specs.Counting.{Volume, block_of, block_ids}
 use Rattle.volume.specs.Contents.{chain_start, owns, owned, unnamed, last_block}
-use Rattle.volume_laws.specs.Lists.{keep_cong, keep_keep, keep_map, keep_mem, keep_shorter, mem_place, all_cong, all_map}
+use Rattle.volume_laws.specs.Lists.{keep_append, keep_cong, keep_keep, keep_map, keep_mem, keep_shorter, mem_place, all_cong, all_map}
+use Rattle.volume_laws.specs.Library.{filter_keeps}
 use Rattle.volume_laws.specs.Steps.{drop_step}
 use Rattle.volume_laws.specs.Counting.{counting_mem}
-use Rattle.record_places.specs.Place.{by_place}
 use Rattle.table_rows.specs.Laws.{row_counts}
-use Rattle.table_rows.specs.Rows.{Usable, RowsOf}
-use Rattle.file_blocks.specs.Blocks.{BlocksOf, first_of, mine, free, is_end}
+use Rattle.table_rows.specs.Rows.{RowsOf}
+use Rattle.file_blocks.specs.Blocks.{first_of, mine, free, is_end}
 
 -- ---- a list from a place on
 
@@ -141,62 +142,6 @@ module _ (F : View ℕ) (v : Volume ℕ) (ids spots : List ℕ) (rows : RowsOf F
 
 -- ---- one row after the other, of which those from k on are left
 
-module _ (F : View ℕ) (f : ℕ) (spots : List ℕ) (k : ℕ) where
-  -- the search for a block that names i
-  module _ (i : ℕ) where
-    free_cons : k < length spots → free F f (drop k spots) i
-        ≡ cond (eqb (F.owner (get_or spots k 0)) f)
-        (not (eqb (F.previous (get_or spots k 0)) i) && free F f (drop (k + 1) spots) i)
-        (free F f (drop (k + 1) spots) i)
-    unfolding free keep all
-    free_cons h = rw (drop_step spots k h) (go (eqb (F.owner (get_or spots k 0)) f))
-      where
-        go : (b : Bool) → all (λ q. not (eqb (F.previous q) i)) (cond b (get_or spots k 0 ∷ mine F f (drop (k + 1) spots)) (mine F f (drop (k + 1) spots)))
-            ≡ cond b (not (eqb (F.previous (get_or spots k 0)) i) && free F f (drop (k + 1) spots) i) (free F f (drop (k + 1) spots) i)
-        go true = refl
-        go false = refl
-
-    pub free_named : k < length spots → (eqb (F.owner (get_or spots k 0)) f && eqb (F.previous (get_or spots k 0)) i) ≡ true
-        → free F f (drop k spots) i ≡ false
-    free_named h e = free_cons h ∙ go (eqb (F.owner (get_or spots k 0)) f) (eqb (F.previous (get_or spots k 0)) i) e
-      where
-        go : (a b : Bool) → (a && b) ≡ true → cond a (not b && free F f (drop (k + 1) spots) i) (free F f (drop (k + 1) spots) i) ≡ false
-        go true true e = refl
-        go true false e = let z : ◌≡◌ {A = ℕ} 0 1 = cc in absurd (omega arith)
-        go false b e = let z : ◌≡◌ {A = ℕ} 0 1 = cc in absurd (omega arith)
-
-    pub free_passed : k < length spots → (eqb (F.owner (get_or spots k 0)) f && eqb (F.previous (get_or spots k 0)) i) ≡ false
-        → free F f (drop k spots) i ≡ free F f (drop (k + 1) spots) i
-    free_passed h e = free_cons h ∙ go (eqb (F.owner (get_or spots k 0)) f) (eqb (F.previous (get_or spots k 0)) i) e
-      where
-        go : (a b : Bool) → (a && b) ≡ false → cond a (not b && free F f (drop (k + 1) spots) i) (free F f (drop (k + 1) spots) i)
-            ≡ free F f (drop (k + 1) spots) i
-        go true true e = let z : ◌≡◌ {A = ℕ} 0 1 = cc in absurd (omega arith)
-        go true false e = refl
-        go false b e = refl
-
-    pub free_end : length spots ≤ k → free F f (drop k spots) i ≡ true
-    unfolding free keep all
-    free_end h = rw (rest_none spots k h)
-
-  -- the number of the file's blocks
-  pub count_mine : k < length spots → eqb (F.owner (get_or spots k 0)) f ≡ true
-      → length (mine F f (drop k spots)) ≡ suc (length (mine F f (drop (k + 1) spots)))
-  unfolding keep
-  count_mine h e = rw (drop_step spots k h, e)
-
-  pub count_other : k < length spots → eqb (F.owner (get_or spots k 0)) f ≡ false
-      → length (mine F f (drop k spots)) ≡ length (mine F f (drop (k + 1) spots))
-  unfolding keep
-  count_other h e = rw (drop_step spots k h, e)
-
-  pub count_end : length spots ≤ k → length (mine F f (drop k spots)) ≡ 0
-  unfolding keep
-  count_end h = rw (rest_none spots k h)
-
-  pub count_few : length (mine F f spots) ≤ length spots
-  count_few = omega (arith, keep_shorter (λ p. eqb (F.owner p) f) spots)
-
 -- the search for a row that passes a test
 module _ (t : ℕ → Bool) (spots : List ℕ) (k : ℕ) where
   pub search_here : k < length spots → t (get_or spots k 0) ≡ true → first_of t (drop k spots) ≡ 0
@@ -226,28 +171,70 @@ module _ (t : ℕ → Bool) (spots : List ℕ) (k : ℕ) where
       first_some t 0 (drop k spots) b
       ∙ rw (get_or-drop k spots j 0, ← e, drop-drop (suc j) k spots, z)
 
--- ---- what `last_block` answers, by what the searches for an end found
+-- ---- all rows
 
-module _ {image : Bytes} {ids spots : List ℕ} (usable : Usable image ids spots) (f : ℕ) (v : Volume ℕ) (rows : BlocksOf image ids spots v) (a : ℕ)
-    (first : a ≡ 0 + first_of (is_end (by_place image) f spots) (drop 0 spots)) where
+module _ (F : View ℕ) (f : ℕ) where
+  -- no block of the file names i
+  pub free_rows : (i : ℕ) (spots : List ℕ) → list_all (λ p. not (eqb (F.owner p) f && eqb (F.previous p) i)) spots ≡ free F f spots i
+  unfolding free keep all
+  free_rows i [] = refl
+  free_rows i (p ∷ l) = go (eqb (F.owner p) f) (free_rows i l)
+    where
+      go : (b : Bool) → list_all (λ p. not (eqb (F.owner p) f && eqb (F.previous p) i)) l ≡ all (λ q. not (eqb (F.previous q) i)) (mine F f l)
+          → (not (b && eqb (F.previous p) i) && list_all (λ p. not (eqb (F.owner p) f && eqb (F.previous p) i)) l)
+          ≡ all (λ q. not (eqb (F.previous q) i)) (cond b (p ∷ mine F f l) (mine F f l))
+      go true ih = rw ih
+      go false ih = ih
+
+  -- how many blocks the file has
+  pub mine_rows : (spots : List ℕ) → length (filter (λ p. eqb (F.owner p) f) spots) ≡ length (mine F f spots)
+  mine_rows spots = ap length (filter_keeps (λ p. eqb (F.owner p) f) spots)
+
+  pub mine_few : (spots : List ℕ) → length (mine F f spots) ≤ length spots
+  mine_few spots = keep_shorter (λ p. eqb (F.owner p) f) spots
+
+-- ---- the ends among the first k rows: none yet, or the id of the one
+
+abbrev pub OneEnd : View ℕ → Option ℕ → List ℕ → Type 0
+OneEnd F None l = l ≡ []
+OneEnd F (Some i) l = (p : ℕ) × (l ≡ p ∷ []) × (i ≡ F.id p)
+
+module _ (F : View ℕ) (f : ℕ) (spots : List ℕ) where
   abbrev ends : List ℕ → List ℕ
-  ends = keep (is_end (by_place image) f spots)
+  ends = keep (is_end F f spots)
 
-  -- the first end and those after it
-  from_first : a < length spots → ends spots ≡ get_or spots a 0 ∷ ends (drop (a + 1) spots)
-  from_first h = kept_some (is_end (by_place image) f spots) spots 0 (omega arith) a first h
+  ends_more : (k : ℕ) → k < length spots
+      → ends (take (k + 1) spots) ≡ ends (take k spots) ++ cond (is_end F f spots (get_or spots k 0)) (get_or spots k 0 ∷ []) []
+  unfolding keep
+  ends_more k h = rw (take_more spots k 0 h, keep_append)
 
-  pub answers_none : length spots ≤ a → some NONE ≡ last_block (by_place image) v f
-  answers_none e =
-      last_none (by_place image) v ids spots rows usable.pairs f (kept_none (is_end (by_place image) f spots) spots 0 (omega arith) a first e)
+  -- one row more, that is no end, or the first, or the second
+  module _ (k : ℕ) (h : k < length spots) where
+    pub end_not : is_end F f spots (get_or spots k 0) ≡ false → (o : Option ℕ) → OneEnd F o (ends (take k spots)) → OneEnd F o (ends (take (k + 1) spots))
+    end_not e o w =
+        let z : ends (take (k + 1) spots) ≡ ends (take k spots) = ends_more k h ∙ rw (e, append-nil) in
+        rw z w
 
-  module _ (h : a < length spots) (b : ℕ) (second : b ≡ a + 1 + first_of (is_end (by_place image) f spots) (drop (a + 1) spots)) where
-    pub answers_several : b < length spots → none ≡ last_block (by_place image) v f
-    answers_several g =
-        last_several (by_place image) v ids spots rows usable.pairs f (get_or spots a 0) (get_or spots b 0) (ends (drop (b + 1) spots))
-        (from_first h ∙ ap (λ l. get_or spots a 0 ∷ l) (kept_some (is_end (by_place image) f spots) spots (a + 1) (omega arith) b second g))
+    pub end_first : is_end F f spots (get_or spots k 0) ≡ true → (o : Option ℕ) → is_some o ≡ false → OneEnd F o (ends (take k spots))
+        → (i : ℕ) → i ≡ F.id (get_or spots k 0) → OneEnd F (Some i) (ends (take (k + 1) spots))
+    end_first e None n w i is = (get_or spots k 0, ends_more k h ∙ rw (e, w), is)
+    end_first e (Some j) n w i is = cc
 
-    pub answers_one : length spots ≤ b → some ((by_place image).id (get_or spots a 0)) ≡ last_block (by_place image) v f
-    answers_one g =
-        last_one (by_place image) v ids spots rows usable.pairs f (get_or spots a 0)
-        (from_first h ∙ ap (λ l. get_or spots a 0 ∷ l) (kept_none (is_end (by_place image) f spots) spots (a + 1) (omega arith) b second g))
+    two_ends : is_end F f spots (get_or spots k 0) ≡ true → (p : ℕ) → ends (take k spots) ≡ p ∷ []
+        → ends spots ≡ p ∷ get_or spots k 0 ∷ ends (drop (k + 1) spots)
+    two_ends e p w =
+        ap ends (sym (take-append-drop (k + 1) spots)) ∙ keep_append (is_end F f spots) (take (k + 1) spots) (drop (k + 1) spots) ∙ rw (ends_more k h, e, w)
+
+  module _ (v : Volume ℕ) (ids : List ℕ) (rows : RowsOf F v.blocks ids spots) (pairs : length spots ≡ length ids) where
+    pub end_second : (k : ℕ) → k < length spots → is_end F f spots (get_or spots k 0) ≡ true
+        → (o : Option ℕ) → is_some o ≡ true → OneEnd F o (ends (take k spots)) → none ≡ last_block F v f
+    end_second k h e None n w = cc
+    end_second k h e (Some i) n w = last_several F v ids spots rows pairs f w.0 (get_or spots k 0) (ends (drop (k + 1) spots)) (two_ends k h e w.0 w.1)
+
+    -- all rows
+    pub ends_all : (k : ℕ) → length spots ≤ k → (o : Option ℕ) → OneEnd F o (ends (take k spots)) → some (unwrap_or o NONE) ≡ last_block F v f
+    ends_all k h o w = go o (rw (take_all k spots h) at w)
+      where
+        go : (o : Option ℕ) → OneEnd F o (ends spots) → some (unwrap_or o NONE) ≡ last_block F v f
+        go None w = last_none F v ids spots rows pairs f w
+        go (Some i) w = ap some w.2 ∙ last_one F v ids spots rows pairs f w.0 w.1

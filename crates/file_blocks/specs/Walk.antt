@@ -1,7 +1,7 @@
 -- The chain of a file's blocks, followed back block by block.
 use Prim.Native.Nat.{ℕ, zero, suc, ◌+◌, ◌-◌, ◌≤◌, ◌<◌}
 use Rattle.std.proofs.Math.Path.{◌≡◌, refl, sym, ap}
-use Rattle.std.proofs.Common.{◌∙◌, length-take, length-drop, eq-eqb, ne_eqb}
+use Rattle.std.proofs.Common.{◌∙◌, length-take, length-drop}
 use Rattle.std.specs.Prelude.{Bool, take, drop, eqb}
 use Rattle.std.proofs.Math.Bool.{true, false, cond}
 use Rattle.std.proofs.Math.Option.{Option, none, some}
@@ -17,6 +17,8 @@ use Rattle.volume.specs.Contents.{snoc, owns, owned, last_block, chain_back, fil
 use Rattle.volume_laws.specs.Map.{over, over_volume, file_blocks_map, text_of_map}
 use Rattle.record_places.specs.Place.{block_at, size_at, bytes_at, by_place, Lies}
 use Rattle.record_places.specs.Laws.{size_block, place_views}
+use Rattle.std.specs.Bool.{then_some}
+use Rattle.table_rows.specs.Answer.{meant}
 use Rattle.table_rows.specs.Table.{row_of, found}
 use Rattle.table_rows.specs.Laws.{held_some}
 use Rattle.table_rows.specs.Rows.{BlockTable, found_in}
@@ -29,13 +31,13 @@ module _ {A : Type 0} (F : View A) (f : ℕ) (c : ℕ → Option A) (i : ℕ) wh
   unfolding block_for
   block_absent e = rw (← e)
 
-  pub block_mine : (p : A) → some p ≡ c i → eqb (F.owner p) f ≡ true → some p ≡ block_for F f c i
+  pub block_owned : (p : A) → some p ≡ c i → meant (then_some (eqb (F.owner p) f) p) ≡ block_for F f c i
   unfolding block_for
-  block_mine p e t = rw (← e, t)
-
-  pub block_other : (p : A) → some p ≡ c i → eqb (F.owner p) f ≡ false → none ≡ block_for F f c i
-  unfolding block_for
-  block_other p e t = rw (← e, t)
+  block_owned p e = rw (← e) (go (eqb (F.owner p) f))
+    where
+      go : (b : Bool) → meant (then_some b p) ≡ cond b (some p) none
+      go true = refl
+      go false = refl
 
   -- what is found so counts
   pub block_found : (p : A) → some p ≡ block_for F f c i → c i ≡ some p
@@ -130,15 +132,14 @@ module _ {A : Type 0} (F : View A) where
     size_broken zero i h e = absurd (omega arith)
     size_broken (suc k) i h e = rw (chain_broken F f c i k e)
 
-    pub size_ends : (left i : ℕ) → left ≤ 0 → i ≡ NONE → size_with s (chain_back F c f left i) ≡ some s
+    pub size_ended : (left i : ℕ) → left ≤ 0 → meant (then_some (eqb i NONE) s) ≡ size_with s (chain_back F c f left i)
     unfolding size_with text_of
-    size_ends zero i h e = let z : 0 + s ≡ s = omega arith in rw (chain_whole F f c i (eq-eqb i NONE e)) (ap some z)
-    size_ends (suc k) i h e = absurd (omega arith)
-
-    pub size_more : (left i : ℕ) → left ≤ 0 → (i ≡ NONE → ⊥) → size_with s (chain_back F c f left i) ≡ none
-    unfolding size_with
-    size_more zero i h e = rw (chain_more F f c i (ne_eqb i NONE e))
-    size_more (suc k) i h e = absurd (omega arith)
+    size_ended zero i h = go (eqb i NONE) refl
+      where
+        go : (b : Bool) → eqb i NONE ≡ b → meant (then_some b s) ≡ size_with s (chain_back F c f 0 i)
+        go true e = let z : s ≡ 0 + s = omega arith in rw (chain_whole F f c i e) (ap some z)
+        go false e = rw (chain_more F f c i e)
+    size_ended (suc k) i h = absurd (omega arith)
 
 -- ---- over a table
 

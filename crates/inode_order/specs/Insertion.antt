@@ -1,11 +1,13 @@
 -- A list kept in order: where one more goes, the others moved up, and one after the other sorted.
-use Rattle.std.specs.Prelude.{ℕ, zero, suc, ◌+◌, ◌-◌, ◌≤◌, ◌<◌, ◌≡◌, refl, Bool, true, false, take, drop, get_or, set}
-use Rattle.std.proofs.Common.{sym, ap, ◌∙◌, add-one, length-take, length-set, drop_of_length-le, length-take-le, take-take, drop_at, get_or-take}
-use mathlib.Core.List.{List, [], ◌∷◌, Memᴰ}
+use Rattle.std.specs.Prelude.{ℕ, zero, suc, ◌+◌, ◌-◌, ◌≤◌, ◌<◌, ◌≡◌, Bool, true, false, take, drop, get_or, set}
+use Rattle.std.proofs.Common.{ap, ◌∙◌, length-take, drop_of_length-le, length-drop, length-append, take-take, drop_at}
+use mathlib.Core.List.{List, [], ◌∷◌, ◌++◌, Memᴰ}
 use native.Mathlib.Omega.{arith}
 use Rattle.std.proofs.Math.ListN.{length}
-use Rattle.std.proofs.lemmas.List.{take-set-le, set_split}
-use Rattle.std.proofs.Math.Seq.{take-set-lt}
+use Rattle.std.proofs.lemmas.List.{set_split}
+use Rattle.std.proofs.Math.Seq.{take-set-lt, paste}
+use Rattle.std.proofs.lemmas.List.{take-append-le, drop-take}
+use Rattle.std.proofs.lemmas.List.Edits.{take-paste}
 use Rattle.volume.specs.Lists.{insert, sort}
 use Rattle.volume_laws.specs.Steps.{drop_step}
 use Rattle.volume_laws.specs.Sort.{Order, Sorted, insert_at, not_before_earlier, sorted_sort, sort_mem}
@@ -55,53 +57,27 @@ mem_drop zero l m = m
 mem_drop (suc k) [] m = m
 mem_drop (suc k) (b ∷ l) m = Memᴰ.tail (mem_drop k l m)
 
--- ---- those from place `i` on have moved up, of the first n of a list
-pub record Moved (l₀ : List ℕ) (n i : ℕ) (l : List ℕ) : Type 0 where
-  pub long : length l ≡ length l₀
-  pub within : i ≤ n
-  pub front : take i l ≡ take i l₀
-  pub behind : drop (i + 1) (take (n + 1) l) ≡ drop i (take n l₀)
-
-module _ {l₀ : List ℕ} {n : ℕ} (room : n < length l₀) where
-  pub move_begins : Moved l₀ n n l₀
-  move_begins = record {
-    long = refl;
-    within = omega arith;
-    front = refl;
-    behind =
-        drop_of_length-le (take (n + 1) l₀) {i = n + 1} (omega (arith, length-take (n + 1) l₀))
-        ∙ sym (drop_of_length-le (take n l₀) {i = n} (omega (arith, length-take n l₀)));
-  }
-
-  module _ {i : ℕ} {l : List ℕ} (m : Moved l₀ n i l) where
-    -- a stored at the place that is left
-    pub move_ends : (a : ℕ) → take (n + 1) (set l i a) ≡ inserted i a (take n l₀)
-    move_ends a =
-        let w = m.within in
-        let b : i < length (take (n + 1) l) = omega (arith, length-take (n + 1) l, m.long) in
-        let f : take i (take (n + 1) l) ≡ take i (take n l₀)
-        = take-take i (n + 1) l (omega arith) ∙ m.front ∙ sym (take-take i n l₀ w) in
-        let g : drop (suc i) (take (n + 1) l) ≡ drop i (take n l₀) = rw (← add-one i) m.behind in
-        take-set-lt (n + 1) l i a (omega arith) ∙ set_split (take (n + 1) l) i a b ∙ rw (f, g)
-
-    pub move_on : 0 < i → Moved l₀ n (i - 1) (set l i (get_or l (i - 1) 0))
-    move_on h =
-        let w = m.within in
-        let k = i - 1 in
-        let e : k + 1 ≡ i = omega arith in
-        let a = get_or l k 0 in
-        let same_one : a ≡ get_or (take n l₀) k 0
-        = sym (get_or-take i l k 0 (omega arith)) ∙ ap (λ (x : List ℕ). get_or x k 0) m.front ∙ get_or-take i l₀ k 0 (omega arith)
-        ∙ sym (get_or-take n l₀ k 0 (omega arith)) in
-        record {
-          long = length-set l i a ∙ m.long;
-          within = omega arith;
-          front =
-              take-set-le k l i a (omega arith) ∙ sym (take-take k i l (omega arith))
-              ∙ ap (take k) m.front ∙ take-take k i l₀ (omega arith);
-          behind = rw (e, move_ends a, drop_at (take i (take n l₀)) (a ∷ drop i (take n l₀)) i (length-take-le i (take n l₀) (omega (arith, length-take n l₀))))
-              (sym (drop_step (take n l₀) k (omega (arith, length-take n l₀)) ∙ rw (e, ← same_one)));
-        }
+-- ---- those from place k on moved up one place, and a stored at k
+pub moved_up : (l : List ℕ) (n k a : ℕ) → k ≤ n → n < length l → take (n + 1) (set (paste l (k + 1) (drop k l) (n - k)) k a) ≡ inserted k a (take n l)
+moved_up l n k a w room =
+    let z : n + 1 ≡ k + 1 + (n - k) = omega arith in
+    let h : take (n + 1) (paste l (k + 1) (drop k l) (n - k)) ≡ take (k + 1) l ++ take (n - k) (drop k l) =
+    ap (λ (m : ℕ). take m (paste l (k + 1) (drop k l) (n - k))) z
+    ∙ take-paste l (k + 1) (drop k l) (n - k) (omega arith) (omega (arith, length-drop k l)) in
+    let y : k + (n - k) ≡ n = omega arith in
+    let g : drop k (take n l) ≡ take (n - k) (drop k l) = rw y at (drop-take k (n - k) l) in
+    let f : length (take (k + 1) l) ≡ suc k = omega (arith, length-take (k + 1) l) in
+    let lt : k < length (take (k + 1) l ++ take (n - k) (drop k l)) = omega (arith, length-append (take (k + 1) l) (take (n - k) (drop k l))) in
+    take-set-lt (n + 1) (paste l (k + 1) (drop k l) (n - k)) k a (omega arith)
+    ∙ rw (
+      h,
+      set_split (take (k + 1) l ++ take (n - k) (drop k l)) k a lt,
+      drop_at (take (k + 1) l) (take (n - k) (drop k l)) (suc k) f,
+      take-append-le k (take (k + 1) l) (take (n - k) (drop k l)) (omega arith),
+      take-take k (k + 1) l (omega arith),
+      take-take k n l w,
+      g,
+    )
 
 -- ---- a list sorted from its last member to the first
 
@@ -131,9 +107,3 @@ module _ {before : ℕ → ℕ → Bool} {ps : List ℕ} where
         let z : k + 1 ≡ length ps - count = omega arith in
         let y : length ps - (count + 1) ≡ k = omega arith in
         record { within = omega arith; front = e ∙ rw (s.front, y, drop_step ps k (omega arith), z, is) }
-
-    pub sort_ends : length ps ≤ count → take (length ps) l ≡ sort before ps
-    sort_ends h =
-        let e : count ≡ length ps = omega (arith, s.within) in
-        let z : length ps - count ≡ 0 = omega arith in
-        rw (← e) (s.front ∙ rw z)

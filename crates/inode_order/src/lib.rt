@@ -5,19 +5,10 @@ ghost use Rattle.std.specs.Prelude.{◌≡◌, ◌+◌, ◌≤◌, ◌<◌, leng
 ghost use Rattle.volume.specs.Lists.{insert, sort};
 ghost use Rattle.volume_laws.specs.Sort.{Sorted};
 ghost use Rattle.record_places.specs.Place.{by_place};
-ghost use Rattle.inode_order.specs.Order.{place_before, InodeAt, Inodes, Told, inserted};
+ghost use Rattle.inode_order.specs.Order.{place_before, InodeAt, Inodes, inserted};
 
-use byte_fields::wide;
 use record_places::id_at;
 use record_read::InodeHeader;
-
-// How some bytes stand to others in the order of bytes.
-#[derive(Clone, Copy)]
-enum Compared {
-    Before,
-    Same,
-    After,
-}
 
 // The size of the name of the inode at `p`.
 pub fn name_size(image: &[u8], p: u32) -> usize
@@ -26,30 +17,17 @@ pub fn name_size(image: &[u8], p: u32) -> usize
     ensures inside { p + 20 + result ≤ length image.now }
     ensures small { result < 256 }
 {
-    wide(image[p as usize + InodeHeader::LENGTH_AT]) as usize
+    usize::from(image[p as usize + InodeHeader::LENGTH_AT])
 }
 
-// Compares in one pass; the first byte that differs decides, and bytes that begin others come before them.
-fn compare(a: &[u8], b: &[u8]) -> Compared
-    ensures { Told a.now b.now result }
+// The name of the inode at `p`.
+fn name_at(image: &[u8], p: u32) -> &[u8]
+    requires { InodeAt image.now p }
+    ensures { result.now ≡ (by_place image.now).name p }
 {
-    let mut i = 0;
-    while i < a.len() {
-        if i >= b.len() {
-            return Compared::After;
-        }
-        if a[i] < b[i] {
-            return Compared::Before;
-        }
-        if b[i] < a[i] {
-            return Compared::After;
-        }
-        i += 1;
-    }
-    if i < b.len() {
-        return Compared::Before;
-    }
-    Compared::Same
+    let start = p as usize + InodeHeader::SIZE;
+    let end = start + name_size(image, p);
+    &image[start..end]
 }
 
 // Whether the inode at `p` comes before the one at `q`.
@@ -58,16 +36,7 @@ fn comes_before(image: &[u8], p: u32, q: u32) -> bool
     requires inode_at_2 { InodeAt image.now q }
     ensures { result ≡ place_before image.now p q }
 {
-    let a = p as usize + InodeHeader::SIZE;
-    let b = q as usize + InodeHeader::SIZE;
-    let e = a + name_size(image, p);
-    let f = b + name_size(image, q);
-    let names = compare(&image[a..e], &image[b..f]);
-    match names {
-        Compared::Before => true,
-        Compared::After => false,
-        Compared::Same => id_at(image, p) < id_at(image, q),
-    }
+    (name_at(image, p), id_at(image, p)) < (name_at(image, q), id_at(image, q))
 }
 
 // Where the inode at `p` goes among those in order: before the first that it comes before, found by halves.
@@ -96,11 +65,7 @@ fn insert_at(order: &mut [u32], count: usize, at: usize, p: u32)
     requires { (at ≤ count) × (count < length order.old) }
     ensures { take (count + 1) order.new ≡ inserted at p (take count order.old) }
 {
-    let mut i = count;
-    while at < i {
-        order[i] = order[i - 1];
-        i -= 1;
-    }
+    order.copy_within(at..count, at + 1);
     order[at] = p;
 }
 
@@ -111,11 +76,9 @@ pub fn order_inodes(image: &[u8], spots: &[u32], order: &mut [u32])
     ensures { take (length spots.now) order.new ≡ sort (place_before image.now) spots.now }
 {
     let n = spots.len();
-    let mut count = 0;
-    while count < n {
+    for count in 0..n {
         let p = spots[n - 1 - count];
         let at = place_for(image, &order[..count], p);
         insert_at(&mut *order, count, at, p);
-        count += 1;
     }
 }

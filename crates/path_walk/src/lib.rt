@@ -1,7 +1,7 @@
 // Looking a path up in the taken rows of the table of inodes, name by name from the root down.
 #![tactic(auto)]
 
-ghost use Rattle.std.specs.Prelude.{◌≡◌, true, false, ℕ, ◌+◌, ◌≤◌, ◌<◌, length, drop, get_or};
+ghost use Rattle.std.specs.Prelude.{◌≡◌, true, false, ℕ, ◌+◌, ◌≤◌, ◌<◌, length, drop, get_or, unwrap_or, IfSome};
 ghost use Rattle.volume.specs.Lists.{only};
 ghost use Rattle.volume.specs.Counting.{Volume};
 ghost use Rattle.volume.specs.Fate.{is_live, fate_of};
@@ -13,7 +13,6 @@ ghost use Rattle.file_blocks.specs.Blocks.{first_of};
 ghost use Rattle.path_walk.specs.Resolved.{InodesOf, only_of, meaning, step_of};
 
 use byte_equal::equal;
-use byte_fields::wide;
 use calls::Refusal;
 use inode_fate::{fate_of, lives};
 use path_names::{after, has_name, name_at, start};
@@ -39,7 +38,7 @@ fn is_entry(image: &[u8], p: u32, directory: u32, name: &[u8]) -> bool
     }
     let at = p as usize;
     let start = at + InodeHeader::SIZE;
-    let end = start + wide(image[at + InodeHeader::LENGTH_AT]) as usize;
+    let end = start + usize::from(image[at + InodeHeader::LENGTH_AT]);
     equal(&image[start..end], name)
 }
 
@@ -64,13 +63,10 @@ fn is_child(
     requires row_in_bounds { row < length ids.now }
     ensures { (v : Volume ℕ) → InodesOf image.now ids.now spots.now v → result ≡ is_child (by_place image.now) v directory name.now (get_or ids.now row 0) }
 {
-    if is_entry(image, spots[row], directory, name) {
-        return is_live(image, ids, spots, ids[row]);
-    }
-    false
+    is_entry(image, spots[row], directory, name) && is_live(image, ids, spots, ids[row])
 }
 
-// The first row from `from` on whose inode is a live child of the directory, of the name; the number of rows where there is none.
+// The first row from `from` on whose inode is a live child of the directory, of the name.
 fn next_child(
     image: &[u8],
     ids: &[u32],
@@ -78,21 +74,18 @@ fn next_child(
     directory: u32,
     name: &[u8],
     from: usize,
-) -> usize
+) -> Option<usize>
     requires inode_table { InodeTable image.now ids.now spots.now }
     requires from_in_bounds { from ≤ length ids.now }
-    ensures first { (v : Volume ℕ) → InodesOf image.now ids.now spots.now v → result ≡ from + first_of (is_child (by_place image.now) v directory name.now) (drop from ids.now) }
-    ensures within { result ≤ length ids.now }
+    ensures first { (v : Volume ℕ) → InodesOf image.now ids.now spots.now v → unwrap_or result (length ids.now) ≡ from + first_of (is_child (by_place image.now) v directory name.now) (drop from ids.now) }
+    ensures within { IfSome result (λ row. row < length ids.now) }
 {
-    let n = ids.len();
-    let mut row = from;
-    while row < n {
+    for row in from..ids.len() {
         if is_child(image, ids, spots, directory, name, row) {
-            return row;
+            return Some(row);
         }
-        row += 1;
     }
-    row
+    None
 }
 
 // The live children of the directory that have the name.
@@ -100,16 +93,13 @@ pub fn find_child(image: &[u8], ids: &[u32], spots: &[u32], directory: u32, name
     requires { InodeTable image.now ids.now spots.now }
     ensures { (v : Volume ℕ) → InodesOf image.now ids.now spots.now v → only_of result ≡ only (children (by_place image.now) v directory name.now) }
 {
-    let n = ids.len();
-    let first = next_child(image, ids, spots, directory, name, 0);
-    if first == n {
+    let Some(first) = next_child(image, ids, spots, directory, name, 0) else {
         return Child::Nobody;
+    };
+    match next_child(image, ids, spots, directory, name, first + 1) {
+        Some(_) => Child::Several,
+        None => Child::One(ids[first]),
     }
-    let second = next_child(image, ids, spots, directory, name, first + 1);
-    if second < n {
-        return Child::Several;
-    }
-    Child::One(ids[first])
 }
 
 // One step of a walk: what the name leads to, looked for in the inode of an id.

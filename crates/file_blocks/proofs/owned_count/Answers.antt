@@ -1,0 +1,31 @@
+use Rattle.std.proofs.Common.{◌≡◌, ◌∙◌, sym, arith, eqb, rules, tests, length}
+use Rattle.std.proofs.lemmas.Iterator.{YieldsList-from_slice}
+use Rattle.std.proofs.lemmas.Iterator.Adapters.{serves_from_places}
+use Rattle.std.proofs.lemmas.Iterator.Consumers.{YieldsList-at, YieldsList-from_filter, count_from_yields_List}
+use Rattle.record_places.specs.Place.{by_place, Lies}
+use Rattle.file_blocks.specs.Blocks.{mine}
+use Rattle.file_blocks.specs.Rows.{owned_counts, mine_rows, mine_few}
+use Rattle.file_blocks.proofs.Each.{each_lies}
+use Rattle.file_blocks.proofs.owned_count.Goals as goal
+
+pub count-requires-clause-can : goal.count-requires-clause-can
+count-requires-clause-can c = (
+  tt,
+  tt,
+  serves_from_places (YieldsList-at c.filter.ensures.source (YieldsList-from_slice c.args.spots.now cc)) (λ x q k. search (rules, tests))
+      (λ x k h e. let l : Lies c.args.image.now x.now = each_lies c.args.image.now c.args.spots.now (λ i h. c.requires.lie i (omega arith)) x.now k h e in search rules),
+)
+
+counted : (c : goal.After-count) → c.count.result ≡ length (mine (by_place c.args.image.now) c.args.file c.args.spots.now)
+counted c =
+    count_from_yields_List c.filter.result c.count.result c.count.ensures.ran
+    (YieldsList-from_filter _ (λ p. eqb ((by_place c.args.image.now).owner p) c.args.file) (YieldsList-at c.filter.ensures.source (YieldsList-from_slice c.args.spots.now cc))
+    c.filter.ensures.closure (λ x b q k. search (rules, tests)))
+    ∙ mine_rows (by_place c.args.image.now) c.args.file c.args.spots.now
+
+pub returns-clause-counted : goal.returns-clause-counted
+returns-clause-counted c = λ v rows. counted c
+    ∙ sym (owned_counts (by_place c.args.image.now) v c.args.ids.now c.args.spots.now rows c.requires.pairs c.args.file)
+
+pub returns-clause-few : goal.returns-clause-few
+returns-clause-few c = omega (arith, counted c, mine_few (by_place c.args.image.now) c.args.file c.args.spots.now)
