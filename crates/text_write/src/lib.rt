@@ -18,6 +18,7 @@ const ZERO: u8 = 0x30;
 const DIGITS: usize = 10;
 
 // Writes a byte, and answers where the next one goes.
+#[tactic(auto, using(crate::specs::Clip::clip_byte, crate::specs::Clip::clip_past))]
 pub fn push(text: &mut [u8], at: usize, byte: u8) -> usize
     requires { at < longest_text }
     ensures { Wrote text.old at (byte ∷ []) text.new result }
