@@ -53,7 +53,10 @@ pub fn fits(image: &[u8], area: Descriptor, places: &[u16]) -> bool
         if end > span {
             return false;
         }
-        let record = Descriptor { offset: p, length: size as u32 };
+        let record = Descriptor {
+            offset: p,
+            length: size as u32,
+        };
         if disjoint(record, area) {} else {
             return false;
         }
