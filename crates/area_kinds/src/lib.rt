@@ -12,7 +12,7 @@ ghost use Rattle.area_pass.specs.Rows.{spans_at};
 ghost use Rattle.area_kinds.specs.Checks.{KindsAnswer, Checked};
 ghost use Rattle.area_kinds.specs.Kinds.{Room, Sorted, one_more, other_id};
 
-use area_list::count_good_areas;
+use area_list::{area_at, count_good_areas};
 use area_pass::SPANS;
 use area_read::{AreaKind, area_id, area_kind};
 use calls::{Descriptor, Refusal};
@@ -59,15 +59,14 @@ fn sort_areas(image: &[u8], pairs: &[u32], rows: &mut [u32]) -> Kinds
     let mut files = 0;
     let mut scratch = ScratchFound::Missing;
     for i in 0..pairs.len() / 2 {
-        let offset = pairs[i * 2];
-        let length = pairs[i * 2 + 1];
-        match area_kind(image, offset, length) {
+        let area = area_at(pairs, i);
+        match area_kind(image, area) {
             AreaKind::File => {
-                rows[files] = offset;
-                rows[SPANS + files] = length;
+                rows[files] = area.offset;
+                rows[SPANS + files] = area.length;
                 files += 1;
             }
-            AreaKind::Scratch => scratch = scratch.with(Descriptor { offset, length }),
+            AreaKind::Scratch => scratch = scratch.with(area),
             AreaKind::Invalid => {}
         }
     }

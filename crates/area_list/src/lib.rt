@@ -2,87 +2,82 @@
 // Behind check 1 a list of areas is two lists of one length, starts and spans; `described` is the list that they stand for.
 #![tactic(auto)]
 
-ghost use Rattle.std.specs.Prelude.{◌≡◌, ◌&&◌, ◌+◌, length};
+ghost use Rattle.std.specs.Prelude.{◌≡◌, ◌&&◌, ◌+◌, ◌*◌, ◌<◌, length, slice_index};
 ghost use Rattle.volume.specs.Lists.{all};
-ghost use Rattle.calls.specs.Areas.{good_area, disjoint, all_disjoint};
+ghost use Rattle.calls.specs.Areas.{area_end, good_area, disjoint, all_disjoint};
 ghost use Rattle.area_list.specs.Numbers.{paired};
 ghost use Rattle.area_list.specs.Described.{area_of};
 ghost use Rattle.area_list.specs.Listing.{Counted};
 ghost use Rattle.area_list.specs.Description.{GoodList};
 
-use calls::{LARGEST_IMAGE, MOST_AREAS, SHORTEST_AREA};
+use calls::{Descriptor, LARGEST_IMAGE, MOST_AREAS, SHORTEST_AREA};
 
 // How many entries a list has: it ends at the first length 0 or at its end.
 fn count_areas(areas: &[u32]) -> usize
     ensures { Counted areas.now result }
 {
     for n in 0..areas.len() / 2 {
-        if areas[n * 2 + 1] == 0 {
+        if area_at(areas, n).length == 0 {
             return n;
         }
     }
     areas.len() / 2
 }
 
-// Where an area ends; the sum can need more than 32 bits.
-pub fn area_end(offset: u32, span: u32) -> usize
-    ensures { result ≡ offset + span }
+// The area that pair `i` stands for.
+pub fn area_at(areas: &[u32], i: usize) -> Descriptor
+    requires { i * 2 + 1 < length areas.now }
+    ensures { result ≡ area_of (slice_index areas.now (i * 2)) (slice_index areas.now (i * 2 + 1)) }
 {
-    offset as usize + span as usize
+    Descriptor {
+        offset: areas[i * 2],
+        length: areas[i * 2 + 1],
+    }
+}
+
+// Where an area ends; the sum can need more than 32 bits.
+pub fn area_end(area: Descriptor) -> usize
+    ensures { result ≡ area_end area }
+{
+    area.offset as usize + area.length as usize
 }
 
 // Whether an area has an allowed length and lies inside an image of `size` bytes.
 #[tactic(auto, unfolding(calls::specs::Areas::good_area))]
-fn good_area(size: usize, offset: u32, span: u32) -> bool
-    ensures { result ≡ good_area size (area_of offset span) }
+fn good_area(size: usize, area: Descriptor) -> bool
+    ensures { result ≡ good_area size area }
 {
-    let long = span as usize;
-    SHORTEST_AREA <= long && long <= LARGEST_IMAGE && area_end(offset, span) <= size
+    let length = area.length as usize;
+    SHORTEST_AREA <= length && length <= LARGEST_IMAGE && area_end(area) <= size
 }
 
 // Whether every area of some pairs is good.
 fn all_good(size: usize, pairs: &[u32]) -> bool
     ensures { result ≡ all (good_area size) (paired pairs.now) }
 {
-    for i in 0..pairs.len() / 2 {
-        if !good_area(size, pairs[i * 2], pairs[i * 2 + 1]) {
-            return false;
-        }
-    }
-    true
+    (0..pairs.len() / 2).all(|i| good_area(size, area_at(pairs, i)))
 }
 
 // Whether two areas have no byte in common.
 #[tactic(auto, unfolding(calls::specs::Areas::disjoint))]
-pub fn disjoint(offset: u32, span: u32, other: u32, extent: u32) -> bool
-    ensures { result ≡ disjoint (area_of offset span) (area_of other extent) }
+pub fn disjoint(area: Descriptor, other: Descriptor) -> bool
+    ensures { result ≡ disjoint area other }
 {
-    area_end(offset, span) <= other as usize || area_end(other, extent) <= offset as usize
+    area_end(area) <= other.offset as usize || area_end(other) <= area.offset as usize
 }
 
 // Whether an area has no byte in common with any of some pairs.
-fn disjoint_from(offset: u32, span: u32, pairs: &[u32]) -> bool
-    ensures { result ≡ all (disjoint (area_of offset span)) (paired pairs.now) }
+fn disjoint_from(area: Descriptor, pairs: &[u32]) -> bool
+    ensures { result ≡ all (disjoint area) (paired pairs.now) }
 {
-    for i in 0..pairs.len() / 2 {
-        if !disjoint(offset, span, pairs[i * 2], pairs[i * 2 + 1]) {
-            return false;
-        }
-    }
-    true
+    (0..pairs.len() / 2).all(|i| disjoint(area, area_at(pairs, i)))
 }
 
 // Whether no two areas of some pairs overlap.
 fn all_disjoint(pairs: &[u32]) -> bool
     ensures { result ≡ all_disjoint (paired pairs.now) }
 {
-    for i in 0..pairs.len() / 2 {
-        let later = (i + 1) * 2;
-        if !disjoint_from(pairs[i * 2], pairs[i * 2 + 1], &pairs[later..]) {
-            return false;
-        }
-    }
-    true
+    (0..pairs.len() / 2).all(|i| disjoint_from(area_at(pairs, i), &pairs[(i + 1) * 2..]))
 }
 
 // Whether the areas of some pairs are good and no two of them overlap.

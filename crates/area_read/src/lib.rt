@@ -4,13 +4,13 @@
 ghost use Rattle.std.specs.Prelude.{◌≡◌, true, ◌+◌, ◌≤◌, length};
 ghost use Rattle.format.specs.AreaHeader.{area_header_size, magics_right, valid_header};
 ghost use Rattle.calls.specs.Areas.{good_area, area_bytes};
-ghost use Rattle.area_list.specs.Described.{area_of};
 ghost use Rattle.area_read.specs.Area.{next_record, WrittenTo};
 ghost use Rattle.area_read.specs.Kinds.{HasId, HasCount, kind_of};
 
 use area_list::area_end;
 use byte_crc16::CheckTables;
 use byte_fields::load32;
+use calls::Descriptor;
 use record_magics::next_magic;
 use record_read::record_size;
 
@@ -80,12 +80,12 @@ fn valid_header(area: &[u8], described: u32) -> bool
 }
 
 // Whether a good area of an image has a valid header.
-fn valid_area(image: &[u8], offset: u32, span: u32) -> bool
-    requires { good_area (length image.now) (area_of offset span) ≡ true }
-    ensures { result ≡ valid_header span (area_bytes image.now (area_of offset span)) }
+fn valid_area(image: &[u8], area: Descriptor) -> bool
+    requires { good_area (length image.now) area ≡ true }
+    ensures { result ≡ valid_header area.length (area_bytes image.now area) }
 {
-    let end = area_end(offset, span);
-    valid_header(&image[offset as usize..end], span)
+    let end = area_end(area);
+    valid_header(&image[area.offset as usize..end], area.length)
 }
 
 // The id of the area at `offset`, whatever its length.
@@ -105,14 +105,14 @@ pub fn area_count(image: &[u8], offset: u32) -> u8
 }
 
 // The kind of a good area of an image.
-pub fn area_kind(image: &[u8], offset: u32, span: u32) -> AreaKind
-    requires { good_area (length image.now) (area_of offset span) ≡ true }
-    ensures { result ≡ kind_of image.now (area_of offset span) }
+pub fn area_kind(image: &[u8], area: Descriptor) -> AreaKind
+    requires { good_area (length image.now) area ≡ true }
+    ensures { result ≡ kind_of image.now area }
 {
-    if !valid_area(image, offset, span) {
+    if !valid_area(image, area) {
         return AreaKind::Invalid;
     }
-    if area_id(image, offset) == SCRATCH_ID {
+    if area_id(image, area.offset) == SCRATCH_ID {
         return AreaKind::Scratch;
     }
     AreaKind::File

@@ -22,6 +22,7 @@ pub struct CheckTables {
 }
 
 // The register after the bytes of `s`, two a turn.
+#[tactic(auto, using(crate::proofs::Chunks::two_chunk, format_laws::specs::Crc::crc_step, format_laws::specs::Crc::crc_end))]
 fn two_a_turn(start: u16, s: &[u8]) -> u16
     ensures { result ≡ crc_over start s.now }
 {
@@ -46,6 +47,7 @@ impl CheckTables {
     }
 
     // The register after the bytes of `s`, four a turn.
+    #[tactic(auto, using(crate::proofs::Chunks::four_chunk))]
     fn over(&self, start: u16, s: &[u8]) -> u16
         ensures { result ≡ crc_over start s.now }
     {

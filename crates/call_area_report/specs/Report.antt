@@ -12,7 +12,6 @@ use Rattle.calls.specs.Areas.{largest_image, area_bytes, good_area}
 use Rattle.calls.specs.Mount.{most_records}
 use Rattle.calls.specs.AreaReport.{area_report, refused_area_report, area_report_number, area_report_of}
 use Rattle.calls.specs.declared.Descriptor.{Descriptor}
-use Rattle.calls.specs.declared.AreaReport.{AreaReport}
 use Rattle.area_list.specs.Numbers.{area_list}
 use Rattle.area_list.specs.Described.{area_of}
 use Rattle.area_list.specs.Listing.{pair_holds, paired_at, paired_length}
@@ -37,6 +36,9 @@ records_counted area ps r ps' s m e l =
     let few : r ≤ most_records = omega (arith, l.few) in
     (sym (length-take-le r ps' (omega arith)) ∙ ap length l.is ∙ places_length 0 (area_records record_size area), few)
 
+pub fits_long : (image : Bytes) (d : Descriptor) → AreaFits (length image) d → length (area_bytes image d) ≡ d.length
+fits_long image d f = omega (arith, length-take d.length (drop d.offset image), length-drop d.offset image, f.inside)
+
 -- the list is bad, or has no area i
 module _ (image : Bytes) (areas : List ℕ) (n i : ℕ) (g : GoodList image areas n) where
   list_length : n ≢ 0 → length (area_list areas) ≡ n
@@ -50,9 +52,9 @@ module _ (image : Bytes) (areas : List ℕ) (n i : ℕ) (g : GoodList image area
       go (yes z) = rw (g.refused z)
       go (no z) = rw (g.passed z, list_length z, le-leb n i h)
 
-  pub area_refused : n ≤ i → (k : ℕ) (r : AreaReport) → r ≡ refused_area_report 1 → r ≡ area_report_of image (area_list areas) i k
+  pub area_refused : n ≤ i → (k : ℕ) → refused_area_report 1 ≡ area_report_of image (area_list areas) i k
   unfolding area_report_of
-  area_refused h k r e = e ∙ rw (number_refused h)
+  area_refused h k = rw (number_refused h)
 
   module _ (h : i < n) where
     abbrev here : Descriptor
@@ -74,8 +76,8 @@ module _ (image : Bytes) (areas : List ℕ) (n i : ℕ) (g : GoodList image area
     pub area_fits : AreaFits (length image) here
     area_fits = fits (length image) here area_good
 
-    pub area_long : length (area_bytes image here) ≡ here.length
-    area_long = omega (arith, length-take here.length (drop here.offset image), length-drop here.offset image, area_fits.inside)
+    area_long : length (area_bytes image here) ≡ here.length
+    area_long = fits_long image here area_fits
 
     is_here : (e : Descriptor) → get_or (area_list areas) i e ≡ here
     is_here e = ap (λ (l : List Descriptor). get_or l i e) (sym (g.is (λ z. omega arith))) ∙ paired_at i (take (n * 2) areas) e front_long ∙ rw (offset_front, length_front)

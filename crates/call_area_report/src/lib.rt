@@ -4,17 +4,16 @@
 ghost use Rattle.std.specs.Prelude.{◌≡◌, true, ◌≤◌, length};
 ghost use Rattle.calls.specs.Areas.{good_area};
 ghost use Rattle.calls.specs.Mount.{most_records};
-ghost use Rattle.calls.specs.AreaReport.{refused_area_report, area_report_of};
+ghost use Rattle.calls.specs.Answers.{area_report_seen};
+ghost use Rattle.calls.specs.AreaReport.{area_report_of};
 ghost use Rattle.area_list.specs.Numbers.{area_list};
-ghost use Rattle.area_list.specs.Described.{area_of};
 ghost use Rattle.call_area_report.specs.Header.{HeaderSays};
 
-use area_list::{area_end, count_good_areas};
+use area_list::{area_at, area_end, count_good_areas};
 use area_pass::list_area;
 use area_read::{AreaKind, area_count, area_id, area_kind};
-use byte_crc16::{high_table, low_table};
-use byte_fields::wide;
-use calls::{AREA_FILE, AREA_PASSED_OVER, AREA_SCRATCH, AreaReport, BAD_AREAS};
+use byte_crc16::CheckTables;
+use calls::{AREA_FILE, AREA_PASSED_OVER, AREA_SCRATCH, AreaReport, Descriptor, Refusal};
 
 // What a header says; without a valid one, zeros.
 #[derive(Clone, Copy)]
@@ -25,13 +24,13 @@ pub struct Header {
 }
 
 // What the header of a good area says.
-fn header_of(image: &[u8], offset: u32, span: u32) -> Header
-    requires { good_area (length image.now) (area_of offset span) ≡ true }
-    ensures { HeaderSays image.now (area_of offset span) result }
+fn header_of(image: &[u8], area: Descriptor) -> Header
+    requires { good_area (length image.now) area ≡ true }
+    ensures { HeaderSays image.now area result }
 {
-    let kind = area_kind(image, offset, span);
-    let id = wide(area_id(image, offset));
-    let count = wide(area_count(image, offset));
+    let kind = area_kind(image, area);
+    let id = u32::from(area_id(image, area.offset));
+    let count = u32::from(area_count(image, area.offset));
     match kind {
         AreaKind::File => Header {
             kind: AREA_FILE,
@@ -51,24 +50,6 @@ fn header_of(image: &[u8], offset: u32, span: u32) -> Header
     }
 }
 
-// A refused report of an area.
-fn refused(number: u32) -> AreaReport
-    ensures { result ≡ refused_area_report number }
-{
-    AreaReport {
-        number,
-        kind: 0,
-        id: 0,
-        count: 0,
-        records: 0,
-        stretches: 0,
-        skipped: 0,
-        free: 0,
-        offset: 0,
-        length: 0,
-    }
-}
-
 // The report of the area `index` of a list, with its damage stretch `stretch`, both from 0. What `places` holds afterwards has no meaning.
 pub fn report_area(
     image: &[u8],
@@ -76,25 +57,23 @@ pub fn report_area(
     index: u32,
     stretch: u32,
     places: &mut [u16],
-) -> AreaReport
+) -> Result<AreaReport, Refusal>
     requires { most_records ≤ length places.old }
-    ensures { result ≡ area_report_of image.now (area_list areas.now) index stretch }
+    ensures { area_report_seen result ≡ area_report_of image.now (area_list areas.now) index stretch }
 {
     let n = count_good_areas(image, areas);
     let i = index as usize;
     if n <= i {
-        return refused(BAD_AREAS);
+        return Err(Refusal::BadAreas);
     }
-    let offset = areas[i * 2];
-    let span = areas[i * 2 + 1];
-    let header = header_of(image, offset, span);
-    let start = offset as usize;
-    let end = area_end(offset, span);
-    let high = high_table();
-    let low = low_table();
-    let pass = list_area(&high, &low, &image[start..end], 0, &mut *places, 0, stretch);
+    let area = area_at(areas, i);
+    let header = header_of(image, area);
+    let start = area.offset as usize;
+    let end = area_end(area);
+    let tables = CheckTables::new();
+    let pass = list_area(&tables, &image[start..end], 0, places, 0, stretch);
     let damage = pass.damage;
-    AreaReport {
+    Ok(AreaReport {
         number: 0,
         kind: header.kind,
         id: header.id,
@@ -102,8 +81,8 @@ pub fn report_area(
         records: pass.count as u32,
         stretches: damage.stretches,
         skipped: damage.skipped,
-        free: span - pass.free as u32,
+        free: area.length - pass.free as u32,
         offset: damage.offset,
         length: damage.length,
-    }
+    })
 }

@@ -63,9 +63,8 @@ pub fn collect_mounted(
 {
     let n = m.files;
     let end = SPANS + n;
-    let source = choose_source(image, &tables[..n], &tables[SPANS..end], m.scratch);
-    if source < n {
-        return collect_from(image, tables, places, m, source);
-    }
-    Err(Refusal::NoSource)
+    let Some(source) = choose_source(image, &tables[..n], &tables[SPANS..end], m.scratch) else {
+        return Err(Refusal::NoSource);
+    };
+    collect_from(image, tables, places, m, source)
 }

@@ -1,7 +1,7 @@
 // The source area of a collection: of the file areas as long as scratch, the first that no other of them precedes.
 #![tactic(auto)]
 
-ghost use Rattle.std.specs.Prelude.{◌≡◌, ◌+◌, ◌≤◌, length};
+ghost use Rattle.std.specs.Prelude.{◌≡◌, ◌+◌, ◌<◌, ◌≤◌, length, unwrap_or, IfSome};
 ghost use Rattle.format.specs.AreaHeader.{area_header_size};
 ghost use Rattle.volume.specs.Lists.{keep, first};
 ghost use Rattle.calls.specs.Collect.{precedes, source_of};
@@ -10,15 +10,15 @@ ghost use Rattle.area_pass.specs.Listing.{AreasFit};
 ghost use Rattle.collect_source.specs.Source.{ahead, none_ahead, leads, area_at};
 
 use area_read::area_count;
-use byte_fields::wide;
 use calls::Descriptor;
 use table_words::position;
 
 // Whether an area of count `a` is collected before one of count `b`.
+#[tactic(auto, unfolding(calls::specs::Collect::precedes))]
 fn precedes(a: u8, b: u8) -> bool
     ensures { result ≡ precedes a b }
 {
-    let n = (wide(b) + 256 - wide(a)) % 256;
+    let n = b.wrapping_sub(a);
     1 <= n && n <= 127
 }
 
@@ -27,10 +27,7 @@ fn is_ahead(image: &[u8], offset: u32, span: u32, wanted: u32, count: u8) -> boo
     requires { (offset + area_header_size ≤ length image.now) × (area_header_size ≤ span) }
     ensures { result ≡ ahead image.now wanted count (area_of offset span) }
 {
-    if span != wanted {
-        return false;
-    }
-    precedes(area_count(image, offset), count)
+    span == wanted && precedes(area_count(image, offset), count)
 }
 
 // Whether no area of the wanted length has a count that precedes `count`.
@@ -38,12 +35,10 @@ fn none_ahead(image: &[u8], starts: &[u32], spans: &[u32], wanted: u32, count: u
     requires { AreasFit image.now starts.now spans.now }
     ensures { result ≡ none_ahead image.now wanted count (described starts.now spans.now) }
 {
-    let mut i = 0;
-    while i < starts.len() {
+    for i in 0..starts.len() {
         if is_ahead(image, starts[i], spans[i], wanted, count) {
             return false;
         }
-        i += 1;
     }
     true
 }
@@ -54,36 +49,41 @@ fn leads(image: &[u8], starts: &[u32], spans: &[u32], wanted: u32, offset: u32, 
     requires area_header_size_in_bounds { (offset + area_header_size ≤ length image.now) × (area_header_size ≤ span) }
     ensures { result ≡ leads image.now wanted (described starts.now spans.now) (area_of offset span) }
 {
-    if span != wanted {
-        return false;
-    }
-    none_ahead(image, starts, spans, wanted, area_count(image, offset))
+    span == wanted && none_ahead(image, starts, spans, wanted, area_count(image, offset))
 }
 
-// The place in the list of the first area that leads, or the number of areas where none does.
-fn first_leading(image: &[u8], starts: &[u32], spans: &[u32], wanted: u32) -> usize
+// The place in the list of the first area that leads.
+fn first_leading(image: &[u8], starts: &[u32], spans: &[u32], wanted: u32) -> Option<usize>
     requires { AreasFit image.now starts.now spans.now }
-    ensures { area_at starts.now spans.now result ≡ first (keep (leads image.now wanted (described starts.now spans.now)) (described starts.now spans.now)) }
+    ensures is { area_at starts.now spans.now (unwrap_or result (length starts.now)) ≡ first (keep (leads image.now wanted (described starts.now spans.now)) (described starts.now spans.now)) }
+    ensures within { IfSome result (λ i. i < length starts.now) }
 {
-    let mut i = 0;
-    while i < starts.len() {
+    for i in 0..starts.len() {
         if leads(image, starts, spans, wanted, starts[i], spans[i]) {
-            return i;
+            return Some(i);
         }
-        i += 1;
     }
-    i
+    None
 }
 
-// The place in the list of the source area, or the number of areas where none is as long as scratch.
-pub fn choose_source(image: &[u8], starts: &[u32], spans: &[u32], scratch: Descriptor) -> usize
+// The place in the list of the source area; there is none where no area is as long as scratch.
+pub fn choose_source(
+    image: &[u8],
+    starts: &[u32],
+    spans: &[u32],
+    scratch: Descriptor,
+) -> Option<usize>
     requires { AreasFit image.now starts.now spans.now }
-    ensures { area_at starts.now spans.now result ≡ source_of image.now (described starts.now spans.now) scratch }
+    ensures is { area_at starts.now spans.now (unwrap_or result (length starts.now)) ≡ source_of image.now (described starts.now spans.now) scratch }
+    ensures within { IfSome result (λ i. i < length starts.now) }
 {
     let wanted = scratch.length;
-    let leading = first_leading(image, starts, spans, wanted);
-    if leading < starts.len() {
-        return leading;
+    if let Some(leading) = first_leading(image, starts, spans, wanted) {
+        return Some(leading);
     }
-    position(spans, wanted)
+    let longest = position(spans, wanted);
+    if longest < spans.len() {
+        return Some(longest);
+    }
+    None
 }

@@ -53,7 +53,11 @@ pub fn fits(image: &[u8], area: Descriptor, places: &[u16]) -> bool
         if end > span {
             return false;
         }
-        if disjoint(p, size as u32, area.offset, area.length) {} else {
+        let record = Descriptor {
+            offset: p,
+            length: size as u32,
+        };
+        if disjoint(record, area) {} else {
             return false;
         }
         at = end;

@@ -14,6 +14,7 @@ fn pair(b: u8, c: u8) -> u16
 }
 
 // The register `x` two bytes later, without a table: what is left of it and 16 zero bits, divided by the polynomial.
+#[tactic(auto, using(crc_laws::proofs::Remainder::two_later), unfolding(crc_laws::specs::Remainder::remainder))]
 fn remainder(x: u16) -> u16
     ensures { result ≡ crc_bits 16 x }
 {
@@ -23,6 +24,7 @@ fn remainder(x: u16) -> u16
 }
 
 // The register `x` four bytes later, by the tables of its high byte and of its low one.
+#[tactic(auto, using(crc_laws::proofs::Table::four_later))]
 fn later(high: &[u16; 256], low: &[u16; 256], x: u16) -> u16
     requires { Tables high.now low.now }
     ensures { result ≡ crc_bits 32 x }
@@ -31,6 +33,7 @@ fn later(high: &[u16; 256], low: &[u16; 256], x: u16) -> u16
 }
 
 // The register after one byte.
+#[tactic(auto, using(crc_laws::specs::Bytes::one_byte))]
 pub fn one(r: u16, b: u8) -> u16
     ensures { result ≡ crc_byte r b }
 {
@@ -38,6 +41,7 @@ pub fn one(r: u16, b: u8) -> u16
 }
 
 // The register after two bytes.
+#[tactic(auto, using(crc_laws::specs::Bytes::two_bytes))]
 pub fn two(r: u16, b: u8, c: u8) -> u16
     ensures { result ≡ crc_byte (crc_byte r b) c }
 {
@@ -45,6 +49,7 @@ pub fn two(r: u16, b: u8, c: u8) -> u16
 }
 
 // The register after four bytes.
+#[tactic(auto, using(crc_laws::specs::Bytes::four_bytes))]
 pub fn four(high: &[u16; 256], low: &[u16; 256], r: u16, b: u8, c: u8, d: u8, e: u8) -> u16
     requires { Tables high.now low.now }
     ensures { result ≡ crc_byte (crc_byte (crc_byte (crc_byte r b) c) d) e }

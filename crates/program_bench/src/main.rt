@@ -1,12 +1,11 @@
 // Document 01, "Measured on the bench": the check's published value, and the area of 4,096 bytes, as it is and with each named flip.
 #![tactic(auto)]
 
-ghost use Rattle.std.specs.Prelude.{◌≡◌, length};
-ghost use Rattle.crc_laws.specs.Table.{Tables};
+ghost use Rattle.std.specs.Prelude.{◌≡◌, ◌≤◌, length};
 
 use area_pass::list_area;
 use area_read::{HEADER_SIZE, next_record};
-use byte_crc16::{check, high_table, low_table};
+use byte_crc16::{CheckTables, check};
 
 // The area's header, the root at 24, the file "a" at 44, its block of 10 at 65 and its block of 5 at 99; FF follows.
 const BENCH: [u8; 128] = [
@@ -31,26 +30,12 @@ fn show(word: &[u8], n: usize) {
     io::print_decimal(1, n as u64);
 }
 
-// The record found at `at`, and where the next one is sought.
-fn show_record(at: usize, size: usize) -> usize {
-    show(b"record ", at);
-    show(b"+", size);
-    io::write_all(1, b"\n");
-    if at < 65536 {
-        if size < 65536 {
-            return at + size;
-        }
-    }
-    65536
-}
-
 // What the reading of an area comes to: stretches of damage, their bytes, the first of them (T-08), and where free space starts.
-fn show_reading(high: &[u16], low: &[u16], area: &[u8])
-    requires tables { Tables high.now low.now }
-    requires area_len { length area.now ≡ 4096 }
+fn show_reading(tables: &CheckTables, area: &[u8])
+    requires { length area.now ≡ 4096 }
 {
     let mut places = [0u16; PLACES];
-    let pass = list_area(high, low, area, 0, &mut places[..], 0, 0);
+    let pass = list_area(tables, area, 0, &mut places, 0, 0);
     let damage = pass.damage;
     show(b"stretches ", damage.stretches as usize);
     show(b" skipped ", damage.skipped as usize);
@@ -61,48 +46,41 @@ fn show_reading(high: &[u16], low: &[u16], area: &[u8])
 }
 
 // The next record of an area, if there is one, and where the one behind it is sought.
-fn show_next(high: &[u16], low: &[u16], area: &[u8], at: usize) -> usize
-    requires tables { Tables high.now low.now }
+fn show_next(tables: &CheckTables, area: &[u8], at: usize) -> usize
+    requires { at ≤ length area.now }
+    ensures { result ≤ length area.now }
 {
-    if area.len() < at {
+    let Some(next) = next_record(tables, area, at, area.len()) else {
         return at;
-    }
-    let next = next_record(high, low, area, at, area.len());
-    if next.size == 0 {
-        return at;
-    }
-    show_record(next.at, next.size)
+    };
+    show(b"record ", next.at);
+    show(b"+", next.size);
+    io::write_all(1, b"\n");
+    next.at + next.size
 }
 
 // The first records of an area, then what its reading comes to.
 fn show_area(area: &[u8])
     requires { length area.now ≡ 4096 }
 {
-    let high = high_table();
-    let low = low_table();
+    let tables = CheckTables::new();
     let mut at = HEADER_SIZE;
-    let mut left: usize = 8;
-    while 0 < left {
-        at = show_next(&high, &low, area, at);
-        left -= 1;
+    for _ in 0..8 {
+        at = show_next(&tables, area, at);
     }
-    show_reading(&high, &low, area);
+    show_reading(&tables, area);
 }
 
 // The check of document 01's nine digits; then the bench area as it is, and with one bit changed at a time.
 fn main() {
-    io::print_hex(1, check(&DIGITS, b"") as u64, 4);
+    io::print_hex(1, u64::from(check(&DIGITS, b"")), 4);
     io::write_all(1, b"\n");
     let mut area = [0xffu8; 4096];
-    let mut i = 0;
-    while i < 128 {
-        area[i] = BENCH[i];
-        i += 1;
-    }
+    area[..BENCH.len()].copy_from_slice(&BENCH);
     show_area(&area);
-    area[70] = area[70] ^ 1;
+    area[70] ^= 1;
     show_area(&area);
-    area[70] = area[70] ^ 1;
-    area[103] = area[103] ^ 1;
+    area[70] ^= 1;
+    area[103] ^= 1;
     show_area(&area);
 }

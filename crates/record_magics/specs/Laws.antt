@@ -51,10 +51,6 @@ passed_more area at m n p q = record { none = λ j h. go j h (ltb j m) refl }
         let x : at + m + (j - m) ≡ at + j = omega arith in
         rw x at (q.none (j - m) (omega arith))
 
-pub onward_begins : (area : Bytes) (from : ℕ) → Onward area from from
-onward_begins area from =
-    record { onward = omega arith; within = λ h. h; passed = record { none = λ j h. absurd (omega arith) } }
-
 module _ (area : Bytes) (from to : ℕ) (o : Onward area from to) where
   -- n places more
   pub onward_more : (n : ℕ) → to + n ≤ length area → Passed area to n → Onward area from (to + n)

@@ -2,15 +2,15 @@
 // there, or at one of them at most.
 #![tactic(auto)]
 
-ghost use Rattle.std.specs.Prelude.{◌≡◌, ◌+◌, ◌-◌, ◌≤◌, length};
-ghost use Rattle.record_magics.specs.Magic.{start_of, in_magic, magic_at, erased_fourths, clear_all, Passed, Onward, Marks};
+ghost use Rattle.std.specs.Prelude.{◌≡◌, ◌+◌, ◌≤◌, ◌<◌, length, MatchOption};
+ghost use Rattle.record_magics.specs.Magic.{start_of, in_magic, magic_at, erased_fourths, clear_all, Passed, Onward};
 
 use byte_fields::load32;
 use byte_store::ERASED;
 use record_read::{BlockHeader, InodeHeader};
 
 // Which bytes the magics of records have: bit b % 64 of word b / 64 is 1 for such a byte b.
-const MARKS: [u64; 4] = [
+static MARKS: [u64; 4] = [
     0x0000000800000000,
     0x0000000080080000,
     0x0600000000040800,
@@ -18,132 +18,92 @@ const MARKS: [u64; 4] = [
 ];
 
 // Whether a magic has the byte `b`.
-fn marked(marks: &[u64], b: u8) -> bool
-    requires { Marks marks.now }
+fn marked(b: u8) -> bool
     ensures { result ≡ in_magic b }
 {
-    let place = b as usize;
-    (marks[place / 64] >> (place % 64)) % 2 == 1
+    let place = usize::from(b);
+    (MARKS[place / 64] >> (place % 64)) % 2 == 1
 }
 
-// Of four places in a row, counted from 0, the one where a magic starts that has `b` at the last of them; 4 where no magic has it.
-fn start_of(b: u8) -> usize
-    ensures { result ≡ start_of b }
+// Of four places in a row, counted from 0, the one where a magic starts that has `b` at the last of them, if a magic has it.
+#[tactic(auto, unfolding(crate::specs::Magic::start_of))]
+fn start_of(b: u8) -> Option<usize>
+    ensures { MatchOption result (start_of b ≡ 4) (λ i. (i ≡ start_of b) × (i < 4)) }
 {
     match b {
-        0xc0 | 0xb9 => 3,
-        0x8b | 0x23 => 2,
-        0x5f | 0xba => 1,
-        0x92 | 0x53 => 0,
-        _ => 4,
+        0xc0 | 0xb9 => Some(3),
+        0x8b | 0x23 => Some(2),
+        0x5f | 0xba => Some(1),
+        0x92 | 0x53 => Some(0),
+        _ => None,
     }
 }
 
 // Whether the magic of a record stands at `at`.
+#[tactic(auto, unfolding(crate::specs::Magic::magic_at))]
 fn magic_at(area: &[u8], at: usize) -> bool
     requires { at + 4 ≤ length area.now }
     ensures { result ≡ magic_at area.now at }
 {
-    let magic = load32(area, at);
-    if magic == InodeHeader::MAGIC {
-        return true;
-    }
-    magic == BlockHeader::MAGIC
+    matches!(load32(area, at), InodeHeader::MAGIC | BlockHeader::MAGIC)
 }
 
-// Which of the four places from `at` on has a magic, counted from 0, or 4. The byte at the last of them leaves one place at most.
-fn magic_in_four(marks: &[u64], area: &[u8], at: usize) -> usize
-    requires { Marks marks.now × (at + 7 ≤ length area.now) }
-    ensures within { result ≤ 4 }
-    ensures passed { Passed area.now at result }
+// Which of the four places from `at` on has a magic, counted from 0. The byte at the last of them leaves one place at most.
+fn magic_in_four(area: &[u8], at: usize) -> Option<usize>
+    requires { at + 7 ≤ length area.now }
+    ensures { MatchOption result (Passed area.now at 4) (λ i. (i < 4) × Passed area.now at i) }
 {
     let last = area[at + 3];
-    if marked(marks, last) {
-        let i = start_of(last);
-        if magic_at(area, at + i) {
-            return i;
-        }
+    if !marked(last) {
+        return None;
     }
-    4
+    let i = start_of(last)?;
+    magic_at(area, at + i).then_some(i)
 }
 
 // Whether the four bytes that tell of the sixteen places from `at` on, the last of each four, are erased: the quick way through free space.
+#[tactic(auto, unfolding(crate::specs::Magic::erased_fourths))]
 fn erased_fourths(area: &[u8], at: usize) -> bool
     requires { at + 16 ≤ length area.now }
     ensures { result ≡ erased_fourths area.now at }
 {
-    if area[at + 3] != ERASED {
-        return false;
-    }
-    if area[at + 7] != ERASED {
-        return false;
-    }
-    if area[at + 11] != ERASED {
-        return false;
-    }
-    area[at + 15] == ERASED
+    area[at + 3] == ERASED
+        && area[at + 7] == ERASED
+        && area[at + 11] == ERASED
+        && area[at + 15] == ERASED
 }
 
 // Whether none of these four bytes is in a magic.
-fn clear_sixteen(marks: &[u64], area: &[u8], at: usize) -> bool
-    requires { Marks marks.now × (at + 16 ≤ length area.now) }
+#[tactic(auto, using(crate::specs::Laws::erased_clear), unfolding(crate::specs::Magic::clear_all))]
+fn clear_sixteen(area: &[u8], at: usize) -> bool
+    requires { at + 16 ≤ length area.now }
     ensures { result ≡ clear_all area.now at }
 {
-    if erased_fourths(area, at) {
-        return true;
-    }
-    if marked(marks, area[at + 3]) {
-        return false;
-    }
-    if marked(marks, area[at + 7]) {
-        return false;
-    }
-    if marked(marks, area[at + 11]) {
-        return false;
-    }
-    !marked(marks, area[at + 15])
-}
-
-// How many places of an area of `len` bytes have room for a record's header.
-fn starts(len: usize) -> usize
-    ensures { result ≡ len - 19 }
-{
-    if len < InodeHeader::SIZE {
-        return 0;
-    }
-    len - (InodeHeader::SIZE - 1)
+    erased_fourths(area, at)
+        || !marked(area[at + 3])
+            && !marked(area[at + 7])
+            && !marked(area[at + 11])
+            && !marked(area[at + 15])
 }
 
 // The place to look at next, from `from` on: no record starts before it. The search stops at a magic, from `stop` on, or goes on to the area's end.
-fn next_marked(marks: &[u64], area: &[u8], from: usize, stop: usize) -> usize
-    requires { Marks marks.now }
+pub fn next_magic(area: &[u8], from: usize, stop: usize) -> usize
     ensures { Onward area.now from result }
 {
-    let end = starts(area.len());
+    // behind the last place that has room for a record's header
+    let end = area.len().saturating_sub(InodeHeader::SIZE - 1);
     let mut at = from;
     while at < end {
         if stop <= at {
             return at;
         }
-        if clear_sixteen(marks, area, at) {
+        if clear_sixteen(area, at) {
             at += 16;
+        } else if let Some(i) = magic_in_four(area, at) {
+            return at + i;
         } else {
-            let i = magic_in_four(marks, area, at);
-            if i < 4 {
-                return at + i;
-            }
             at += 4;
         }
     }
-    if at < area.len() {
-        return area.len();
-    }
-    at
-}
-
-// The same. A function of its own, which sets up the marks once for each search.
-pub fn next_magic(area: &[u8], from: usize, stop: usize) -> usize
-    ensures { Onward area.now from result }
-{
-    next_marked(&MARKS, area, from, stop)
+    at.max(area.len())
 }

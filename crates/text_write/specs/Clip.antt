@@ -112,9 +112,6 @@ pub record Toward (x₀ : Bytes) (p : ℕ) (whole x : Bytes) (q : ℕ) (rest : B
   pub long : length x ≡ length x₀
   pub makes : clip x q rest ≡ clip x₀ p whole
 
-pub toward_begins : (x₀ : Bytes) (p : ℕ) (whole : Bytes) → Toward x₀ p whole x₀ p whole
-toward_begins x₀ p whole = record { long = refl; makes = refl }
-
 pub toward_ends : {x₀ : Bytes} {p : ℕ} {whole x : Bytes} {q : ℕ} {rest : Bytes} → Toward x₀ p whole x q rest → rest ≡ [] → x ≡ clip x₀ p whole
 toward_ends {x₀} {p} {whole} {x} {q} {rest} t e = sym (clip_none x q) ∙ ap (clip x q) (sym e) ∙ t.makes
 

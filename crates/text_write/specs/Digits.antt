@@ -67,11 +67,6 @@ pub spelling_ends : (n place rest : ℕ) (digits : Bytes) → Spelling n place r
 unfolding digits_within
 spelling_ends n place rest digits s h = let e = s.spelt in stored n place rest digits s (48 + rest) ∙ rw (lt-ltb rest 10 h) at e
 
--- more than one digit has more than one place
-pub spelling_room : (n place rest : ℕ) (digits : Bytes) → Spelling n place rest digits → 10 ≤ rest → 0 < place
-spelling_room n zero rest digits s h = let l = s.small in absurd (omega arith)
-spelling_room n (suc p) rest digits s h = omega arith
-
 pub spelling_step : (n place rest : ℕ) (digits : Bytes) → Spelling n place rest digits → 10 ≤ rest
     → Spelling n (place - 1) (rest / 10) (set digits place (48 + rest % 10))
 unfolding digits_within

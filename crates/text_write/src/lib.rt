@@ -18,13 +18,13 @@ const ZERO: u8 = 0x30;
 const DIGITS: usize = 10;
 
 // Writes a byte, and answers where the next one goes.
+#[tactic(auto, using(crate::specs::Clip::clip_byte, crate::specs::Clip::clip_past))]
 pub fn push(text: &mut [u8], at: usize, byte: u8) -> usize
     requires { at < longest_text }
     ensures { Wrote text.old at (byte ∷ []) text.new result }
 {
     if at < text.len() {
         text[at] = byte;
-        return at + 1;
     }
     at + 1
 }
@@ -34,10 +34,8 @@ pub fn indent(text: &mut [u8], at: usize, n: usize) -> usize
     requires { at + n ≤ longest_text }
     ensures { Wrote text.old at (replicate n 32) text.new result }
 {
-    let mut i = 0;
-    while i < n {
+    for i in 0..n {
         push(text, at + i, SPACE);
-        i += 1;
     }
     at + n
 }
@@ -46,10 +44,7 @@ pub fn indent(text: &mut [u8], at: usize, n: usize) -> usize
 fn glyph(byte: u8) -> u8
     ensures { printed (byte ∷ []) ≡ result ∷ [] }
 {
-    if byte == NEWLINE {
-        return SLASH;
-    }
-    byte
+    if byte == NEWLINE { SLASH } else { byte }
 }
 
 // Writes a name, or a word.
@@ -57,18 +52,14 @@ pub fn print(text: &mut [u8], at: usize, name: &[u8]) -> usize
     requires { at + length name.now ≤ longest_text }
     ensures { Wrote text.old at (printed name.now) text.new result }
 {
-    let n = name.len();
-    let mut i = 0;
-    while i < n {
-        push(text, at + i, glyph(name[i]));
-        i += 1;
+    for (i, byte) in name.iter().enumerate() {
+        push(text, at + i, glyph(*byte));
     }
-    at + n
+    at + name.len()
 }
 
 // Spells a number from its last digit on, and answers where its first one stands.
-fn spell(n: u32, digits: &mut [u8]) -> usize
-    requires { length digits.old ≡ 10 }
+fn spell(n: u32, digits: &mut [u8; DIGITS]) -> usize
     ensures within { result ≤ 10 }
     ensures spelt { drop result digits.new ≡ decimal n }
 {

@@ -1,14 +1,13 @@
-use Rattle.std.proofs.Common.{◌*◌, arith}
-use Rattle.format_laws.specs.Tests.{via}
-use Rattle.volume_laws.specs.Steps.{all_asks, ask_passes, ask_fails, ask_ends}
-use Rattle.area_list.specs.Listing.{pair_step, paired_end}
+use Rattle.std.proofs.Common.{◌/◌, length, ◌∙◌, arith, rules, tests}
+use Rattle.std.proofs.lemmas.Iterator.{YieldsList-from_range}
+use Rattle.std.proofs.lemmas.Iterator.Search.{all_from_yields_List}
+use Rattle.volume_laws.specs.Steps.{all_asks}
+use Rattle.calls.specs.Areas.{disjoint}
+use Rattle.area_list.specs.Steps.{pair_of, asked}
 use Rattle.area_list.proofs.disjoint_from.Goals as goal
 
-pub returns-then-not-disjoint : goal.returns-then-not-disjoint
-returns-then-not-disjoint c = ask_fails (all_asks _) c.loop-i.invariant (pair_step c.args.pairs.now c.loop-i.i (omega arith)) (via c.disjoint.ensures c.if-not-disjoint.true)
-
-pub loop-i-preserved : goal.loop-i-preserved
-loop-i-preserved c = ask_passes (all_asks _) c.loop-i.invariant (pair_step c.args.pairs.now c.loop-i.i (omega arith)) (via c.disjoint.ensures c.if-not-disjoint.false)
-
 pub returns : goal.returns
-returns c = ask_ends (all_asks _) c.loop-i.invariant (paired_end c.args.pairs.now (c.loop-i.i * 2) (omega arith))
+returns c =
+    let n = length c.args.pairs.now / 2 in
+    all_from_yields_List (λ i. disjoint c.args.area (pair_of c.args.pairs.now i)) _ _ _ c.all.ensures.ran (YieldsList-from_range 0 n n (cc) (omega arith)) (λ x b q k. search (rules, tests))
+    ∙ asked (all_asks (disjoint c.args.area)) c.args.pairs.now

@@ -1,4 +1,4 @@
-use Rattle.std.proofs.Common.{◌≡◌, refl, sym, subst, ◌∙◌, ℕ, Bool, true, false, List, length, take, length-take, arith}
+use Rattle.std.proofs.Common.{◌≡◌, refl, sym, subst, ◌∙◌, ℕ, Bool, true, false, List, length, arith}
 use Rattle.record_places.specs.Place.{AllLie}
 use Rattle.format_laws.specs.Tests.{via}
 use Rattle.collect_stores.specs.Moved.{Removable}

@@ -1,4 +1,4 @@
-use Rattle.std.proofs.Common.{◌≡◌, ◌+◌, ◌-◌, subst, take, drop, ℕ, List, arith}
+use Rattle.std.proofs.Common.{◌≡◌, ◌+◌, ◌-◌, subst, take, drop, length, length-take, ℕ, List, arith}
 use Rattle.calls.specs.Attempt.{number_of}
 use Rattle.calls.specs.Outcome.{outcome_of}
 use Rattle.calls.specs.Collect.{source_of}
@@ -20,14 +20,22 @@ chosen : (image : Bytes) (m : Mounted) (t : List ℕ) (r : ℕ)
     → area_at (starts_in m t) (spans_in m t) r ≡ source_of image (described (starts_in m t) (spans_in m t)) m.scratch
 chosen image m t r = subst (λ (y : List ℕ). area_at (starts_in m t) y r ≡ source_of image (described (starts_in m t) y) m.scratch) (lent spans_at m.files t)
 
-pub choose_source-source-requires : goal.choose_source-source-requires
-choose_source-source-requires c = fit_lent c.requires.safe
+pub choose_source-requires : goal.choose_source-requires
+choose_source-requires c = fit_lent c.requires.safe
 
-pub returns-then-source-n : goal.returns-then-source-n
-returns-then-source-n c =
+pub collect_from-requires-clause-source_lt_files : goal.collect_from-requires-clause-source_lt_files
+collect_from-requires-clause-source_lt_files c =
+    omega (arith, c.in-Some.ensures.within, length-take c.args.m.files c.args.tables.now)
+
+pub returns-in_default : goal.returns-in_default
+returns-in_default c =
     λ ds h p.
-    let e = c.collect_from.ensures ds h p in
-    source_some h c.requires.safe c.choose_source-source.result (chosen c.args.image.now c.args.m c.args.tables.now _ c.choose_source-source.ensures) c.if-source-n.true (number_of (outcome_of c.collect_from.result)) _ e.0 e.1
+    source_none h c.requires.safe (length (starts_in c.args.m c.args.tables.now)) (chosen c.args.image.now c.args.m c.args.tables.now _ c.in_default.ensures.is)
+    (omega (arith, length-take c.args.m.files c.args.tables.now, c.requires.safe.long, c.requires.safe.files_few))
 
 pub returns : goal.returns
-returns c = λ ds h p. source_none h c.requires.safe c.choose_source-source.result (chosen c.args.image.now c.args.m c.args.tables.now _ c.choose_source-source.ensures) (omega (arith, c.if-source-n.false))
+returns c =
+    λ ds h p.
+    let e = c.collect_from.ensures ds h p in
+    source_some h c.requires.safe c.in-Some.source (chosen c.args.image.now c.args.m c.args.tables.now _ c.in-Some.ensures.is)
+    (omega (arith, c.in-Some.ensures.within, length-take c.args.m.files c.args.tables.now)) (number_of (outcome_of c.collect_from.result)) _ e.0 e.1
