@@ -1,7 +1,7 @@
 // Checks 1 to 4 in order, and the areas that a volume is made of: its file areas, in the first columns of the rows of areas, and its scratch area.
 #![tactic(auto)]
 
-ghost use Rattle.std.specs.Prelude.{◌≡◌, ◌+◌, ◌≤◌, length, leb};
+ghost use Rattle.std.specs.Prelude.{◌≡◌, ◌+◌, ◌≤◌, length, drop, leb};
 ghost use Rattle.volume.specs.Lists.{all};
 ghost use Rattle.calls.specs.Areas.{most_areas};
 ghost use Rattle.area_list.specs.Numbers.{paired, area_list};
@@ -73,31 +73,55 @@ fn sort_areas(image: &[u8], pairs: &[u32], rows: &mut [u32]) -> Kinds
     Kinds { files, scratch }
 }
 
-// Whether no area has this id.
-fn no_id(image: &[u8], id: u8, starts: &[u32], spans: &[u32]) -> bool
-    requires { Good (length image.now) starts.now spans.now }
-    ensures { result ≡ all (other_id image.now id) (described starts.now spans.now) }
-{
-    for start in starts {
-        if area_id(image, *start) == id {
-            return false;
-        }
-    }
-    true
+// Good areas of an image: their starts and their spans.
+#[derive(Clone, Copy)]
+struct GoodAreas<'a> {
+    image: &'a [u8],
+    starts: &'a [u32],
+    spans: &'a [u32],
+    ghost good: { Good (length image.now) starts.now spans.now },
 }
 
-// Whether two areas have one id.
-fn shared_id(image: &[u8], starts: &[u32], spans: &[u32]) -> bool
-    requires { Good (length image.now) starts.now spans.now }
-    ensures { result ≡ shared_area_id image.now (described starts.now spans.now) }
-{
-    for (i, start) in starts.iter().enumerate() {
-        let id = area_id(image, *start);
-        if !no_id(image, id, &starts[i + 1..], &spans[i + 1..]) {
-            return true;
+impl<'a> GoodAreas<'a> {
+    // Those behind the first `n`.
+    fn behind(&self, n: usize) -> GoodAreas<'a>
+        requires { n ≤ length self.now.starts.now }
+        ensures image { result.image.now ≡ self.now.image.now }
+        ensures starts { result.starts.now ≡ drop n self.now.starts.now }
+        ensures spans { result.spans.now ≡ drop n self.now.spans.now }
+    {
+        GoodAreas {
+            image: self.image,
+            starts: &self.starts[n..],
+            spans: &self.spans[n..],
         }
     }
-    false
+
+    // Whether none has this id.
+    fn no_id(&self, id: u8) -> bool
+        ensures { result ≡ all (other_id self.now.image.now id) (described self.now.starts.now self.now.spans.now) }
+    {
+        let starts = self.starts;
+        for start in starts {
+            if area_id(self.image, *start) == id {
+                return false;
+            }
+        }
+        true
+    }
+
+    // Whether two have one id.
+    fn shared_id(&self) -> bool
+        ensures { result ≡ shared_area_id self.now.image.now (described self.now.starts.now self.now.spans.now) }
+    {
+        let starts = self.starts;
+        for (i, start) in starts.iter().enumerate() {
+            if !self.behind(i + 1).no_id(area_id(self.image, *start)) {
+                return true;
+            }
+        }
+        false
+    }
 }
 
 // Whether no length is greater than `most`.
@@ -108,25 +132,19 @@ fn none_longer(spans: &[u32], most: u32) -> bool
 }
 
 // The one scratch area, or the first of refusals 2 to 4, by the file areas and the scratch areas found.
-fn check_kinds(
-    image: &[u8],
-    starts: &[u32],
-    spans: &[u32],
-    scratch: ScratchFound,
-) -> Result<Descriptor, Refusal>
-    requires { Good (length image.now) starts.now spans.now }
-    ensures { KindsAnswer image.now (described starts.now spans.now) scratch result }
+fn check_kinds(files: &GoodAreas<'_>, scratch: ScratchFound) -> Result<Descriptor, Refusal>
+    ensures { KindsAnswer files.now.image.now (described files.now.starts.now files.now.spans.now) scratch result }
 {
-    if shared_id(image, starts, spans) {
+    if files.shared_id() {
         return Err(Refusal::SameAreaId);
     }
-    if starts.is_empty() {
+    if files.starts.is_empty() {
         return Err(Refusal::NoFileOrScratch);
     }
     let ScratchFound::One(area) = scratch else {
         return Err(Refusal::NoFileOrScratch);
     };
-    if !none_longer(spans, area.length) {
+    if !none_longer(files.spans, area.length) {
         return Err(Refusal::ShortScratch);
     }
     Ok(area)
@@ -143,6 +161,11 @@ pub fn check_areas(image: &[u8], areas: &[u32], rows: &mut [u32]) -> Result<Chec
     }
     let Kinds { files, scratch } = sort_areas(image, &areas[..n * 2], rows);
     let end = SPANS + files;
-    let scratch = check_kinds(image, &rows[0..files], &rows[SPANS..end], scratch)?;
+    let areas = GoodAreas {
+        image,
+        starts: &rows[0..files],
+        spans: &rows[SPANS..end],
+    };
+    let scratch = check_kinds(&areas, scratch)?;
     Ok(CheckedAreas { files, scratch })
 }

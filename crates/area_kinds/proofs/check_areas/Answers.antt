@@ -24,15 +24,17 @@ sort_areas-files-requires c =
     }
 
 -- the list is good, and its areas are sorted
-pub check_kinds-requires : goal.check_kinds-requires
-check_kinds-requires c =
+pub invariant_of-areas : goal.invariant_of-areas
+invariant_of-areas c =
     let n = c.sort_areas-files.result.files in
     let rows = c.sort_areas-files.new.rows in
     let g = c.count_good_areas-n.ensures in
     let sorted = rw (g.is c.if-n-eq0.false) at c.sort_areas-files.ensures in
     let long : spans_at + most_areas ≤ length rows = omega (arith, c.sort_areas-files.auto.rows, c.requires) in
-    both (Good (length c.args.image.now)) (lent_front n rows) (lent spans_at n rows)
-    (files_good c.args.image.now (area_list c.args.areas.now) c.sort_areas-files.result rows sorted long (description_good c.args.image.now (area_list c.args.areas.now) (g.passed c.if-n-eq0.false)).each)
+    record {
+      good = both (Good (length c.args.image.now)) (lent_front n rows) (lent spans_at n rows)
+          (files_good c.args.image.now (area_list c.args.areas.now) c.sort_areas-files.result rows sorted long (description_good c.args.image.now (area_list c.args.areas.now) (g.passed c.if-n-eq0.false)).each);
+    }
 
 pub returns-in_err-scratch : goal.returns-in_err-scratch
 returns-in_err-scratch c =
