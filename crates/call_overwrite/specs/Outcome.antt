@@ -1,5 +1,5 @@
 -- The number of an overwrite and the image after it. Document 02, T-05: refusals 8 to 11, 13, 14, 16 and 15.
-use Rattle.std.specs.Prelude.{ℕ, ◌+◌, ◌≤◌, ◌<◌, ◌≢◌, Bool, true, false, get_or}
+use Rattle.std.specs.Prelude.{ℕ, ◌+◌, ◌≤◌, ◌<◌, Bool, true, false, get_or}
 use Rattle.std.proofs.Math.Path.{◌≡◌, refl}
 use Rattle.std.proofs.Common.{ap, ◌∙◌, arith}
 use Rattle.std.proofs.Math.Bool.{cond}
@@ -28,12 +28,13 @@ use Rattle.calls.specs.Lookup.{resolve}
 use Rattle.calls.specs.Attempt.{Attempt, goes, refuses, number_of, leaves, unless, at_found, attempt_at}
 use Rattle.calls.specs.Append.{most_appended}
 use Rattle.calls.specs.Overwrite.{overwrite_plan, overwrite_to, overwriting, overwrite_image, overwrite_of, image_overwritten}
+use Rattle.calls.specs.Outcome.{code, code_nonzero}
 use Rattle.calls.specs.declared.Descriptor.{Descriptor}
+use Rattle.calls.specs.declared.Refusal.{Refusal}
 use Rattle.area_pass.specs.Listing.{places_in}
 use Rattle.area_pass.specs.Bridge.{placed_volume, volume_places}
-use Rattle.path_walk.specs.Resolved.{refusal_of}
 use Rattle.path_find.specs.Text.{text_long, text_at}
-use Rattle.mount_state.specs.State.{Holds, Mounts}
+use Rattle.mount_state.specs.State.{Holds}
 use Rattle.mount_state.specs.declared.Mounted.{Mounted}
 use Rattle.call_overwrite.specs.Written.{AllPlaced, any_greatest, planned, Written}
 
@@ -132,25 +133,24 @@ module _ {image : Bytes} {ds : List Descriptor} {m : Mounted} {t : List ℕ} (h 
   unfolding overwriting
   overwrite_long more = done (refuses 8) (text_long h base path text (λ f. overwrite_to image ds f offset text) more) (refl, refl)
 
-  -- o is what the path leads to
-  module _ (short : length text ≤ most_appended) (o : Found) (e : o ≡ resolve image ds base path) where
-    overwriting_is : overwriting image ds base path offset text ≡ at_found (λ f. overwrite_to image ds f offset text) o
+  module _ (short : length text ≤ most_appended) where
+    overwriting_is : (o : Found) → o ≡ resolve image ds base path → overwriting image ds base path offset text ≡ at_found (λ f. overwrite_to image ds f offset text) o
     unfolding overwriting
-    overwriting_is = text_at h base path text (λ f. overwrite_to image ds f offset text) short o e
+    overwriting_is o e = text_at h base path text (λ f. overwrite_to image ds f offset text) short o e
 
-    -- nothing; k is the number of refusal
-    pub overwrite_absent : (n : ℕ) → o ≡ absent n → (k : ℕ) → k ≡ refusal_of o → Done k image
-    overwrite_absent n q k z = done (refuses n) (overwriting_is ∙ ap (at_found (λ f. overwrite_to image ds f offset text)) q) (z ∙ ap refusal_of q, refl)
+    -- the path leads to nothing
+    pub overwrite_absent : (n : ℕ) → absent n ≡ resolve image ds base path → Done n image
+    overwrite_absent n e = done (refuses n) (overwriting_is (absent n) e) (refl, refl)
 
-    -- the inode f, and what became of the overwrite in it
-    pub overwrite_found : (f : ℕ) → o ≡ found f → {r : ℕ} {x : Bytes} → Outcome image ds offset text (overwrite_at image ds offset text f) r x → Done r x
-    overwrite_found f q w = done (overwrite_at image ds offset text f) (overwriting_is ∙ ap (at_found (λ f. overwrite_to image ds f offset text)) q) w
+    -- it leads to the inode f, and what became of the overwrite in it
+    pub overwrite_found : (f : ℕ) → found f ≡ resolve image ds base path → {r : ℕ} {x : Bytes} → Outcome image ds offset text (overwrite_at image ds offset text f) r x → Done r x
+    overwrite_found f e w = done (overwrite_at image ds offset text f) (overwriting_is (found f) e) w
 
 -- ---- a refused mount
 
-pub overwrite_refused : {image : Bytes} {ds : List Descriptor} {m : Mounted} {t ps : List ℕ} → Mounts image ds m t ps → (base path : Bytes) (offset : ℕ) (text : Bytes)
-    → m.number ≢ 0 → (m.number ≡ overwrite_of image ds base path offset text) × (image ≡ image_overwritten image ds base path offset text)
+pub overwrite_refused : (image : Bytes) (ds : List Descriptor) (base path : Bytes) (offset : ℕ) (text : Bytes) (r : Refusal) → code r ≡ mount_number image ds
+    → (code r ≡ overwrite_of image ds base path offset text) × (image ≡ image_overwritten image ds base path offset text)
 unfolding overwriting overwrite_of image_overwritten attempt_at
-overwrite_refused {image} {ds} c base path offset text h =
-    let e = ne_eqb (mount_number image ds) 0 (λ z. h (c.number ∙ z)) in
-    (rw (c.number, e), rw e)
+overwrite_refused image ds base path offset text r k =
+    let e = ne_eqb (mount_number image ds) 0 (λ z. code_nonzero r (k ∙ z)) in
+    (rw (k, e), rw e)
