@@ -62,7 +62,7 @@ def read_code(crate):
     for line in "\n".join(texts(crate, "src", ".rt")).split("\n"):
         impl = re.match(r"impl(?:<[^>]*>)? (\w+)(?:<[^>]*>)? \{", line)
         owner = impl[1] if impl else None if line.startswith("}") else owner
-        said = re.match(r'\s*(?:pub )?(?:extern "C" )?(?:fn|const|struct|enum) (\w+)', line)
+        said = re.match(r'\s*(?:pub )?(?:extern "C" )?(?:fn|const|static|struct|enum) (\w+)', line)
         if said:
             names.add(f"{owner}::{said[1]}" if owner and line.startswith(" ") else said[1])
     return names

@@ -1,4 +1,4 @@
-// The check of records, CRC-16/XMODEM: four bytes a turn by tables, and in short slices two a turn without them.
+// The check of records, CRC-16/XMODEM: four bytes a turn by tables, and what is left two a turn without them.
 #![tactic(auto)]
 
 mod tables;
@@ -9,9 +9,6 @@ ghost use Rattle.crc_laws.specs.Table.{Tables};
 
 use crc16_register::{four, one, two};
 use tables::{HIGH, LOW};
-
-// From so many bytes on `over` goes by the tables. No value depends on it.
-const LONG: usize = 24;
 
 // The two tables of the check, each of a byte of the register. They are statics, which no compiled code copies; who checks records lends them down.
 #[derive(Drop)]
@@ -68,21 +65,11 @@ impl CheckTables {
     }
 }
 
-// The register after the bytes of `s`, by the tables.
-fn by_tables(start: u16, s: &[u8]) -> u16
-    ensures { result ≡ crc_over start s.now }
-{
-    CheckTables::new().over(start, s)
-}
-
 // The register after the bytes of `s`. Who checks a body in parts goes on from one to the next.
 pub fn over(start: u16, s: &[u8]) -> u16
     ensures { result ≡ crc_over start s.now }
 {
-    if s.len() < LONG {
-        return two_a_turn(start, s);
-    }
-    by_tables(start, s)
+    CheckTables::new().over(start, s)
 }
 
 // The check over the header bytes before the check field, and then the body.

@@ -22,7 +22,6 @@ use Rattle.calls.specs.Attempt.{Attempt, goes, refuses, number_of, leaves, unles
 use Rattle.calls.specs.Append.{most_appended, pieces_of, or_none, block_records, new_blocks, is_broken, append_to, appending, append_image, append_of, image_appended}
 use Rattle.calls.specs.declared.Descriptor.{Descriptor}
 use Rattle.area_pass.specs.Bridge.{placed_volume, volume_places}
-use Rattle.path_walk.specs.Resolved.{refusal_of}
 use Rattle.path_find.specs.Text.{text_long, text_at}
 use Rattle.write_sizes.specs.Cut.{pieces, shortest_described}
 use Rattle.write_pieces.specs.Plan.{records_count}
@@ -147,16 +146,15 @@ module _ {image : Bytes} {ds : List Descriptor} {m : Mounted} {t : List ℕ} (h 
   unfolding appending
   append_long more = done (refuses 8) (text_long h base path text (λ f. append_to image ds f text) more) (refl, refl)
 
-  -- o is what the path leads to
-  module _ (short : length text ≤ most_appended) (o : Found) (e : o ≡ resolve image ds base path) where
-    appending_is : appending image ds base path text ≡ at_found (λ f. append_to image ds f text) o
+  module _ (short : length text ≤ most_appended) where
+    appending_is : (o : Found) → o ≡ resolve image ds base path → appending image ds base path text ≡ at_found (λ f. append_to image ds f text) o
     unfolding appending
-    appending_is = text_at h base path text (λ f. append_to image ds f text) short o e
+    appending_is o e = text_at h base path text (λ f. append_to image ds f text) short o e
 
-    -- nothing; k is the number of refusal
-    pub append_absent : (n : ℕ) → o ≡ absent n → (k : ℕ) → k ≡ refusal_of o → Done k image
-    append_absent n q k z = done (refuses n) (appending_is ∙ ap (at_found (λ f. append_to image ds f text)) q) (z ∙ ap refusal_of q, refl)
+    -- the path leads to nothing
+    pub append_absent : (n : ℕ) → absent n ≡ resolve image ds base path → Done n image
+    append_absent n e = done (refuses n) (appending_is (absent n) e) (refl, refl)
 
-    -- the inode f, and what became of the append to it
-    pub append_found : (f : ℕ) → o ≡ found f → {r : ℕ} {x : Bytes} → Outcome image ds text (append_at image ds text f) r x → Done r x
-    append_found f q w = done (append_at image ds text f) (appending_is ∙ ap (at_found (λ f. append_to image ds f text)) q) w
+    -- it leads to the inode f, and what became of the append to it
+    pub append_found : (f : ℕ) → found f ≡ resolve image ds base path → {r : ℕ} {x : Bytes} → Outcome image ds text (append_at image ds text f) r x → Done r x
+    append_found f e w = done (append_at image ds text f) (appending_is (found f) e) w

@@ -9,11 +9,14 @@ ghost use Rattle.volume.specs.Counting.{Volume};
 ghost use Rattle.calls.specs.Areas.{file_areas};
 ghost use Rattle.calls.specs.Mount.{most_blocks, most_records};
 ghost use Rattle.calls.specs.Storing.{spaces};
+ghost use Rattle.calls.specs.Attempt.{number_of};
+ghost use Rattle.calls.specs.Outcome.{outcome_of};
 ghost use Rattle.calls.specs.Append.{most_appended, append_of, image_appended};
 ghost use Rattle.calls.specs.declared.Descriptor.{Descriptor};
 ghost use Rattle.record_places.specs.Place.{AllLie};
+ghost use Rattle.table_rows.specs.Answer.{meant};
 ghost use Rattle.table_rows.specs.Rows.{BlockTable};
-ghost use Rattle.file_blocks.specs.Blocks.{BlocksOf, last_of};
+ghost use Rattle.file_blocks.specs.Blocks.{BlocksOf};
 ghost use Rattle.write_ids.specs.Window.{named_at};
 ghost use Rattle.mount_state.specs.State.{Safe, Holds, SafePlaces, HoldsPlaces};
 ghost use Rattle.call_append.specs.Last.{last_unless_broken};
@@ -21,11 +24,11 @@ ghost use Rattle.call_append.specs.Written.{size_for, Cut, Room, Written};
 ghost use Rattle.call_append.specs.Outcome.{Outcome, append_at};
 
 use area_pass::SPANS;
-use calls::{BAD_PATH, BROKEN, MOST_APPENDED, MOST_BLOCKS, NO_ROOM, TOO_MANY_IDS, WRONG_KIND};
-use file_blocks::{Last, Size, file_size, last_block};
+use calls::{MOST_APPENDED, MOST_BLOCKS, Refusal};
+use file_blocks::{file_size, last_block};
 use mount_state::{BLOCK_IDS, BLOCK_SPOTS, Mounted};
 use path_find::find_path;
-use path_walk::Resolved;
+use record_read::is_directory_id;
 use write_pieces::{plan_ids, plan_places, store_pieces};
 use write_sizes::{MOST_PIECES, greatest_block, piece_count, shortest};
 
@@ -39,14 +42,12 @@ pub struct Chain {
 }
 
 // The block that the first piece follows, NONE where the file is empty. A broken file has none.
-fn last_unless_broken(image: &[u8], ids: &[u32], spots: &[u32], file: u32) -> Last
+fn last_unless_broken(image: &[u8], ids: &[u32], spots: &[u32], file: u32) -> Option<u32>
     requires block_table { BlockTable image.now ids.now spots.now }
     requires ids_len_bound { length ids.now ≤ most_blocks }
-    ensures { (v : Volume ℕ) → BlocksOf image.now ids.now spots.now v → last_of result ≡ last_unless_broken image.now v file }
+    ensures { (v : Volume ℕ) → BlocksOf image.now ids.now spots.now v → meant result ≡ last_unless_broken image.now v file }
 {
-    let Size::Whole(_) = file_size(image, ids, spots, file) else {
-        return Last::Several;
-    };
+    file_size(image, ids, spots, file)?;
     last_block(image, ids, spots, file)
 }
 
@@ -70,27 +71,19 @@ fn write_pieces(
     chain: Chain,
     ids: &mut [u32],
     places: &mut [u32],
-) -> u32
+) -> Result<(), Refusal>
     requires safe { Safe image.old m tables.now }
     requires all_lie { AllLie image.old records.now (length records.now) }
     requires records_len_bound { length records.now ≤ most_records }
     requires room { Room chain text.now ids.old places.old }
-    ensures { (ds : List Descriptor) → Holds image.old ds m tables.now → Written image.old (spaces image.old (file_areas image.old ds)) (named_at image.old records.now) chain text.now result image.new }
+    ensures { (ds : List Descriptor) → Holds image.old ds m tables.now → Written image.old (spaces image.old (file_areas image.old ds)) (named_at image.old records.now) chain text.now (number_of (outcome_of result)) image.new }
 {
-    if plan_places(&*image, tables, m, text, chain.size, &mut *places) {} else {
-        return NO_ROOM;
+    if !plan_places(image, tables, m, text, chain.size, places) {
+        return Err(Refusal::NoRoom);
     }
-    plan_ids(&*image, records, &mut *ids);
-    store_pieces(
-        &mut *image,
-        &*ids,
-        &*places,
-        text,
-        chain.size,
-        chain.file,
-        chain.last,
-    );
-    0
+    plan_ids(image, records, ids);
+    store_pieces(image, ids, places, text, chain.size, chain.file, chain.last);
+    Ok(())
 }
 
 // Writes the pieces, with arrays for the plan of the most that there may be.
@@ -101,18 +94,18 @@ fn write_count(
     records: &[u16],
     text: &[u8],
     chain: Chain,
-) -> u32
+) -> Result<(), Refusal>
     requires safe { Safe image.old m tables.now }
     requires all_lie { AllLie image.old records.now (length records.now) }
     requires records_len_bound { length records.now ≤ most_records }
     requires cut { Cut chain text.now }
-    ensures { (ds : List Descriptor) → Holds image.old ds m tables.now → Written image.old (spaces image.old (file_areas image.old ds)) (named_at image.old records.now) chain text.now result image.new }
+    ensures { (ds : List Descriptor) → Holds image.old ds m tables.now → Written image.old (spaces image.old (file_areas image.old ds)) (named_at image.old records.now) chain text.now (number_of (outcome_of result)) image.new }
 {
     let mut ids = [0u32; MOST_PIECES];
     let mut places = [0u32; MOST_PIECES];
     let n = chain.count;
     write_pieces(
-        &mut *image,
+        image,
         tables,
         m,
         records,
@@ -123,7 +116,7 @@ fn write_count(
     )
 }
 
-// Appends to a file: BROKEN, then TOO_MANY_IDS with the new blocks counted in, then NO_ROOM.
+// Appends to a file: 13, then 5 with the new blocks counted in, then 15.
 fn append_to(
     image: &mut [u8],
     tables: &[u32],
@@ -131,26 +124,26 @@ fn append_to(
     m: Mounted,
     file: u32,
     text: &[u8],
-) -> u32
+) -> Result<(), Refusal>
     requires safe { Safe image.old m tables.now }
     requires safe_places { SafePlaces image.old m places.now }
     requires text_len_bound { length text.now ≤ most_appended }
-    ensures { (ds : List Descriptor) → Holds image.old ds m tables.now → HoldsPlaces image.old ds m places.now → is_directory_id file ≡ false → Outcome image.old ds text.now (append_at image.old ds text.now file) result image.new }
+    ensures { (ds : List Descriptor) → Holds image.old ds m tables.now → HoldsPlaces image.old ds m places.now → is_directory_id file ≡ false → Outcome image.old ds text.now (append_at image.old ds text.now file) (number_of (outcome_of result)) image.new }
 {
     let ids_end = BLOCK_IDS + m.blocks;
     let spots_end = BLOCK_SPOTS + m.blocks;
-    let Last::Start(last) = last_unless_broken(
-        &*image,
+    let Some(last) = last_unless_broken(
+        image,
         &tables[BLOCK_IDS..ids_end],
         &tables[BLOCK_SPOTS..spots_end],
         file,
     ) else {
-        return BROKEN;
+        return Err(Refusal::Broken);
     };
-    let size = piece_size(&*image, tables, m);
+    let size = piece_size(image, tables, m);
     let count = piece_count(text.len(), size);
     if m.blocks + count > MOST_BLOCKS {
-        return TOO_MANY_IDS;
+        return Err(Refusal::TooManyIds);
     }
     let chain = Chain {
         file,
@@ -158,11 +151,10 @@ fn append_to(
         size,
         count,
     };
-    let n = m.records;
-    write_count(&mut *image, tables, m, &places[0..n], text, chain)
+    write_count(image, tables, m, &places[..m.records], text, chain)
 }
 
-// Appends a text to the file that a path leads to; answers the number of refusal, or 0.
+// Appends a text to the file that a path leads to.
 pub fn append_mounted<'a>(
     image: &mut [u8],
     tables: &[u32],
@@ -171,20 +163,17 @@ pub fn append_mounted<'a>(
     base: &'a [u8],
     path: &'a [u8],
     text: &[u8],
-) -> u32
+) -> Result<(), Refusal>
     requires safe { Safe image.old m tables.now }
     requires safe_places { SafePlaces image.old m places.now }
-    ensures { (ds : List Descriptor) → Holds image.old ds m tables.now → HoldsPlaces image.old ds m places.now → (result ≡ append_of image.old ds base.now path.now text.now) × (image.new ≡ image_appended image.old ds base.now path.now text.now) }
+    ensures { (ds : List Descriptor) → Holds image.old ds m tables.now → HoldsPlaces image.old ds m places.now → (number_of (outcome_of result) ≡ append_of image.old ds base.now path.now text.now) × (image.new ≡ image_appended image.old ds base.now path.now text.now) }
 {
     if text.len() > MOST_APPENDED {
-        return BAD_PATH;
+        return Err(Refusal::BadPath);
     }
-    let found = find_path(&*image, tables, m, base, path);
-    let Resolved::Inode(file, directory) = found else {
-        return found.refusal();
-    };
-    if directory {
-        return WRONG_KIND;
+    let file = find_path(image, tables, m, base, path)?;
+    if is_directory_id(file) {
+        return Err(Refusal::WrongKind);
     }
-    append_to(&mut *image, tables, places, m, file, text)
+    append_to(image, tables, places, m, file, text)
 }

@@ -1,3 +1,2 @@
 -- The answers of lookup and open, and reading by the tables of a mounted volume.
-pub mod Answers
 pub mod Reads

@@ -1,5 +1,5 @@
 -- Reading by mounted tables. Document 01, "Open and read" and refusals 9, 11, 13 and 14.
-use Rattle.std.specs.Prelude.{ℕ, ◌≡◌, ◌≢◌, List, true, false, length}
+use Rattle.std.specs.Prelude.{ℕ, ◌≡◌, List, true, false, length}
 use Rattle.std.proofs.Common.{◌∙◌, eq-eqb, ne_eqb}
 use Rattle.format.specs.Bytes.{Bytes}
 use Rattle.format.specs.Ids.{is_directory_id}
@@ -11,11 +11,13 @@ use Rattle.record_places.specs.Place.{bytes_at, by_place}
 use Rattle.record_places.specs.Laws.{place_views}
 use Rattle.calls.specs.Mount.{mount_number}
 use Rattle.calls.specs.Read.{Given, refused, give, read_given, read_answer, buffer_after}
+use Rattle.calls.specs.Outcome.{code, code_nonzero}
 use Rattle.calls.specs.declared.Descriptor.{Descriptor}
+use Rattle.calls.specs.declared.Refusal.{Refusal}
 use Rattle.calls.specs.declared.ReadAnswer.{ReadAnswer}
 use Rattle.area_pass.specs.Bridge.{placed_volume, volume_places}
 use Rattle.file_read.specs.Reading.{file_given, FileRead, without}
-use Rattle.mount_state.specs.State.{Holds, Mounts}
+use Rattle.mount_state.specs.State.{Holds}
 use Rattle.mount_state.specs.declared.Mounted.{Mounted}
 
 -- what a read gives, where the records of the volume v are held by their places
@@ -66,9 +68,8 @@ read_is {image} {ds} h id position b f =
     rw (eq-eqb (mount_number image ds) 0 h.number, volume_places image ds) in
     record { answer = rw e f.answer; bytes = rw e f.bytes }
 
-pub read_refused : {image : Bytes} {ds : List Descriptor} {m : Mounted} {t ps : List ℕ} → Mounts image ds m t ps → (id position : ℕ) (b : Bytes) → m.number ≢ 0
-    → {r : ReadAnswer} → r ≡ without m.number → Reads image ds id position b r b
+pub read_refused : (image : Bytes) (ds : List Descriptor) (id position : ℕ) (b : Bytes) (r : Refusal) → code r ≡ mount_number image ds → Reads image ds id position b (without (code r)) b
 unfolding read_given
-read_refused {image} {ds} {m} c id position b h q =
-    let e : read_given image ds id position (length b) ≡ refused m.number = rw (c.number, ne_eqb (mount_number image ds) 0 (λ z. h (c.number ∙ z))) in
-    record { answer = rw (e, q); bytes = rw e }
+read_refused image ds id position b r k =
+    let e : read_given image ds id position (length b) ≡ refused (code r) = rw (k, ne_eqb (mount_number image ds) 0 (λ z. code_nonzero r (k ∙ z))) in
+    record { answer = rw e; bytes = rw e }

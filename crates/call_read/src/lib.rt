@@ -1,78 +1,83 @@
 // The answers of lookup and open by what was found, and the read of a mounted volume.
 #![tactic(auto)]
 
-ghost use Rattle.std.specs.Prelude.{◌≡◌, cond, List};
-ghost use Rattle.calls.specs.Lookup.{lookup_answer, file_only, open_answer};
+ghost use Rattle.std.specs.Prelude.{◌≡◌, List};
+ghost use Rattle.calls.specs.Answers.{read_seen};
+ghost use Rattle.calls.specs.Lookup.{kind_of, lookup_answer, file_only, open_answer};
 ghost use Rattle.calls.specs.declared.Descriptor.{Descriptor};
-ghost use Rattle.path_walk.specs.Resolved.{meaning, Kinded};
-ghost use Rattle.file_read.specs.Reading.{without};
+ghost use Rattle.path_walk.specs.Resolved.{meaning};
 ghost use Rattle.mount_state.specs.State.{Safe, Holds};
 ghost use Rattle.call_read.specs.Reads.{Reads};
 
-use calls::{DIRECTORY, FILE, Lookup, NOT_FOUND, Opened, ReadAnswer, WRONG_KIND};
+use calls::{BytesRead, DIRECTORY, FILE, Lookup, Opened, Refusal};
 use file_read::read_file;
 use mount_state::{BLOCK_IDS, BLOCK_SPOTS, INODE_IDS, INODE_SPOTS, Mounted};
-use path_walk::{Resolved, is_live};
+use path_walk::is_live;
 use record_read::is_directory_id;
 
-// The number of a kind.
-fn kind_number(directory: bool) -> u32
-    ensures { result ≡ cond directory 0 1 }
+// The number of the kind of an inode, by its id.
+fn kind_number(id: u32) -> u32
+    ensures { result ≡ kind_of id }
 {
+    let directory = is_directory_id(id);
     if directory { DIRECTORY } else { FILE }
 }
 
-// The answer of a lookup.
-fn looked_up(number: u32, id: u32, kind: u32) -> Lookup
-    ensures { result ≡ record { number = number; id = id; kind = kind } }
+// The inode of an id, with its kind.
+fn looked_up(id: u32) -> Lookup
+    ensures { result ≡ record { number = 0; id = id; kind = kind_of id } }
 {
-    Lookup { number, id, kind }
+    Lookup {
+        number: 0,
+        id,
+        kind: kind_number(id),
+    }
 }
 
 // The answer of a lookup: id and kind of what was found.
-pub fn lookup_answer(found: Resolved) -> Lookup
-    requires { Kinded found }
+pub fn lookup_answer(found: Result<u32, Refusal>) -> Lookup
     ensures { result ≡ lookup_answer (meaning found) }
 {
-    let Resolved::Inode(id, directory) = found else {
-        return looked_up(found.refusal(), 0, 0);
-    };
-    looked_up(0, id, kind_number(directory))
+    match found {
+        Ok(id) => looked_up(id),
+        Err(refusal) => Lookup {
+            number: refusal.number(),
+            ..Lookup::default()
+        },
+    }
 }
 
-// The answer of an open, at position 0.
-fn opened(number: u32, id: u32) -> Opened
-    ensures { result ≡ record { number = number; id = id; position = 0 } }
+// The file that was found: a directory cannot be opened.
+fn file_only(found: Result<u32, Refusal>) -> Result<u32, Refusal>
+    ensures { meaning result ≡ file_only (meaning found) }
+{
+    match found {
+        Ok(id) if is_directory_id(id) => Err(Refusal::WrongKind),
+        _ => found,
+    }
+}
+
+// The file of an id, at its start.
+fn opened(id: u32) -> Opened
+    ensures { result ≡ record { number = 0; id = id; position = 0 } }
 {
     Opened {
-        number,
+        number: 0,
         id,
         position: 0,
     }
 }
 
 // The answer of an open: a handle at the start of the file that was found.
-pub fn open_answer(found: Resolved) -> Opened
-    requires { Kinded found }
+pub fn open_answer(found: Result<u32, Refusal>) -> Opened
     ensures { result ≡ open_answer (file_only (meaning found)) }
 {
-    let Resolved::Inode(id, directory) = found else {
-        return opened(found.refusal(), 0);
-    };
-    if directory {
-        return opened(WRONG_KIND, 0);
-    }
-    opened(0, id)
-}
-
-// The answer of a refused read.
-pub fn not_read(number: u32) -> ReadAnswer
-    ensures { result ≡ without number }
-{
-    ReadAnswer {
-        number,
-        given: 0,
-        headers: 0,
+    match file_only(found) {
+        Ok(id) => opened(id),
+        Err(refusal) => Opened {
+            number: refusal.number(),
+            ..Opened::default()
+        },
     }
 }
 
@@ -84,22 +89,22 @@ pub fn read_mounted(
     id: u32,
     position: u32,
     buffer: &mut [u8],
-) -> ReadAnswer
+) -> Result<BytesRead, Refusal>
     requires { Safe image.now m tables.now }
-    ensures { (ds : List Descriptor) → Holds image.now ds m tables.now → Reads image.now ds id position buffer.old result buffer.new }
+    ensures { (ds : List Descriptor) → Holds image.now ds m tables.now → Reads image.now ds id position buffer.old (read_seen result) buffer.new }
 {
     let inode_ids = INODE_IDS + m.inodes;
     let inode_spots = INODE_SPOTS + m.inodes;
-    if is_live(
+    if !is_live(
         image,
         &tables[INODE_IDS..inode_ids],
         &tables[INODE_SPOTS..inode_spots],
         id,
-    ) {} else {
-        return not_read(NOT_FOUND);
+    ) {
+        return Err(Refusal::NotFound);
     }
     if is_directory_id(id) {
-        return not_read(WRONG_KIND);
+        return Err(Refusal::WrongKind);
     }
     let block_ids = BLOCK_IDS + m.blocks;
     let block_spots = BLOCK_SPOTS + m.blocks;
@@ -109,6 +114,6 @@ pub fn read_mounted(
         &tables[BLOCK_SPOTS..block_spots],
         id,
         position,
-        &mut *buffer,
+        buffer,
     )
 }

@@ -107,7 +107,7 @@ pub struct AreaReport {
 
 // What a path leads to; kind 0 is a directory and 1 a file.
 #[repr(C)]
-#[derive(Clone, Copy)]
+#[derive(Clone, Copy, Default)]
 pub struct Lookup {
     pub number: u32,
     pub id: u32,
@@ -116,7 +116,7 @@ pub struct Lookup {
 
 // An opened file: its handle.
 #[repr(C)]
-#[derive(Clone, Copy)]
+#[derive(Clone, Copy, Default)]
 pub struct Opened {
     pub number: u32,
     pub id: u32,
@@ -193,7 +193,7 @@ impl From<Result<AreaReport, Refusal>> for AreaReport {
 
     fn from(outcome: Result<AreaReport, Refusal>) -> AreaReport {
         match outcome {
-            Ok(report) => report,
+            Ok(area) => area,
             Err(refusal) => AreaReport {
                 number: refusal.number(),
                 ..AreaReport::default()

@@ -1,5 +1,5 @@
 -- What the list of a file's blocks holds.
-use Rattle.std.specs.Prelude.{ℕ, ◌*◌, ◌≤◌, ◌≡◌, List, ◌++◌, length, take}
+use Rattle.std.specs.Prelude.{Option as Answer, None, Some, ℕ, ◌*◌, ◌≤◌, ◌≡◌, List, ◌++◌, length, take}
 use Rattle.std.proofs.Math.Option.{Option, none, some}
 use Rattle.std.proofs.Common.{take_at}
 use Rattle.format.specs.Bytes.{Bytes}
@@ -7,8 +7,7 @@ use Rattle.volume.specs.Contents.{text_of}
 use Rattle.calls.specs.Mount.{most_blocks}
 use Rattle.record_places.specs.Place.{by_place}
 use Rattle.file_list.specs.Listing.{Listed}
-use Rattle.file_list.specs.declared.File.{File}
-use Rattle.file_list.specs.declared.File.TheVariants.{Whole, Broken}
+use Rattle.file_list.specs.declared.Total.{Total}
 
 -- n rows hold blocks of the image, with so many bytes
 pub record Rows (image : Bytes) (n size : ℕ) (bs ns : List ℕ) : Type 0 where
@@ -18,14 +17,14 @@ pub record Rows (image : Bytes) (n size : ℕ) (bs ns : List ℕ) : Type 0 where
   pub small : size ≤ n * 65535
 
 -- what an answer of `list_file` says of the rows
-abbrev pub Filled : Bytes → File → List ℕ → List ℕ → Type 0
-Filled image (Whole n size) bs ns = Rows image n size bs ns
-Filled image Broken bs ns = Unit {0}
+abbrev pub Filled : Bytes → Answer Total → List ℕ → List ℕ → Type 0
+Filled image (Some t) bs ns = Rows image t.blocks t.bytes bs ns
+Filled image None bs ns = Unit {0}
 
 -- and of the file's blocks
-abbrev pub file_of : File → List ℕ → Option (List ℕ)
-file_of (Whole n size) bs = some (take n bs)
-file_of Broken bs = none
+abbrev pub file_of : Answer Total → List ℕ → Option (List ℕ)
+file_of (Some t) bs = some (take t.blocks bs)
+file_of None bs = none
 
 -- rows that stand before others
 pub rows_before : (image : Bytes) (n size : ℕ) (bs ns bs' ns' : List ℕ) → length bs ≡ n → length ns ≡ n → n ≤ most_blocks

@@ -1,8 +1,9 @@
 -- The blocks of a file listed from the last one back, and what the list holds then.
 use Prim.Native.Nat.{ℕ, zero, suc, ◌+◌, ◌-◌, ◌*◌, ◌≤◌, ◌<◌}
-use Rattle.std.specs.Prelude.{◌≡◌, true, length, get_or, set}
+use Rattle.std.specs.Prelude.{Option as Answer, None, Some, ◌≡◌, Bool, true, false, length, get_or, set, eqb}
+use Rattle.std.specs.Bool.{then_some}
 use Rattle.std.proofs.Math.Path.{refl, ap}
-use Rattle.std.proofs.Common.{sym, ◌∙◌, drop-cons, drop-set-lt, get_or-set_same, eq-eqb, ne_eqb}
+use Rattle.std.proofs.Common.{sym, ◌∙◌, drop-cons, drop-set-lt, get_or-set_same}
 use Rattle.std.proofs.Math.Option.{Option, none, some}
 use mathlib.Core.List.{List, [], ◌∷◌, ◌++◌, map, append-nil, append_assoc}
 use native.Mathlib.Omega.{arith}
@@ -13,8 +14,6 @@ use Rattle.volume.specs.Contents.{snoc, chain_back, text_of}
 use Rattle.record_places.specs.Place.{by_place, block_at, Lies}
 use Rattle.file_blocks.specs.Blocks.{block_for}
 use Rattle.file_blocks.specs.Walk.{chain_block, chain_broken, chain_whole, chain_more}
-use Rattle.file_blocks.specs.declared.Size.{Size}
-use Rattle.file_blocks.specs.declared.Size.TheVariants.{Whole, Broken}
 
 -- how many bytes of data the block at p holds
 abbrev pub data_size : Bytes → ℕ → ℕ
@@ -26,9 +25,9 @@ pub record Listed (image : Bytes) (bs ns : List ℕ) : Type 0 where
   pub sizes : ns ≡ map (data_size image) bs
 
 -- what an answer of `list_chain` says of a chain
-abbrev pub Lists : Bytes → Option (List ℕ) → Size → List ℕ → List ℕ → Type 0
-Lists image chain (Whole n) bs ns = (chain ≡ some bs) × (n ≡ length (text_of (by_place image) bs)) × Listed image bs ns
-Lists image chain Broken bs ns = chain ≡ none
+abbrev pub Lists : Bytes → Option (List ℕ) → Answer ℕ → List ℕ → List ℕ → Type 0
+Lists image chain (Some n) bs ns = (chain ≡ some bs) × (n ≡ length (text_of (by_place image) bs)) × Listed image bs ns
+Lists image chain None bs ns = chain ≡ none
 
 -- ---- the loop
 
@@ -118,14 +117,12 @@ module _ {image : Bytes} {c : ℕ → Option ℕ} {f count start : ℕ} where
         ap (λ n. chain_back (by_place image) c f n id) s ∙ chain_broken (by_place image) f c id (left - 1) e in
         g.chain ∙ ap (λ o. before o (drop left bs)) none_left
 
-    pub listing_whole : left ≤ 0 → id ≡ NONE → Lists image (chain_back (by_place image) c f count start) (Whole size) bs ns
-    listing_whole h e =
-        let z : left ≡ 0 = omega arith in
-        let k = rw z at g in
-        (k.chain ∙ rw (chain_whole (by_place image) f c id (eq-eqb id NONE e)), k.sized, k.listed)
+    pub listing_ended : left ≤ 0 → Lists image (chain_back (by_place image) c f count start) (then_some (eqb id NONE) size) bs ns
+    listing_ended h = go (eqb id NONE) refl
+      where
+        z : left ≡ 0
+        z = omega arith
 
-    pub listing_more : left ≤ 0 → (id ≡ NONE → ⊥) → chain_back (by_place image) c f count start ≡ none
-    listing_more h e =
-        let z : left ≡ 0 = omega arith in
-        let k = rw z at g in
-        k.chain ∙ rw (chain_more (by_place image) f c id (ne_eqb id NONE e))
+        go : (b : Bool) → eqb id NONE ≡ b → Lists image (chain_back (by_place image) c f count start) (then_some b size) bs ns
+        go true e = let k = rw z at g in (k.chain ∙ rw (chain_whole (by_place image) f c id e), k.sized, k.listed)
+        go false e = let k = rw z at g in k.chain ∙ rw (chain_more (by_place image) f c id e)

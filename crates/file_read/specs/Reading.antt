@@ -1,6 +1,6 @@
 -- What a read gives, by the rows of the table of blocks. Document 01, "Open and read".
-use Rattle.std.specs.Prelude.{ℕ, min, ◌-◌, ◌≡◌, cond, List, ◌++◌, length, take, drop, ltb}
-use Rattle.std.proofs.Math.Option.{Option, some}
+use Rattle.std.specs.Prelude.{Option as Answer, None, Some, ℕ, min, ◌-◌, ◌*◌, ◌≤◌, ◌≡◌, cond, List, ◌++◌, length, take, drop, ltb}
+use Rattle.std.proofs.Math.Option.{Option, none, some}
 use Rattle.format.specs.Bytes.{Bytes}
 use Rattle.volume.specs.View.{by_bytes}
 use Rattle.volume.specs.Counting.{Volume}
@@ -9,6 +9,7 @@ use Rattle.volume_laws.specs.Map.{over_volume}
 use Rattle.calls.specs.Image.{put}
 use Rattle.calls.specs.Read.{Given, give_file, read_answer, buffer_after}
 use Rattle.calls.specs.declared.ReadAnswer.{ReadAnswer}
+use Rattle.calls.specs.Mount.{most_blocks}
 use Rattle.record_places.specs.Place.{bytes_at, by_place}
 use Rattle.table_rows.specs.Table.{found}
 use Rattle.file_blocks.specs.Blocks.{text_size}
@@ -34,6 +35,17 @@ chain_of image ids spots h = chain_back (by_place image) (found (length ids) ids
 -- the chain is whole, and its size is told
 abbrev pub Whole : Bytes → List ℕ → List ℕ → Chain → Type 0
 Whole image ids spots h = text_size (by_place image) (chain_of image ids spots h) ≡ some h.size
+
+-- and its numbers are those of a table of blocks
+pub record FullChain (image : Bytes) (ids spots : List ℕ) (h : Chain) : Type 0 where
+  pub whole : Whole image ids spots h
+  pub few : h.count ≤ most_blocks
+  pub small : h.size ≤ most_blocks * 65535
+
+-- the blocks of a file in file order, by what was found
+abbrev pub blocks_in : Bytes → List ℕ → List ℕ → Answer Chain → Option (List ℕ)
+blocks_in image ids spots None = none
+blocks_in image ids spots (Some h) = chain_of image ids spots h
 
 -- the buffer b with as many bytes of a text from a position on as there are and as it has room for, in its front
 unfoldable pub filled : Bytes → ℕ → Bytes → Bytes

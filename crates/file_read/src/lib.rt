@@ -1,19 +1,20 @@
 // Reading a file by the taken rows of the table of blocks: its bytes into the front of a lent buffer.
 #![tactic(auto)]
 
-ghost use Rattle.std.specs.Prelude.{◌≡◌, List, ℕ, min, ◌+◌, ◌-◌, ◌≤◌, length};
+ghost use Rattle.std.specs.Prelude.{◌≡◌, List, ℕ, ◌+◌, ◌≤◌, length, IfSome};
 ghost use Rattle.std.proofs.Math.Option.{some};
 ghost use Rattle.volume.specs.Counting.{Volume};
-ghost use Rattle.volume.specs.Contents.{text_of, headers_from};
+ghost use Rattle.volume.specs.Contents.{file_blocks, text_of, headers_from};
 ghost use Rattle.record_places.specs.Place.{by_place};
 ghost use Rattle.calls.specs.Mount.{most_blocks};
+ghost use Rattle.calls.specs.Answers.{read_seen};
 ghost use Rattle.table_rows.specs.Rows.{BlockTable};
 ghost use Rattle.file_blocks.specs.Blocks.{BlocksOf};
-ghost use Rattle.file_read.specs.Reading.{chain_of, Whole, laid, filled, FileRead};
+ghost use Rattle.file_read.specs.Reading.{chain_of, Whole, FullChain, blocks_in, laid, filled, FileRead};
 
 use byte_store::put;
-use calls::{BROKEN, PAST_END, ReadAnswer};
-use file_blocks::{Last, Size, chain_size, data_length, last_block, own_block, owned_count};
+use calls::{BytesRead, Refusal};
+use file_blocks::{chain_size, data_length, last_block, own_block, owned_count};
 use record_places::previous_at;
 use record_read::BlockHeader;
 
@@ -26,29 +27,15 @@ struct Chain {
     size: usize,
 }
 
-// What `a` is more than `b`, or 0.
-fn above(a: usize, b: usize) -> usize
-    ensures { result ≡ a - b }
-{
-    if a > b { a - b } else { 0 }
-}
-
-// The lesser of two numbers.
-fn least(a: usize, b: usize) -> usize
-    ensures { result ≡ min a b }
-{
-    if a < b { a } else { b }
-}
-
 // Puts text that starts at `begin` of a file into a buffer for the file's bytes from `from` on, as far as it belongs there.
 fn lay(text: &[u8], begin: usize, from: usize, buffer: &mut [u8])
     requires { from ≤ begin + length text.now }
     ensures { buffer.new ≡ laid text.now begin from buffer.old }
 {
-    let to = above(begin, from);
+    let to = begin.saturating_sub(from);
     if to < buffer.len() {
-        let skip = above(from, begin);
-        let end = skip + least(text.len() - skip, buffer.len() - to);
+        let skip = from.saturating_sub(begin);
+        let end = skip + (text.len() - skip).min(buffer.len() - to);
         put(&mut *buffer, to, &text[skip..end]);
     }
 }
@@ -87,15 +74,22 @@ fn follow(
     chain.count - left
 }
 
-// The answer of a read.
-fn answer(number: u32, given: u32, headers: u32) -> ReadAnswer
-    ensures { result ≡ record { number = number; given = given; headers = headers } }
+// The chain of a file's blocks, none where they form none.
+fn find_chain(image: &[u8], ids: &[u32], spots: &[u32], file: u32) -> Option<Chain>
+    requires block_table { BlockTable image.now ids.now spots.now }
+    requires ids_len_bound { length ids.now ≤ most_blocks }
+    ensures whole { IfSome result (λ chain. FullChain image.now ids.now spots.now chain) }
+    ensures told { (v : Volume ℕ) → BlocksOf image.now ids.now spots.now v → file_blocks (by_place image.now) v file ≡ blocks_in image.now ids.now spots.now result }
 {
-    ReadAnswer {
-        number,
-        given,
-        headers,
-    }
+    let last = last_block(image, ids, spots, file)?;
+    let count = owned_count(image, ids, spots, file);
+    let size = chain_size(image, ids, spots, file, last, count)?;
+    Some(Chain {
+        file,
+        last,
+        count,
+        size,
+    })
 }
 
 // Reads a live file from `position` on. Its blocks are followed twice: for the size, which alone tells whether it is broken and where the read ends, and for the bytes.
@@ -106,32 +100,28 @@ pub fn read_file(
     file: u32,
     position: u32,
     buffer: &mut [u8],
-) -> ReadAnswer
+) -> Result<BytesRead, Refusal>
     requires block_table { BlockTable image.now ids.now spots.now }
     requires ids_len_bound { length ids.now ≤ most_blocks }
-    ensures { (v : Volume ℕ) → BlocksOf image.now ids.now spots.now v → FileRead image.now v file position buffer.old result buffer.new }
+    ensures { (v : Volume ℕ) → BlocksOf image.now ids.now spots.now v → FileRead image.now v file position buffer.old (read_seen result) buffer.new }
 {
-    let Last::Start(last) = last_block(image, ids, spots, file) else {
-        return answer(BROKEN, 0, 0);
-    };
-    let count = owned_count(image, ids, spots, file);
-    let Size::Whole(size) = chain_size(image, ids, spots, file, last, count) else {
-        return answer(BROKEN, 0, 0);
+    let Some(chain) = find_chain(image, ids, spots, file) else {
+        return Err(Refusal::Broken);
     };
     let from = position as usize;
-    if above(from, size) > 0 {
-        return answer(PAST_END, 0, 0);
+    if from > chain.size {
+        return Err(Refusal::PastEnd);
     }
-    let given = least(buffer.len(), size - from);
+    let given = buffer.len().min(chain.size - from);
     if given == 0 {
-        return answer(0, 0, 0);
+        return Ok(BytesRead {
+            given: 0,
+            headers: 0,
+        });
     }
-    let chain = Chain {
-        file,
-        last,
-        count,
-        size,
-    };
     let headers = follow(image, ids, spots, chain, from, &mut *buffer);
-    answer(0, given as u32, headers as u32)
+    Ok(BytesRead {
+        given: given as u32,
+        headers: headers as u32,
+    })
 }

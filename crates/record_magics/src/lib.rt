@@ -53,7 +53,11 @@ fn magic_in_four(area: &[u8], at: usize) -> Option<usize>
     requires { at + 7 ≤ length area.now }
     ensures { MatchOption result (Passed area.now at 4) (λ i. (i < 4) × Passed area.now at i) }
 {
-    let i = start_of(area[at + 3])?;
+    let last = area[at + 3];
+    if !marked(last) {
+        return None;
+    }
+    let i = start_of(last)?;
     magic_at(area, at + i).then_some(i)
 }
 

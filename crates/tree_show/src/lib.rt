@@ -17,7 +17,7 @@ ghost use Rattle.text_write.specs.Clip.{Wrote, longest_text};
 ghost use Rattle.tree_show.specs.Show.{entries_at, Showable, Lists};
 ghost use Rattle.tree_show.specs.Going.{text_of, reach, deeper_room, DirectoryShown, EntryShown};
 
-use file_blocks::{Size, file_size};
+use file_blocks::file_size;
 use inode_order::name_size;
 use record_places::{id_at, link_at};
 use record_read::{InodeHeader, ROOT, is_directory_id};
@@ -56,7 +56,7 @@ fn show_size(
     ensures told { (v : Volume ℕ) → BlocksOf image.now ids.now spots.now v → Wrote text.old at (32 ∷ size_word (by_place image.now) (file_blocks (by_place image.now) v file)) text.new result }
 {
     let next = push(text, at, SPACE);
-    let Size::Whole(size) = file_size(image, ids, spots, file) else {
+    let Some(size) = file_size(image, ids, spots, file) else {
         return print(text, next, b"broken");
     };
     print_number(text, next, size as u32)

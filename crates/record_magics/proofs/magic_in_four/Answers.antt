@@ -12,6 +12,9 @@ decided : (area : Bytes) → Octets area → (at i : ℕ) → (i ≡ start_of (b
 decided area o at i s true m = (s.1, before_start area o at i s.0 s.1)
 decided area o at i s false m = none_in_four area o at i s.0 (sym m)
 
+pub returns-then-not-marked : goal.returns-then-not-marked
+returns-then-not-marked c = four_passed c.args.area.now (record { at = λ i h. (c.type_inv.area i).fits }) c.args.at (sym c.if-not-marked.ensures)
+
 pub returns-in_err-i : goal.returns-in_err-i
 unfolding in_magic
 returns-in_err-i c =

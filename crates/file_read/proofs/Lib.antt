@@ -1,0 +1,2 @@
+-- What only this crate's functions cite.
+pub mod Blocks
