@@ -1,6 +1,6 @@
 -- Where the erased end of some bytes begins, sought from behind.
 use Rattle.std.specs.Prelude.{ℕ, zero, suc, ◌+◌, ◌-◌, ◌≤◌, ◌<◌, ◌≡◌, refl, ◌⊎◌, Bool, true, false, cond, ◌&&◌, [], ◌∷◌, ◌++◌, length, max, take, drop, eqb, ltb}
-use Rattle.std.proofs.Common.{sym, subst, ◌∙◌, inl, inr, arith, add-one, length-append, length-drop, drop-drop, take-suc, take_all, eq-eqb, ne_eqb, eqb-true, ltb-true, ltb-false}
+use Rattle.std.proofs.Common.{sym, subst, ◌∙◌, inl, inr, arith, add-one, length-append, length-drop, drop-drop, take-suc, eq-eqb, ne_eqb, eqb-true, ltb-true, ltb-false}
 use Rattle.std.proofs.Math.Dec.{eqb-suc-suc, eqb-zero-suc}
 use Rattle.format.specs.Bytes.{Bytes, byte_at, le32}
 use Rattle.format.specs.Reading.{ERASED, erased_end}
@@ -39,9 +39,6 @@ erased_snoc (a ∷ l) b = go (eqb b ERASED) refl (erased_snoc l b)
 pub record ErasedFrom (s : Bytes) (i : ℕ) : Type 0 where
   pub within : i ≤ length s
   pub counted : erased_end s ≡ length s - i + erased_end (take i s)
-
-pub erased_begins : (s : Bytes) → ErasedFrom s (length s)
-erased_begins s = record { within = omega arith; counted = rw (take_all (length s) s (omega arith)) (omega arith) }
 
 pub erased_whole : (s : Bytes) → ErasedFrom s 0 → length s ≡ erased_end s
 unfolding erased_end

@@ -76,9 +76,6 @@ module _ (image : Bytes) (areas : List ℕ) (n i : ℕ) (g : GoodList image area
     pub area_fits : AreaFits (length image) here
     area_fits = fits (length image) here area_good
 
-    area_long : length (area_bytes image here) ≡ here.length
-    area_long = fits_long image here area_fits
-
     is_here : (e : Descriptor) → get_or (area_list areas) i e ≡ here
     is_here e = ap (λ (l : List Descriptor). get_or l i e) (sym (g.is (λ z. omega arith))) ∙ paired_at i (take (n * 2) areas) e front_long ∙ rw (offset_front, length_front)
 
@@ -86,8 +83,11 @@ module _ (image : Bytes) (areas : List ℕ) (n i : ℕ) (g : GoodList image area
     unfolding area_report_number first_refusal
     number_accepted = let z : n ≢ 0 = λ e. omega arith in rw (g.passed z, list_length z, lt-leb n i h)
 
-    module _ (k : ℕ) (hd : Header) (says : HeaderSays image here hd) (records : ℕ) (counted : records ≡ length (area_records record_size (area_bytes image here)))
-        (d : Damage) (free : ℕ) (read : Reads (area_bytes image here) k d free) where
+    module _ (k : ℕ) (hd : Header) (a : Descriptor) (e : a ≡ here) (says : HeaderSays image a hd)
+        (records : ℕ) (counted : records ≡ length (area_records record_size (area_bytes image a))) (d : Damage) (free : ℕ) (read : Reads (area_bytes image a) k d free) where
+      is_area : (o : Descriptor) → get_or (area_list areas) i o ≡ a
+      is_area o = is_here o ∙ sym e
+
       pub area_report_is : record {
         number = 0;
         kind = hd.kind;
@@ -96,11 +96,11 @@ module _ (image : Bytes) (areas : List ℕ) (n i : ℕ) (g : GoodList image area
         records = records;
         stretches = d.stretches;
         skipped = d.skipped;
-        free = here.length - free;
+        free = a.length - free;
         offset = d.offset;
         length = d.length;
       } ≡ area_report_of image (area_list areas) i k
       unfolding area_report_of area_report damage_of
       area_report_is =
-          let f : here.length - free ≡ free_size (area_parts record_size (area_bytes image here)) = omega (arith, area_long, read.free_bytes) in
-          rw (number_accepted, is_here, says.kind, says.id, says.count, counted, f, read.damage)
+          let f : a.length - free ≡ free_size (area_parts record_size (area_bytes image a)) = omega (arith, fits_long image a (rw e area_fits), read.free_bytes) in
+          rw (number_accepted, is_area, says.kind, says.id, says.count, counted, f, read.damage)

@@ -7,7 +7,7 @@ pub returns-then-size-ne0 : goal.returns-then-size-ne0
 returns-then-size-ne0 c =
     let area = c.args.area.now in
     let s = rw (rest_part area c.loop-at.at) at c.record_size-size.ensures in
-    rw s (sym (next_here area c.loop-at.at (omega arith) (λ z. c.if-size-ne0.true (s ∙ z))) ∙ c.loop-at.invariant.0)
+    rw (← s) at (sym (next_here area c.loop-at.at (omega arith) (λ z. c.if-size-ne0.true (s ∙ z))) ∙ c.loop-at.invariant.0)
 
 pub loop-at-preserved : goal.loop-at-preserved
 loop-at-preserved c =

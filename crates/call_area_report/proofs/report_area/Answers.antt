@@ -31,6 +31,5 @@ returns c =
     let listed = rw n at c.list_area-pass.ensures.listed in
     let reads = rw n at c.list_area-pass.ensures.read in
     let counted = (records_counted _ _ _ _ (omega (arith, f.short, l)) c.requires c.list_area-pass.auto.places listed).0 in
-    rw c.area_at-area.ensures
-    (area_report_is _ _ _ _ c.count_good_areas-n.ensures c.if-n-i.false _ c.header_of-header.result (rw c.area_at-area.ensures at c.header_of-header.ensures)
-    c.list_area-pass.result.count (rw c.area_at-area.ensures at counted) c.list_area-pass.result.damage c.list_area-pass.result.free (rw c.area_at-area.ensures at reads))
+    area_report_is _ _ _ _ c.count_good_areas-n.ensures c.if-n-i.false _ c.header_of-header.result a c.area_at-area.ensures c.header_of-header.ensures
+    c.list_area-pass.result.count counted c.list_area-pass.result.damage c.list_area-pass.result.free reads
