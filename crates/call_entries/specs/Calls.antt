@@ -1,5 +1,5 @@
 -- Lookup and open by what a path leads to, and where the mount refuses.
-use Rattle.std.specs.Prelude.{ℕ, ◌≡◌, List, eqb, false}
+use Rattle.std.specs.Prelude.{◌≡◌, List, eqb, false}
 use Rattle.std.proofs.Math.Path.{ap}
 use Rattle.std.proofs.Common.{◌∙◌, ne_eqb}
 use Rattle.format.specs.Bytes.{Bytes}

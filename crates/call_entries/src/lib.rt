@@ -60,7 +60,12 @@ pub fn report_of(image: &[u8], areas: Areas) -> Result<Report, Refusal>
 }
 
 // The report of one area of a list; nothing is mounted.
-pub fn area_report_of(image: &[u8], areas: Areas, index: u32, stretch: u32) -> Result<AreaReport, Refusal>
+pub fn area_report_of(
+    image: &[u8],
+    areas: Areas,
+    index: u32,
+    stretch: u32,
+) -> Result<AreaReport, Refusal>
     ensures { area_report_seen result ≡ area_report_of image.now (area_list areas.numbers) index stretch }
 {
     let mut places = [0u16; MOST_RECORDS];
@@ -68,12 +73,7 @@ pub fn area_report_of(image: &[u8], areas: Areas, index: u32, stretch: u32) -> R
 }
 
 // What a path leads to, after the mount.
-fn find_of<'a>(
-    image: &[u8],
-    areas: Areas,
-    base: &'a [u8],
-    path: &'a [u8],
-) -> Result<u32, Refusal>
+fn find_of<'a>(image: &[u8], areas: Areas, base: &'a [u8], path: &'a [u8]) -> Result<u32, Refusal>
     ensures { meaning result ≡ resolve image.now (area_list areas.numbers) base.now path.now }
 {
     let mut tables = [0u32; TABLES];
@@ -194,7 +194,12 @@ pub fn overwrite_of<'a>(
 }
 
 // Deletes what a path leads to, and with a directory all below it. A refused unlink changes no byte.
-pub fn unlink_of<'a>(image: &mut [u8], areas: Areas, base: &'a [u8], path: &'a [u8]) -> Result<(), Refusal>
+pub fn unlink_of<'a>(
+    image: &mut [u8],
+    areas: Areas,
+    base: &'a [u8],
+    path: &'a [u8],
+) -> Result<(), Refusal>
     ensures number { number_of (outcome_of result) ≡ unlink_of image.old (area_list areas.numbers) base.now path.now }
     ensures image { image.new ≡ image_unlinked image.old (area_list areas.numbers) base.now path.now }
 {

@@ -23,7 +23,7 @@ use call_entries::{
     read_at_of, read_of, rename_of, report_of, tree_of, unlink_of,
 };
 use calls::{
-    AreaReport, Created, Descriptor, Handle, Lookup, Opened, ReadAnswer, Report, TreeAnswer,
+    AreaReport, Created, Descriptor, Handle, Lookup, Opened, ReadAnswer, Report, TreeAnswer, number,
 };
 
 // Makes an empty volume of the areas: the number of refusal, or 0. A refused format changes no byte.
@@ -32,7 +32,7 @@ pub extern "C" fn nffs_format(image: &mut [u8], areas: &[Descriptor]) -> u32
     ensures number { result ≡ format_number image.old (listed areas.now) }
     ensures image { image.new ≡ image_formatted image.old (listed areas.now) }
 {
-    format_of(image, areas_of(areas))
+    number(format_of(image, areas_of(areas)))
 }
 
 // The report of a volume.
@@ -40,7 +40,7 @@ pub extern "C" fn nffs_format(image: &mut [u8], areas: &[Descriptor]) -> u32
 pub extern "C" fn nffs_report(image: &[u8], areas: &[Descriptor]) -> Report
     ensures { result ≡ report_of image.now (listed areas.now) }
 {
-    report_of(image, areas_of(areas))
+    Report::from(report_of(image, areas_of(areas)))
 }
 
 // The report of the area `index` of the list, with its damage stretch `stretch`, both from 0. The volume need not mount.
@@ -53,7 +53,7 @@ pub extern "C" fn nffs_area_report(
 ) -> AreaReport
     ensures { result ≡ area_report_of image.now (listed areas.now) index stretch }
 {
-    area_report_of(image, areas_of(areas), index, stretch)
+    AreaReport::from(area_report_of(image, areas_of(areas), index, stretch))
 }
 
 // What a path leads to.
@@ -94,7 +94,7 @@ pub extern "C" fn nffs_read_at(
     ensures answer { result ≡ read_answer (read_given image.now (listed areas.now) id position (length buffer.old)) }
     ensures bytes { buffer.new ≡ buffer_after (read_given image.now (listed areas.now) id position (length buffer.old)) buffer.old }
 {
-    read_at_of(image, areas_of(areas), id, position, buffer)
+    ReadAnswer::from(read_at_of(image, areas_of(areas), id, position, buffer))
 }
 
 // Reads the file of a handle from its position on, and moves the position behind what was given; a refused read leaves handle and buffer as they are.
@@ -109,9 +109,7 @@ pub extern "C" fn nffs_read(
     ensures handle { h.new ≡ handle_after (read_given image.now (listed areas.now) h.old.id h.old.position (length buffer.old)) h.old }
     ensures bytes { buffer.new ≡ buffer_after (read_given image.now (listed areas.now) h.old.id h.old.position (length buffer.old)) buffer.old }
 {
-    let r = read_of(image, areas_of(areas), *h, buffer);
-    *h = r.handle;
-    r.answer
+    ReadAnswer::from(read_of(image, areas_of(areas), h, buffer))
 }
 
 // The tree as text: the length of all of it, and as much as fits in the front of the buffer; a refused one leaves the buffer as it is.
@@ -120,7 +118,7 @@ pub extern "C" fn nffs_tree(image: &[u8], areas: &[Descriptor], text: &mut [u8])
     ensures answer { result ≡ tree_answer (attempt_tree image.now (listed areas.now)) }
     ensures bytes { text.new ≡ buffer_with text.old (attempt_tree image.now (listed areas.now)) }
 {
-    tree_of(image, areas_of(areas), text)
+    TreeAnswer::from(tree_of(image, areas_of(areas), text))
 }
 
 // Makes an empty directory (kind 0) or file (any other kind) at a path. A refused create changes no byte.
@@ -135,7 +133,7 @@ pub extern "C" fn nffs_create<'a>(
     ensures answer { result ≡ create_of image.old (listed areas.now) base.now path.now kind }
     ensures image { image.new ≡ image_created image.old (listed areas.now) base.now path.now kind }
 {
-    create_of(image, areas_of(areas), base, path, kind)
+    Created::from(create_of(image, areas_of(areas), base, path, kind))
 }
 
 // Appends bytes to a file, all or none: the number of refusal, or 0. A refused append changes no byte.
@@ -150,7 +148,7 @@ pub extern "C" fn nffs_append<'a>(
     ensures number { result ≡ append_of image.old (listed areas.now) base.now path.now text.now }
     ensures image { image.new ≡ image_appended image.old (listed areas.now) base.now path.now text.now }
 {
-    append_of(image, areas_of(areas), base, path, text)
+    number(append_of(image, areas_of(areas), base, path, text))
 }
 
 // Overwrites bytes of a file from an offset on, all or none: the number of refusal, or 0. A refused overwrite changes no byte.
@@ -166,7 +164,7 @@ pub extern "C" fn nffs_overwrite<'a>(
     ensures number { result ≡ overwrite_of image.old (listed areas.now) base.now path.now offset text.now }
     ensures image { image.new ≡ image_overwritten image.old (listed areas.now) base.now path.now offset text.now }
 {
-    overwrite_of(image, areas_of(areas), base, path, offset, text)
+    number(overwrite_of(image, areas_of(areas), base, path, offset, text))
 }
 
 // Deletes what a path leads to, and with a directory all below it: the number of refusal, or 0. A refused unlink changes no byte.
@@ -180,7 +178,7 @@ pub extern "C" fn nffs_unlink<'a>(
     ensures number { result ≡ unlink_of image.old (listed areas.now) base.now path.now }
     ensures image { image.new ≡ image_unlinked image.old (listed areas.now) base.now path.now }
 {
-    unlink_of(image, areas_of(areas), base, path)
+    number(unlink_of(image, areas_of(areas), base, path))
 }
 
 // Renames what the old path leads to, and with a directory all below it: the number of refusal, or 0. A refused rename changes no byte.
@@ -195,7 +193,7 @@ pub extern "C" fn nffs_rename<'a>(
     ensures number { result ≡ rename_of image.old (listed areas.now) base.now old.now new.now }
     ensures image { image.new ≡ image_renamed image.old (listed areas.now) base.now old.now new.now }
 {
-    rename_of(image, areas_of(areas), base, old, new)
+    number(rename_of(image, areas_of(areas), base, old, new))
 }
 
 // Moves what counts of one file area to the scratch area, and makes that file area the scratch area: the number of refusal, or 0.
@@ -204,5 +202,5 @@ pub extern "C" fn nffs_collect(image: &mut [u8], areas: &[Descriptor]) -> u32
     ensures number { result ≡ collect_of image.old (listed areas.now) }
     ensures image { image.new ≡ image_collected image.old (listed areas.now) }
 {
-    collect_of(image, areas_of(areas))
+    number(collect_of(image, areas_of(areas)))
 }

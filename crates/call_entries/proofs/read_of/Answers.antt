@@ -1,4 +1,4 @@
-use Rattle.std.proofs.Common.{◌≡◌, ◌+◌, ◌<◌, ◌^◌, ℕ, refl, length, ap, sym, arith, Ok, Err}
+use Rattle.std.proofs.Common.{◌≡◌, ◌+◌, ◌<◌, ◌^◌, ℕ, refl, length, ap, arith, Ok, Err}
 use Rattle.std.proofs.lemmas.Result.{err_from_is_err_and}
 use Rattle.area_list.specs.Numbers.{area_list}
 use Rattle.calls.specs.Answers.{read_seen}
@@ -35,8 +35,10 @@ returns-in_err-read-clause-handle c =
 
 pub overflow_add-h : goal.overflow_add-h
 overflow_add-h c =
-    record { fits = ends-fit (read_given c.args.image.now (area_list c.args.areas.numbers) c.args.h.now.id c.args.h.now.position (length c.args.buffer.now)) c.args.h.now.position c.in_ok-read.read (omega arith)
-    (read_ends c.args.image.now (area_list c.args.areas.numbers) c.args.h.now.id c.args.h.now.position (length c.args.buffer.now)) c.in_ok-read.ensures.answer }
+    record {
+      fits = ends-fit (read_given c.args.image.now (area_list c.args.areas.numbers) c.args.h.now.id c.args.h.now.position (length c.args.buffer.now)) c.args.h.now.position c.in_ok-read.read (omega arith)
+          (read_ends c.args.image.now (area_list c.args.areas.numbers) c.args.h.now.id c.args.h.now.position (length c.args.buffer.now)) c.in_ok-read.ensures.answer;
+    }
 
 pub returns-clause-handle : goal.returns-clause-handle
 returns-clause-handle c =

@@ -1,5 +1,5 @@
 -- `nffs::nffs_read` meets its contract: the call took the list cut to what tells as much.
-use mathlib.Core.Path.{ap}
+use mathlib.Core.Path.{ap, ◌∙◌}
 use lib.ListN.{length}
 use Rattle.calls.specs.Areas.{listed}
 use Rattle.calls.specs.Read.{read_given, read_answer, buffer_after, handle_after}
@@ -9,15 +9,15 @@ use Rattle.nffs.proofs.nffs_read.Goals as goal
 
 pub returns-clause-answer : goal.returns-clause-answer
 returns-clause-answer c =
-    forwarded (λ l. read_answer (read_given c.args.image.now l c.args.h.now.id c.args.h.now.position (length c.args.buffer.now))) _ (listed c.args.areas.now) c.read_of-r.ensures.answer c.areas_of.ensures.1
+    forwarded (λ l. read_answer (read_given c.args.image.now l c.args.h.now.id c.args.h.now.position (length c.args.buffer.now))) _ (listed c.args.areas.now) (c.from.ensures ∙ c.read_of.ensures.answer) c.areas_of.ensures.1
     (ap read_answer (read_whole c.args.image.now (listed c.args.areas.now) c.args.h.now.id c.args.h.now.position (length c.args.buffer.now)))
 
 pub returns-clause-handle : goal.returns-clause-handle
 returns-clause-handle c =
-    forwarded (λ l. handle_after (read_given c.args.image.now l c.args.h.now.id c.args.h.now.position (length c.args.buffer.now)) c.args.h.now) _ (listed c.args.areas.now) c.read_of-r.ensures.handle c.areas_of.ensures.1
+    forwarded (λ l. handle_after (read_given c.args.image.now l c.args.h.now.id c.args.h.now.position (length c.args.buffer.now)) c.args.h.now) _ (listed c.args.areas.now) c.read_of.ensures.handle c.areas_of.ensures.1
     (ap (λ g. handle_after g c.args.h.now) (read_whole c.args.image.now (listed c.args.areas.now) c.args.h.now.id c.args.h.now.position (length c.args.buffer.now)))
 
 pub returns-clause-bytes : goal.returns-clause-bytes
 returns-clause-bytes c =
-    forwarded (λ l. buffer_after (read_given c.args.image.now l c.args.h.now.id c.args.h.now.position (length c.args.buffer.now)) c.args.buffer.now) _ (listed c.args.areas.now) c.read_of-r.ensures.bytes c.areas_of.ensures.1
+    forwarded (λ l. buffer_after (read_given c.args.image.now l c.args.h.now.id c.args.h.now.position (length c.args.buffer.now)) c.args.buffer.now) _ (listed c.args.areas.now) c.read_of.ensures.bytes c.areas_of.ensures.1
     (ap (λ g. buffer_after g c.args.buffer.now) (read_whole c.args.image.now (listed c.args.areas.now) c.args.h.now.id c.args.h.now.position (length c.args.buffer.now)))
