@@ -10,10 +10,8 @@ use mount::mount;
 
 // Stores as many of the numbers as there is room for.
 fn put_all(numbers: &mut [u32], list: [u32; 10]) {
-    let mut i = 0;
-    while i < 10 && i < numbers.len() {
-        numbers[i] = list[i];
-        i += 1;
+    for (number, value) in numbers.iter_mut().zip(list) {
+        *number = value;
     }
 }
 
@@ -31,14 +29,14 @@ pub extern "C" fn mount_alone(
     requires { Lent tables.old places.old }
     ensures { result ≡ mount_number image.now (area_list areas.now) }
 {
-    let mounted = mount(image, areas, &mut *tables, &mut *places);
-    if mounted.number != 0 {
-        return mounted.number;
-    }
+    let mounted = match mount(image, areas, tables, places) {
+        Ok(mounted) => mounted,
+        Err(refusal) => return refusal.number(),
+    };
     let damage = mounted.damage;
     let scratch = mounted.scratch;
     put_all(
-        &mut *numbers,
+        numbers,
         [
             mounted.files as u32,
             mounted.records as u32,

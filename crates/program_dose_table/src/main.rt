@@ -3,37 +3,35 @@
 
 use area_structs::{Areas, ENTRIES, areas_in};
 use call_entries::{append_of, create_of, format_of, open_of, read_of};
-use calls::{Descriptor, FILE, Handle};
+use calls::{Created, Descriptor, FILE, Handle, ReadAnswer, number};
 
 // Prints the answer of a call.
 fn show(call: &[u8], number: u32) {
     io::write_all(1, call);
-    io::print_decimal(1, number as u64);
+    io::print_decimal(1, u64::from(number));
     io::write_all(1, b"\n");
 }
 
 // Formats the image, and stores the table in a file of its own.
 fn store(image: &mut [u8], areas: Areas) {
-    show(b"format ", format_of(&mut *image, areas));
-    let made = create_of(&mut *image, areas, b"/", b"dose", FILE);
+    show(b"format ", number(format_of(image, areas)));
+    let made = Created::from(create_of(image, areas, b"/", b"dose", FILE));
     show(b"create ", made.number);
     show(
         b"append ",
-        append_of(&mut *image, areas, b"/", b"dose", b"0.5 ml/h, 1.0 ml/h"),
+        number(append_of(image, areas, b"/", b"dose", b"0.5 ml/h, 1.0 ml/h")),
     );
 }
 
-// Reads once with a handle, prints what was given, and answers the handle after it.
-fn read_on(image: &[u8], areas: Areas, h: Handle) -> Handle {
+// Reads once with a handle, which moves on, and prints what was given.
+fn read_on(image: &[u8], areas: Areas, h: &mut Handle) {
     let mut buffer = [0u8; 10];
-    let r = read_of(image, areas, h, &mut buffer);
-    let answer = r.answer;
+    let answer = ReadAnswer::from(read_of(image, areas, h, &mut buffer));
     let given = answer.given as usize;
     if given <= 10 {
         io::write_all(1, &buffer[..given]);
         io::write_all(1, b"\n");
     }
-    r.handle
 }
 
 // Two areas: a dose table is stored, opened and read in two reads; prints what each call answers.
@@ -59,11 +57,11 @@ fn main() {
     store(&mut image, areas);
     let opened = open_of(&image, areas, b"/", b"dose");
     show(b"open ", opened.number);
-    let handle = Handle {
+    let mut handle = Handle {
         id: opened.id,
         position: opened.position,
     };
-    let moved = read_on(&image, areas, handle);
-    let last = read_on(&image, areas, moved);
-    show(b"position ", last.position);
+    read_on(&image, areas, &mut handle);
+    read_on(&image, areas, &mut handle);
+    show(b"position ", handle.position);
 }

@@ -3,13 +3,14 @@
 
 ghost use Rattle.io.specs.Counts.{IsPrefixLen};
 
+use calls::Report;
 use program_input::report_input;
 use std::io::Read;
 
 // Prints a word and a number.
 fn show(word: &[u8], n: u32) {
     io::write_all(1, word);
-    io::print_decimal(1, n as u64);
+    io::print_decimal(1, u64::from(n));
 }
 
 // What came from standard input: how many bytes, and whether no read failed.
@@ -66,7 +67,7 @@ fn drain<R: Read>(source: &mut R) -> Input {
 
 // Prints the report of an input.
 fn print(image: &[u8]) {
-    let r = report_input(image);
+    let r = Report::from(report_input(image));
     show(b"mount ", r.number);
     io::write_all(1, b"\n");
     if r.number == 0 {
