@@ -33,9 +33,6 @@ same_sizes {rows = rows} {rows' = rows'} s =
 pub lengths_trans : {a b c d e f g h i : List ℕ} → SameLengths a b c d e f → SameLengths d e f g h i → SameLengths a b c g h i
 lengths_trans x y = record { inodes = x.inodes ∙ y.inodes; blocks = x.blocks ∙ y.blocks; both = x.both ∙ y.both }
 
-pub same_room : {iw bw rows iw' bw' rows' : List ℕ} → SameLengths iw' bw' rows' iw bw rows → Room iw bw rows → Room iw' bw' rows'
-same_room s r = record { inodes = omega (arith, s.inodes, r.inodes); blocks = omega (arith, s.blocks, r.blocks); both = s.both ∙ r.both }
-
 module _ {image : Bytes} {iw bw rows : List ℕ} (room : Room iw bw rows) (good : AllGood image (tables_in iw bw rows)) where
   pub inode_part_lem : GoodPart image most_inodes iw (inode_part rows)
   inode_part_lem = record { room = room.inodes; good = good.inodes }

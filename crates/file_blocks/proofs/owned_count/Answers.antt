@@ -4,7 +4,7 @@ use Rattle.std.proofs.lemmas.Iterator.Adapters.{serves_from_places}
 use Rattle.std.proofs.lemmas.Iterator.Consumers.{YieldsList-at, YieldsList-from_filter, count_from_yields_List}
 use Rattle.record_places.specs.Place.{by_place, Lies}
 use Rattle.file_blocks.specs.Blocks.{mine}
-use Rattle.file_blocks.specs.Rows.{owned_counts, mine_rows, mine_few}
+use Rattle.file_blocks.specs.Rows.{owned_counts, mine_rows}
 use Rattle.file_blocks.proofs.Each.{each_lies}
 use Rattle.file_blocks.proofs.owned_count.Goals as goal
 
@@ -26,6 +26,3 @@ counted c =
 pub returns-clause-counted : goal.returns-clause-counted
 returns-clause-counted c = λ v rows. counted c
     ∙ sym (owned_counts (by_place c.args.image.now) v c.args.ids.now c.args.spots.now rows c.requires.pairs c.args.file)
-
-pub returns-clause-few : goal.returns-clause-few
-returns-clause-few c = omega (arith, counted c, mine_few (by_place c.args.image.now) c.args.file c.args.spots.now)

@@ -1,7 +1,6 @@
 use Rattle.std.proofs.Common.{◌∙◌, sym, ap, arith, length-take-le, take_at}
 use Rattle.std.proofs.Math.Option.{some}
 use Rattle.file_blocks.specs.Walk.{file_broken, file_chain}
-use Rattle.file_list.specs.File.{rows_before}
 use Rattle.file_list.proofs.list_file.Goals as goal
 
 pub returns-in_err-last-clause-told : goal.returns-in_err-last-clause-told
@@ -15,14 +14,6 @@ returns-in_err-size-clause-told c = λ v rows.
     rw c.from_residual-in_err-size.ensures
     (sym (file_chain c.args.image.now c.args.ids.now c.args.spots.now v rows c.args.file c.in_ok-last.last c.owned_count-n.result
     (c.in_ok-last.ensures v rows) (c.owned_count-n.ensures.counted v rows) ∙ rw b at c.in_err-size.ensures.told))
-
-pub returns-clause-held : goal.returns-clause-held
-returns-clause-held c =
-    let b = length-take-le c.owned_count-n.result c.args.blocks.now (omega (arith, c.requires.ids_in_bounds)) in
-    let s = length-take-le c.owned_count-n.result c.args.sizes.now (omega (arith, c.requires.ids_in_bounds)) in
-    let t = rw b at c.in_ok-size.ensures.told in
-    rows_before _ _ c.in_ok-size.size _ _ _ _ (c.list_chain.auto.blocks ∙ b) (c.list_chain.auto.sizes ∙ s) (omega (arith, c.requires.ids_in_bounds))
-    t.1 (omega (arith, c.in_ok-size.ensures.small, b)) t.2
 
 pub returns-clause-told : goal.returns-clause-told
 returns-clause-told c = λ v rows.

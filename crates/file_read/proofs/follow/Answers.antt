@@ -1,4 +1,4 @@
-use Rattle.std.proofs.Common.{ap, arith, length}
+use Rattle.std.proofs.Common.{arith}
 use Rattle.file_blocks.specs.Walk.{own_lies, own_block, data_part}
 use Rattle.file_read.specs.Follow.{sized_is, going_begins, going_left, going_found, going_fits, going_on, going_counts, going_fills}
 use Rattle.file_read.proofs.Blocks.{of_blocks}
@@ -22,14 +22,6 @@ data_length-n-requires-clause-p_value c = own_block c.requires.block_table c.arg
 pub overflow_sub-end : goal.overflow_sub-end
 overflow_sub-end c =
     omega (arith, c.data_length-n.ensures.told, going_fits (of_blocks _ _ _ _ c.requires.whole c.loop-end.invariant) c.loop-end-test.true c.in-Some.p c.in-Some.ensures)
-
-pub lay-requires : goal.lay-requires
-lay-requires c =
-    let is = c.in-Some.ensures in
-    let n = c.data_length-n.ensures.told in
-    let e = data_part c.args.image.now c.in-Some.p (own_lies c.requires.block_table c.args.chain.file c.loop-end.id c.in-Some.p is)
-    (own_block c.requires.block_table c.args.chain.file c.loop-end.id c.in-Some.p is) c.data_length-n.result n in
-    omega (arith, ap length e, n, going_fits (of_blocks _ _ _ _ c.requires.whole c.loop-end.invariant) c.loop-end-test.true c.in-Some.p is)
 
 pub previous_at-id-requires : goal.previous_at-id-requires
 previous_at-id-requires c = own_lies c.requires.block_table c.args.chain.file c.loop-end.id c.in-Some.p c.in-Some.ensures

@@ -3,7 +3,7 @@ use Rattle.table_index.specs.Laws.{slot_within, item_long}
 use Rattle.table_fill.specs.Parts.{tables_in, SameLengths}
 use Rattle.table_fill.specs.Twins.{more_twins}
 use Rattle.table_fill.proofs.Laws.{going_start, going_newer, going_older, going_full, going_end}
-use Rattle.table_fill.proofs.Parts.{lengths_trans, same_sizes, same_room}
+use Rattle.table_fill.proofs.Parts.{lengths_trans, same_sizes}
 use Rattle.table_fill.proofs.gather.Goals as goal
 use Rattle.table_fill.proofs.gather.Goals.{in-Newer, in-Older}
 
@@ -23,9 +23,6 @@ returns-in-Full c =
     c.loop-i.agreed c.loop-i.i c.tabulate.result c.loop-i.invariant.going (omega arith)
     (same_sizes (record { inodes = c.tabulate.auto.iwords; blocks = c.tabulate.auto.bwords; both = c.tabulate.auto.rows }))
     (rw c.from-p.ensures at c.tabulate.ensures.shown) c.in-Full.is
-
-pub tabulate-requires-clause-room : goal.tabulate-requires-clause-room
-tabulate-requires-clause-room c = same_room c.loop-i.invariant.lengths c.requires.room
 
 pub still_agree-agreed-requires-clause-all_lie : goal.still_agree-agreed-requires-clause-all_lie
 still_agree-agreed-requires-clause-all_lie c = λ j h. c.requires.ready.lie j (omega arith)

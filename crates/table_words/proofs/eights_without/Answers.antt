@@ -1,9 +1,6 @@
 use Rattle.std.proofs.Common.{◌∙◌, ◌||◌, sym, ap₂}
-use Rattle.table_words.proofs.Steps.{before_none, before_eight}
+use Rattle.table_words.proofs.Steps.{before_eight}
 use Rattle.table_words.proofs.eights_without.Goals as goal
-
-pub loop-i-init : goal.loop-i-init
-loop-i-init c = before_none c.args.id c.args.ids.now
 
 pub loop-i-preserved : goal.loop-i-preserved
 loop-i-preserved c =
