@@ -1,11 +1,8 @@
 use Rattle.std.proofs.Common.{◌≡◌, length, arith}
 use Rattle.write_ids.specs.Window.{id_words}
 use Rattle.write_ids.specs.Laws.{few_names}
-use Rattle.write_pieces.specs.Laws.{taking_begins, taking_room, taking_on, taking_ends}
+use Rattle.write_pieces.specs.Laws.{taking_room, taking_on, taking_ends}
 use Rattle.write_pieces.proofs.plan_ids.Goals as goal
-
-pub loop-id-init : goal.loop-id-init
-loop-id-init c = taking_begins _ _ _ c.mark_named.ensures
 
 -- the window has more ids than the records name and the pieces need
 pub take_id-requires-clause-words_bound : goal.take_id-requires-clause-words_bound

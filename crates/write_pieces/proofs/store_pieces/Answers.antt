@@ -1,12 +1,7 @@
-use Rattle.std.proofs.Common.{refl, ◌∙◌, arith}
+use Rattle.std.proofs.Common.{◌∙◌, arith}
 use Rattle.write_sizes.specs.Cut.{chunk_comes}
-use Rattle.write_pieces.specs.Laws.{storing_begins, storing_room, storing_fits, storing_on, storing_ends}
+use Rattle.write_pieces.specs.Laws.{storing_room, storing_fits, storing_on, storing_ends}
 use Rattle.write_pieces.proofs.store_pieces.Goals as goal
-
-pub loop-i-init : goal.loop-i-init
-loop-i-init c =
-    rw (c.into_iter-i-iterator.ensures.into_iter_gives, c.enumerate-i-items.ensures.source, c.enumerate-i-items.ensures.count, c.chunks.ensures.rest, c.chunks.ensures.size)
-    (storing_begins c.args.file c.args.last c.requires, refl)
 
 pub bounds-ids-i : goal.bounds-ids-i
 bounds-ids-i c =

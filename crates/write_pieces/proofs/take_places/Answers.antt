@@ -1,12 +1,7 @@
-use Rattle.std.proofs.Common.{refl, ◌∙◌, arith}
+use Rattle.std.proofs.Common.{◌∙◌, arith}
 use Rattle.write_sizes.specs.Cut.{chunk_comes}
-use Rattle.write_pieces.specs.Laws.{placing_begins, placing_room, placing_fails, placing_on, placing_ends}
+use Rattle.write_pieces.specs.Laws.{placing_room, placing_fails, placing_on, placing_ends}
 use Rattle.write_pieces.proofs.take_places.Goals as goal
-
-pub loop-i-init : goal.loop-i-init
-loop-i-init c =
-    rw (c.into_iter-i-iterator.ensures.into_iter_gives, c.enumerate-i-items.ensures.source, c.enumerate-i-items.ensures.count, c.chunks.ensures.rest, c.chunks.ensures.size)
-    (placing_begins c.args.size c.args.text.now c.args.ends.now c.args.froms.now c.args.places.now c.requires.places_len, refl)
 
 pub returns-in_default : goal.returns-in_default
 returns-in_default c =
