@@ -2,9 +2,12 @@
 use Rattle.std.specs.Prelude.{ℕ, zero, suc, ◌+◌, ◌-◌, ◌*◌, ◌/◌, ◌%◌, ◌≤◌, ◌<◌, ◌≡◌, refl, true, false, ◌&&◌, List, [], ◌∷◌, ◌++◌, length, set, replicate, eqb}
 use Rattle.std.proofs.Common.{sym, ap, ◌∙◌, append_assoc, arith, add-one}
 use Rattle.std.proofs.Math.Dec.{leb, leb→le}
-use borrow.Author.Tests.{eq-eqb, ne_eqb, le-leb, lt-leb}
 use Rattle.format.specs.Bytes.{Bytes}
+use Rattle.std.specs.Prelude.{Result, Ok, Err}
 use Rattle.calls.specs.Areas.{listed, most_areas}
+use Rattle.calls.specs.Outcome.{code}
+use Rattle.calls.specs.declared.Refusal.{Refusal}
+use Rattle.area_structs.specs.declared.Areas.{Areas}
 use Rattle.area_list.specs.Numbers.{paired, area_list}
 use Rattle.calls.specs.Report.{refused_report, report_of}
 use Rattle.calls.specs.declared.Descriptor.{Descriptor}
@@ -58,52 +61,40 @@ describe_done i h =
     let a : most_numbers - i * 2 ≡ suc (suc (most_numbers - (i + 1) * 2)) = omega arith in
     rw a (flat_listed i 0 (replicate (most_numbers - (i + 1) * 2) 0))
 
--- an input that is not two or more whole areas, and no more than a list may describe
+-- ---- the areas of an input, or why there are none
+
+pub record CutInto (n : ℕ) (areas : Areas) : Type 0 where
+  pub whole : whole_areas n ≡ true
+  pub are : area_list areas.numbers ≡ cut_areas (n / program_area) 0
+
+pub record CutNot (n : ℕ) (r : Refusal) : Type 0 where
+  pub broken : whole_areas n ≡ false
+  pub number : code r ≡ 1
+
+abbrev pub Cuts : ℕ → Result Areas Refusal → Type 0
+Cuts n (Ok areas) = CutInto n areas
+Cuts n (Err r) = CutNot n r
+
+pub few : (n : ℕ) → whole_areas n ≡ true → n / program_area ≤ most_areas
+unfolding whole_areas
+few n e =
+    let t = and_T (eqb (n % program_area) 0 && leb 2 (n / program_area)) (leb (n / program_area) most_areas) (true→T e) in
+    leb→le (n / program_area) most_areas t.1
+
+-- what is told of whole areas, and of any other input
 module _ (input : Bytes) where
-  pub with_rest : (length input % program_area ≡ 0 → ⊥) → refused_report 1 ≡ program_report input
-  unfolding program_report whole_areas
-  with_rest h = rw (ne_eqb (length input % program_area) 0 h)
+  pub reports : (areas : Areas) → CutInto (length input) areas → report_of input (area_list areas.numbers) ≡ program_report input
+  unfolding program_report
+  reports areas c = rw (program_report, c.whole, c.are)
 
-  pub too_few : length input % program_area ≡ 0 → length input / program_area < 2 → refused_report 1 ≡ program_report input
-  unfolding program_report whole_areas
-  too_few e h = rw (eq-eqb (length input % program_area) 0 e, lt-leb 2 (length input / program_area) h)
+  pub reports_none : (r : Refusal) → CutNot (length input) r → refused_report (code r) ≡ program_report input
+  unfolding program_report
+  reports_none r c = rw (program_report, c.broken, c.number)
 
-  pub too_many : length input % program_area ≡ 0 → 2 ≤ length input / program_area → most_areas < length input / program_area → refused_report 1 ≡ program_report input
-  unfolding program_report whole_areas
-  too_many e h g = rw (eq-eqb (length input % program_area) 0 e, le-leb 2 (length input / program_area) h, lt-leb (length input / program_area) most_areas g)
-
-  pub whole : length input % program_area ≡ 0 → 2 ≤ length input / program_area → length input / program_area ≤ most_areas
-      → report_of input (cut_areas (length input / program_area) 0) ≡ program_report input
-  unfolding program_report whole_areas
-  whole e h g =
-      rw (eq-eqb (length input % program_area) 0 e, le-leb 2 (length input / program_area) h, le-leb (length input / program_area) most_areas g)
-
--- whether there are whole areas
-module _ (n : ℕ) where
-  pub none_with_rest : (n % program_area ≡ 0 → ⊥) → false ≡ whole_areas n
-  unfolding whole_areas
-  none_with_rest h = rw (whole_areas, ne_eqb (n % program_area) 0 h)
-
-  pub none_too_few : n % program_area ≡ 0 → n / program_area < 2 → false ≡ whole_areas n
-  unfolding whole_areas
-  none_too_few e h = rw (whole_areas, eq-eqb (n % program_area) 0 e, lt-leb 2 (n / program_area) h)
-
-  pub enough : n % program_area ≡ 0 → 2 ≤ n / program_area → leb (n / program_area) most_areas ≡ whole_areas n
-  unfolding whole_areas
-  enough e h = rw (whole_areas, eq-eqb (n % program_area) 0 e, le-leb 2 (n / program_area) h)
-
-  pub few : true ≡ whole_areas n → n / program_area ≤ most_areas
-  unfolding whole_areas
-  few e =
-      let t = and_T (eqb (n % program_area) 0 && leb 2 (n / program_area)) (leb (n / program_area) most_areas) (true→T (sym e)) in
-      leb→le (n / program_area) most_areas t.1
-
--- what the tree of whole areas is, and of any other input
-module _ (input : Bytes) where
-  pub lists : true ≡ whole_areas (length input) → attempt_tree input (cut_areas (length input / program_area) 0) ≡ program_tree input
+  pub lists : (areas : Areas) → CutInto (length input) areas → attempt_tree input (area_list areas.numbers) ≡ program_tree input
   unfolding program_tree
-  lists e = rw (program_tree, ← e)
+  lists areas c = rw (program_tree, c.whole, c.are)
 
-  pub lists_none : false ≡ whole_areas (length input) → refuses 1 ≡ program_tree input
+  pub lists_none : (r : Refusal) → CutNot (length input) r → refuses (code r) ≡ program_tree input
   unfolding program_tree
-  lists_none e = rw (program_tree, ← e)
+  lists_none r c = rw (program_tree, c.broken, c.number)
