@@ -1,9 +1,9 @@
-// A dose table stored and read back: areas described by a list of structs, and a read by a handle whose position moves.
+// A dose table stored and read back: areas described by a list of structs, and reads by a handle whose position moves.
 #![tactic(auto)]
 
 use area_structs::{Areas, ENTRIES, areas_in};
 use call_entries::{append_of, create_of, format_of, open_of, read_of};
-use calls::{Descriptor, FILE, Handle};
+use calls::{Created, Descriptor, FILE, Handle, ReadAnswer, number};
 
 // Prints the answer of a call.
 fn show(call: &[u8], number: u32) {
@@ -14,26 +14,25 @@ fn show(call: &[u8], number: u32) {
 
 // Formats the image, and stores the table in a file of its own.
 fn store(image: &mut [u8], areas: Areas) {
-    show(b"format ", format_of(&mut *image, areas));
-    let made = create_of(&mut *image, areas, b"/", b"dose", FILE);
-    show(b"create ", made.number);
+    show(b"format ", number(format_of(image, areas)));
+    show(
+        b"create ",
+        Created::from(create_of(image, areas, b"/", b"dose", FILE)).number,
+    );
     show(
         b"append ",
-        append_of(&mut *image, areas, b"/", b"dose", b"0.5 ml/h, 1.0 ml/h"),
+        number(append_of(image, areas, b"/", b"dose", b"0.5 ml/h, 1.0 ml/h")),
     );
 }
 
-// Reads once with a handle, prints what was given, and answers the handle after it.
-fn read_on(image: &[u8], areas: Areas, h: Handle) -> Handle {
-    let mut buffer = [0u8; 10];
-    let r = read_of(image, areas, h, &mut buffer);
-    let answer = r.answer;
-    let given = answer.given as usize;
-    if given <= 10 {
-        io::write_all(1, &buffer[..given]);
+// Reads once with a handle, whose position moves on, and prints what was given.
+fn read_on(image: &[u8], areas: Areas, h: &mut Handle) {
+    let mut buffer = [0; 10];
+    let answer = ReadAnswer::from(read_of(image, areas, h, &mut buffer));
+    if let Some(given) = buffer.get(..answer.given as usize) {
+        io::write_all(1, given);
         io::write_all(1, b"\n");
     }
-    r.handle
 }
 
 // Two areas: a dose table is stored, opened and read in two reads; prints what each call answers.
@@ -59,11 +58,11 @@ fn main() {
     store(&mut image, areas);
     let opened = open_of(&image, areas, b"/", b"dose");
     show(b"open ", opened.number);
-    let handle = Handle {
+    let mut handle = Handle {
         id: opened.id,
         position: opened.position,
     };
-    let moved = read_on(&image, areas, handle);
-    let last = read_on(&image, areas, moved);
-    show(b"position ", last.position);
+    read_on(&image, areas, &mut handle);
+    read_on(&image, areas, &mut handle);
+    show(b"position ", handle.position);
 }
