@@ -10,8 +10,8 @@ use mount::mount;
 
 // Stores as many of the numbers as there is room for.
 fn put_all(numbers: &mut [u32], list: [u32; 10]) {
-    for (number, value) in numbers.iter_mut().zip(list) {
-        *number = value;
+    for (n, x) in numbers.iter_mut().zip(list) {
+        *n = x;
     }
 }
 
@@ -29,25 +29,23 @@ pub extern "C" fn mount_alone(
     requires { Lent tables.old places.old }
     ensures { result ≡ mount_number image.now (area_list areas.now) }
 {
-    let mounted = match mount(image, areas, tables, places) {
-        Ok(mounted) => mounted,
+    let m = match mount(image, areas, tables, places) {
+        Ok(m) => m,
         Err(refusal) => return refusal.number(),
     };
-    let damage = mounted.damage;
-    let scratch = mounted.scratch;
     put_all(
         numbers,
         [
-            mounted.files as u32,
-            mounted.records as u32,
-            mounted.inodes as u32,
-            mounted.blocks as u32,
-            damage.stretches,
-            damage.skipped,
-            damage.offset,
-            damage.length,
-            scratch.offset,
-            scratch.length,
+            m.files as u32,
+            m.records as u32,
+            m.inodes as u32,
+            m.blocks as u32,
+            m.damage.stretches,
+            m.damage.skipped,
+            m.damage.offset,
+            m.damage.length,
+            m.scratch.offset,
+            m.scratch.length,
         ],
     );
     0

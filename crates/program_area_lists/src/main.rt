@@ -23,12 +23,10 @@ fn show(word: &[u8], behind: usize, areas: usize) {
 
 // The numbers of areas one behind the other.
 fn numbers() -> [u32; NUMBERS] {
-    let mut numbers = [0u32; NUMBERS];
-    let mut i = 0;
-    while i < ENTRIES {
+    let mut numbers = [0; NUMBERS];
+    for i in 0..ENTRIES {
         numbers[i * 2] = (i * AREA) as u32;
         numbers[i * 2 + 1] = AREA as u32;
-        i += 1;
     }
     numbers
 }
@@ -36,22 +34,17 @@ fn numbers() -> [u32; NUMBERS] {
 // Lists cut behind each number of entries.
 fn show_lengths(image: &[u8]) {
     let list = numbers();
-    let mut i = 0;
-    while i < ENTRIES + 1 {
-        let end = i * 2;
-        show(b"entries ", i, count_good_areas(image, &list[0..end]));
-        i += 1;
+    for i in 0..=ENTRIES {
+        show(b"entries ", i, count_good_areas(image, &list[..i * 2]));
     }
 }
 
 // Lists with a length of 0 at each place.
 fn show_marks(image: &[u8]) {
-    let mut i = 0;
-    while i < ENTRIES {
+    for i in 0..ENTRIES {
         let mut list = numbers();
         list[i * 2 + 1] = 0;
         show(b"mark behind ", i, count_good_areas(image, &list));
-        i += 1;
     }
 }
 

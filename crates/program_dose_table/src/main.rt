@@ -1,4 +1,4 @@
-// A dose table stored and read back: areas described by a list of structs, and a read by a handle whose position moves.
+// A dose table stored and read back: areas described by a list of structs, and reads by a handle whose position moves.
 #![tactic(auto)]
 
 use area_structs::{Areas, ENTRIES, areas_in};
@@ -8,28 +8,29 @@ use calls::{Created, Descriptor, FILE, Handle, ReadAnswer, number};
 // Prints the answer of a call.
 fn show(call: &[u8], number: u32) {
     io::write_all(1, call);
-    io::print_decimal(1, u64::from(number));
+    io::print_decimal(1, number as u64);
     io::write_all(1, b"\n");
 }
 
 // Formats the image, and stores the table in a file of its own.
 fn store(image: &mut [u8], areas: Areas) {
     show(b"format ", number(format_of(image, areas)));
-    let made = Created::from(create_of(image, areas, b"/", b"dose", FILE));
-    show(b"create ", made.number);
+    show(
+        b"create ",
+        Created::from(create_of(image, areas, b"/", b"dose", FILE)).number,
+    );
     show(
         b"append ",
         number(append_of(image, areas, b"/", b"dose", b"0.5 ml/h, 1.0 ml/h")),
     );
 }
 
-// Reads once with a handle, which moves on, and prints what was given.
+// Reads once with a handle, whose position moves on, and prints what was given.
 fn read_on(image: &[u8], areas: Areas, h: &mut Handle) {
-    let mut buffer = [0u8; 10];
+    let mut buffer = [0; 10];
     let answer = ReadAnswer::from(read_of(image, areas, h, &mut buffer));
-    let given = answer.given as usize;
-    if given <= 10 {
-        io::write_all(1, &buffer[..given]);
+    if let Some(given) = buffer.get(..answer.given as usize) {
+        io::write_all(1, given);
         io::write_all(1, b"\n");
     }
 }

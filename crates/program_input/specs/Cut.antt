@@ -3,7 +3,11 @@ use Rattle.std.specs.Prelude.{ℕ, zero, suc, ◌+◌, ◌-◌, ◌*◌, ◌/◌
 use Rattle.std.proofs.Common.{sym, ap, ◌∙◌, append_assoc, arith, add-one}
 use Rattle.std.proofs.Math.Dec.{leb, leb→le}
 use Rattle.format.specs.Bytes.{Bytes}
+use Rattle.std.specs.Prelude.{Result, Ok, Err}
 use Rattle.calls.specs.Areas.{listed, most_areas}
+use Rattle.calls.specs.Outcome.{code}
+use Rattle.calls.specs.declared.Refusal.{Refusal}
+use Rattle.area_structs.specs.declared.Areas.{Areas}
 use Rattle.area_list.specs.Numbers.{paired, area_list}
 use Rattle.calls.specs.Report.{refused_report, report_of}
 use Rattle.calls.specs.declared.Descriptor.{Descriptor}
@@ -57,26 +61,40 @@ describe_done i h =
     let a : most_numbers - i * 2 ≡ suc (suc (most_numbers - (i + 1) * 2)) = omega arith in
     rw a (flat_listed i 0 (replicate (most_numbers - (i + 1) * 2) 0))
 
+-- ---- the areas of an input, or why there are none
+
+pub record CutInto (n : ℕ) (areas : Areas) : Type 0 where
+  pub whole : whole_areas n ≡ true
+  pub are : area_list areas.numbers ≡ cut_areas (n / program_area) 0
+
+pub record CutNot (n : ℕ) (r : Refusal) : Type 0 where
+  pub broken : whole_areas n ≡ false
+  pub number : code r ≡ 1
+
+abbrev pub Cuts : ℕ → Result Areas Refusal → Type 0
+Cuts n (Ok areas) = CutInto n areas
+Cuts n (Err r) = CutNot n r
+
 pub few : (n : ℕ) → whole_areas n ≡ true → n / program_area ≤ most_areas
 unfolding whole_areas
 few n e =
     let t = and_T (eqb (n % program_area) 0 && leb 2 (n / program_area)) (leb (n / program_area) most_areas) (true→T e) in
     leb→le (n / program_area) most_areas t.1
 
--- what the report and the tree of whole areas are, and of any other input
+-- what is told of whole areas, and of any other input
 module _ (input : Bytes) where
-  pub reports : whole_areas (length input) ≡ true → report_of input (cut_areas (length input / program_area) 0) ≡ program_report input
+  pub reports : (areas : Areas) → CutInto (length input) areas → report_of input (area_list areas.numbers) ≡ program_report input
   unfolding program_report
-  reports e = rw (program_report, e)
+  reports areas c = rw (program_report, c.whole, c.are)
 
-  pub reports_none : whole_areas (length input) ≡ false → refused_report 1 ≡ program_report input
+  pub reports_none : (r : Refusal) → CutNot (length input) r → refused_report (code r) ≡ program_report input
   unfolding program_report
-  reports_none e = rw (program_report, e)
+  reports_none r c = rw (program_report, c.broken, c.number)
 
-  pub lists : whole_areas (length input) ≡ true → attempt_tree input (cut_areas (length input / program_area) 0) ≡ program_tree input
+  pub lists : (areas : Areas) → CutInto (length input) areas → attempt_tree input (area_list areas.numbers) ≡ program_tree input
   unfolding program_tree
-  lists e = rw (program_tree, e)
+  lists areas c = rw (program_tree, c.whole, c.are)
 
-  pub lists_none : whole_areas (length input) ≡ false → refuses 1 ≡ program_tree input
+  pub lists_none : (r : Refusal) → CutNot (length input) r → refuses (code r) ≡ program_tree input
   unfolding program_tree
-  lists_none e = rw (program_tree, e)
+  lists_none r c = rw (program_tree, c.broken, c.number)

@@ -1,12 +1,13 @@
 // The report of document 01's program: its input cut into areas of 4,096 bytes.
 #![tactic(auto)]
 
-ghost use Rattle.std.specs.Prelude.{◌≡◌, ◌≤◌};
+ghost use Rattle.std.specs.Prelude.{◌≡◌, ◌≤◌, length};
+ghost use Rattle.calls.specs.Answers.{report_seen, tree_seen};
 ghost use Rattle.calls.specs.Areas.{most_areas};
 ghost use Rattle.area_list.specs.Numbers.{area_list};
-ghost use Rattle.calls.specs.Answers.{report_seen, tree_seen};
 ghost use Rattle.calls.specs.Tree.{tree_answer, buffer_with};
 ghost use Rattle.calls.specs.Program.{cut_areas, whole_areas, program_report, program_tree};
+ghost use Rattle.program_input.specs.Cut.{Cuts};
 
 use area_structs::{Areas, NUMBERS};
 use call_entries::{report_of, tree_of};
@@ -20,7 +21,7 @@ fn describe(count: usize) -> Areas
     requires { count ≤ most_areas }
     ensures { area_list result.numbers ≡ cut_areas count 0 }
 {
-    let mut numbers = [0u32; NUMBERS];
+    let mut numbers = [0; NUMBERS];
     for i in 0..count {
         numbers[i * 2] = (i * AREA) as u32;
         numbers[i * 2 + 1] = AREA as u32;
@@ -33,18 +34,24 @@ fn describe(count: usize) -> Areas
 fn whole_areas(n: usize) -> bool
     ensures { result ≡ whole_areas n }
 {
-    let count = n / AREA;
-    n % AREA == 0 && 2 <= count && count <= MOST_AREAS
+    n % AREA == 0 && (2..=MOST_AREAS).contains(&(n / AREA))
+}
+
+// The areas that an input of `n` bytes is cut into.
+fn cut(n: usize) -> Result<Areas, Refusal>
+    ensures { Cuts n result }
+{
+    if !whole_areas(n) {
+        return Err(Refusal::BadAreas);
+    }
+    Ok(describe(n / AREA))
 }
 
 // What the program reports of its input.
 pub fn report_input(input: &[u8]) -> Result<Report, Refusal>
     ensures { report_seen result ≡ program_report input.now }
 {
-    if !whole_areas(input.len()) {
-        return Err(Refusal::BadAreas);
-    }
-    report_of(input, describe(input.len() / AREA))
+    report_of(input, cut(input.len())?)
 }
 
 // The tree of its input, as text.
@@ -52,8 +59,5 @@ pub fn tree_input(input: &[u8], text: &mut [u8]) -> Result<u32, Refusal>
     ensures answer { tree_seen result ≡ tree_answer (program_tree input.now) }
     ensures bytes { text.new ≡ buffer_with text.old (program_tree input.now) }
 {
-    if !whole_areas(input.len()) {
-        return Err(Refusal::BadAreas);
-    }
-    tree_of(input, describe(input.len() / AREA), text)
+    tree_of(input, cut(input.len())?, text)
 }

@@ -1,68 +1,48 @@
 // Document 01's program: the state of the image on standard input, cut into areas of 4,096 bytes.
 #![tactic(auto)]
 
+ghost use Rattle.std.specs.Prelude.{IfOk};
 ghost use Rattle.io.specs.Counts.{IsPrefixLen};
 
 use calls::Report;
 use program_input::report_input;
-use std::io::Read;
+use std::io::{Read, Result};
+
+// How many buffers of what is left are read at most: input may be endless.
+const MOST_FILLS: u64 = 0xffff_ffff;
 
 // Prints a word and a number.
 fn show(word: &[u8], n: u32) {
     io::write_all(1, word);
-    io::print_decimal(1, u64::from(n));
+    io::print_decimal(1, n as u64);
 }
 
-// What came from standard input: how many bytes, and whether no read failed.
-#[derive(Clone, Copy)]
-struct Input {
-    good: bool,
-    count: usize,
-}
-
-// Reads standard input up to its end, or until the buffer is full.
-fn fill<R: Read>(source: &mut R, buffer: &mut [u8]) -> Input
-    ensures { IsPrefixLen result.count buffer.new }
+// Reads standard input up to its end, or until the buffer is full, and answers how many bytes came.
+fn fill<R: Read>(source: &mut R, buffer: &mut [u8]) -> Result<usize>
+    ensures { IfOk result (λ n. IsPrefixLen n buffer.new) }
 {
     let mut n = 0;
     while n < buffer.len() {
-        match source.read(&mut buffer[n..]) {
-            Ok(0) => break,
-            Ok(more) => n += more,
-            Err(_) => {
-                return Input {
-                    good: false,
-                    count: n,
-                };
-            }
+        match source.read(&mut buffer[n..])? {
+            0 => break,
+            more => n += more,
         }
     }
-    Input {
-        good: true,
-        count: n,
-    }
+    Ok(n)
 }
 
 // Reads what is left of standard input, so that its writer can end; the count is not 0 where there was any.
-fn drain<R: Read>(source: &mut R) -> Input {
-    let mut rest = Input {
-        good: true,
-        count: 0,
-    };
-    let mut left: u64 = 0xffffffff;
-    while 0 < left {
+fn drain<R: Read>(source: &mut R) -> Result<usize> {
+    let mut rest = 0;
+    for _ in 0..MOST_FILLS {
         let mut buffer = io::buffer();
-        let input = fill(source, &mut buffer);
-        if !input.good {
-            return input;
+        let n = fill(source, &mut buffer)?;
+        if n == 0 {
+            break;
         }
-        if input.count == 0 {
-            return rest;
-        }
-        rest = input;
-        left -= 1;
+        rest = n;
     }
-    rest
+    Ok(rest)
 }
 
 // Prints the report of an input.
@@ -88,14 +68,13 @@ fn main(rt: HostRuntime) {
     let mut source = rt.stdin();
     let input = fill(&mut source, &mut image);
     let rest = drain(&mut source);
-    if !input.good || !rest.good {
+    let (Ok(n), Ok(rest)) = (input, rest) else {
         io::write_all(2, b"standard input could not be read\n");
         return;
-    }
-    let n = input.count;
-    if 0 < rest.count {
+    };
+    if rest > 0 {
         print(b"");
-        return;
+    } else {
+        print(&image[..n]);
     }
-    print(&image[..n]);
 }

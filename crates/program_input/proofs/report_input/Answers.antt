@@ -1,14 +1,12 @@
-use Rattle.std.proofs.Common.{sym, ap, ◌∙◌}
-use Rattle.calls.specs.Report.{report_of}
-use Rattle.program_input.specs.Cut.{few, reports, reports_none}
+use Rattle.std.proofs.Common.{◌∙◌}
+use Rattle.std.proofs.lemmas.Result.{err_from_is_err_and}
+use Rattle.program_input.specs.Cut.{reports, reports_none}
 use Rattle.program_input.proofs.report_input.Goals as goal
 
-pub returns-then-not-whole_areas : goal.returns-then-not-whole_areas
-returns-then-not-whole_areas c = reports_none c.args.input.now (sym c.whole_areas.ensures ∙ c.if-not-whole_areas.true)
-
-pub describe-requires : goal.describe-requires
-describe-requires c = few _ (sym c.whole_areas.ensures ∙ c.if-not-whole_areas.false)
+pub returns-in_err-cut : goal.returns-in_err-cut
+returns-in_err-cut c =
+    let p = err_from_is_err_and c.from_residual.result c.from_residual.ensures.1 in
+    rw (p.1, p.2) (reports_none c.args.input.now c.in_err-cut.field-0.0 c.in_err-cut.ensures)
 
 pub returns : goal.returns
-returns c =
-    c.report_of.ensures ∙ ap (report_of c.args.input.now) c.describe.ensures ∙ reports c.args.input.now (sym c.whole_areas.ensures ∙ c.if-not-whole_areas.false)
+returns c = c.report_of.ensures ∙ reports c.args.input.now c.in_ok-cut.field-0 c.in_ok-cut.ensures
