@@ -30,7 +30,7 @@ use path_names::{after, good_path, has_name, is_last, name_at, start};
 use path_walk::{Child, enter, find_child, resolve};
 use record_places::sequence_at;
 use record_read::{ROOT, is_directory_id};
-use table_rows::find;
+use table_rows::TakenRows;
 
 // What a good path leads to.
 fn walk<'a>(
@@ -136,16 +136,14 @@ pub fn last_name<'a>(base: &'a [u8], path: &'a [u8]) -> &'a [u8]
 
 // What all but the last name of a good path lead to, by the rows of inodes: the first step that fails decides.
 fn walk_before<'a>(
-    image: &[u8],
-    ids: &[u32],
-    spots: &[u32],
+    rows: &TakenRows<'_>,
     base: &'a [u8],
     path: &'a [u8],
 ) -> Result<u32, Refusal>
-    requires inode_table { InodeTable image.now ids.now spots.now }
+    requires inode_table { InodeTable rows.now.image.now rows.now.ids.now rows.now.spots.now }
     requires path_value { good_path base.now path.now ≡ true }
     requires path_value_2 { any_names (path_names base.now path.now) ≡ true }
-    ensures { (v : Volume ℕ) → InodesOf image.now ids.now spots.now v → meaning result ≡ lookup_names (by_place image.now) v (names_before (path_names base.now path.now)) }
+    ensures { (v : Volume ℕ) → InodesOf rows.now.image.now rows.now.ids.now rows.now.spots.now v → meaning result ≡ lookup_names (by_place rows.now.image.now) v (names_before (path_names base.now path.now)) }
 {
     let mut w = start(base, path);
     let mut at = ROOT;
@@ -153,7 +151,7 @@ fn walk_before<'a>(
         if is_last(base, path, w) {
             return Ok(at);
         }
-        at = enter(image, ids, spots, at, name_at(base, path, w))?;
+        at = enter(rows, at, name_at(base, path, w))?;
         w = after(base, path, w);
     }
 }
