@@ -1,12 +1,12 @@
 -- The areas of a format, written one after the other.
-use Rattle.std.specs.Prelude.{ℕ, max, ◌+◌, ◌*◌, ◌-◌, ◌≤◌, ◌<◌, ◌≡◌, Bool, cond, List, [], ◌∷◌, ◌++◌, length, get_or, drop, eqb, leb}
+use Rattle.std.specs.Prelude.{ℕ, max, ◌+◌, ◌*◌, ◌-◌, ◌≤◌, ◌<◌, ◌≡◌, Bool, cond, List, [], ◌∷◌, ◌++◌, length, get_or, drop, eqb}
 use Rattle.std.proofs.Math.Path.{refl}
-use Rattle.std.proofs.Common.{sym, ap, ◌∙◌, le_trans, le_of_lt, leb-true, leb-false}
+use Rattle.std.proofs.Common.{◌∙◌}
 use Rattle.std.proofs.Math.Bool.{true, false}
 use Rattle.std.proofs.lemmas.Bool.{false≢true}
 use native.Mathlib.Omega.{arith}
 use Rattle.std.proofs.Math.Numerals.{add-one}
-use Rattle.std.proofs.Math.Nat.{le-max_left, max-eq_left, max-eq_right, zero-max, max-zero}
+use Rattle.std.proofs.Math.Nat.{zero-max, max-zero}
 use Rattle.std.proofs.Math.ListN.{length-append, length-replicate}
 use Rattle.format.specs.Bytes.{Bytes}
 use Rattle.format.specs.Reading.{ERASED}
@@ -41,17 +41,6 @@ lent_fits {x} {pairs} l i h = fits (length x) _ (pair_holds (good_area (length x
 
 -- ---- the longest
 
--- of three numbers, the first or the second adds nothing
-max_over : (a b c : ℕ) → a ≤ b → max a (max b c) ≡ max b c
-max_over a b c h = max-eq_right (le_trans h (le-max_left b c))
-
-max_under : (a b c : ℕ) → b ≤ a → max a (max b c) ≡ max a c
-max_under a b c h = go (leb b c) refl
-  where
-    go : (t : Bool) → leb b c ≡ t → max a (max b c) ≡ max a c
-    go true e = ap (max a) (max-eq_right (leb-true b c e))
-    go false e = let l = leb-false b c e in ap (max a) (max-eq_left (le_of_lt l)) ∙ max-eq_left h ∙ sym (max-eq_left (omega arith))
-
 -- the longest of the first i areas, and of those that are left
 pub record Growing (pairs : List ℕ) (most i : ℕ) : Type 0 where
   pub whole : max most (longest_length (paired (drop (i * 2) pairs))) ≡ longest_length (paired pairs)
@@ -61,15 +50,13 @@ module _ (pairs : List ℕ) where
   growing_begins = record { whole = zero-max (longest_length (paired pairs)) }
 
   module _ (most i : ℕ) (g : Growing pairs most i) where
-    next : i * 2 + 1 < length pairs → max most (max (get_or pairs (i * 2 + 1) 0) (longest_length (paired (drop ((i + 1) * 2) pairs)))) ≡ longest_length (paired pairs)
+    pub growing_on : i * 2 + 1 < length pairs → Growing pairs (max most (get_or pairs (i * 2 + 1) 0)) (i + 1)
     unfolding longest_length
-    next h = rw (pair_step pairs i h) at g.whole
-
-    pub growing_longer : i * 2 + 1 < length pairs → most < get_or pairs (i * 2 + 1) 0 → Growing pairs (get_or pairs (i * 2 + 1) 0) (i + 1)
-    growing_longer h l = record { whole = sym (max_over most _ _ (omega arith)) ∙ next h }
-
-    pub growing_not : i * 2 + 1 < length pairs → get_or pairs (i * 2 + 1) 0 ≤ most → Growing pairs most (i + 1)
-    growing_not h l = record { whole = sym (max_under most _ _ l) ∙ next h }
+    growing_on h =
+        let n = get_or pairs (i * 2 + 1) 0 in
+        let l = longest_length (paired (drop ((i + 1) * 2) pairs)) in
+        let e : max (max most n) l ≡ max most (max n l) = omega arith in
+        record { whole = e ∙ (rw (pair_step pairs i h) at g.whole) }
 
     pub growing_ends : length pairs ≤ i * 2 + 1 → most ≡ longest_length (paired pairs)
     unfolding longest_length

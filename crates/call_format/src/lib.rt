@@ -9,7 +9,7 @@ ghost use Rattle.calls.specs.Outcome.{outcome_of};
 ghost use Rattle.calls.specs.Format.{longest_length, labelled, blanked, rooted, formatted, format_number, image_formatted};
 ghost use Rattle.call_format.specs.Areas.{Lent, scratch_here, next_file, first_file};
 
-use area_list::count_good_areas;
+use area_list::{area_at, count_good_areas};
 use area_read::{HEADER_SIZE, SCRATCH_ID};
 use area_write::write_area;
 use calls::Refusal;
@@ -21,15 +21,8 @@ fn longest(pairs: &[u32]) -> u32
     ensures { result ≡ longest_length (paired pairs.now) }
 {
     let mut most = 0;
-    let mut i = 0;
-    while i < pairs.len() / 2 {
-        let length = pairs[i * 2 + 1];
-        if most < length {
-            most = length;
-            i += 1;
-        } else {
-            i += 1;
-        }
+    for i in 0..pairs.len() / 2 {
+        most = most.max(area_at(pairs, i).length);
     }
     most
 }
@@ -38,10 +31,7 @@ fn longest(pairs: &[u32]) -> u32
 fn is_scratch(placed: bool, span: u32, most: u32) -> bool
     ensures { result ≡ scratch_here placed span most }
 {
-    if placed {
-        return false;
-    }
-    span == most
+    !placed && span == most
 }
 
 // The id of the area at the place `i`: that of scratch, or the next of the file areas, which is the place, and one less behind scratch.
@@ -51,12 +41,12 @@ fn next_id(scratch: bool, placed: bool, i: usize) -> u8
     ensures { result ≡ cond scratch scratch_id (next_file placed i) }
 {
     if scratch {
-        return SCRATCH_ID;
+        SCRATCH_ID
+    } else if placed {
+        (i - 1) as u8
+    } else {
+        i as u8
     }
-    if placed {
-        return (i - 1) as u8;
-    }
-    i as u8
 }
 
 // Writes all areas: the first of the longest is scratch, the others have ids in order.
@@ -65,17 +55,13 @@ fn write_areas(image: &mut [u8], pairs: &[u32], most: u32)
     ensures { image.new ≡ blanked image.old (labelled most 0 (paired pairs.now)) }
 {
     let mut placed = false;
-    let mut i = 0;
-    while i < pairs.len() / 2 {
-        let offset = pairs[i * 2];
-        let span = pairs[i * 2 + 1];
-        let scratch = is_scratch(placed, span, most);
-        write_area(&mut *image, offset, span, 0, next_id(scratch, placed, i));
+    for i in 0..pairs.len() / 2 {
+        let area = area_at(pairs, i);
+        let scratch = is_scratch(placed, area.length, most);
+        let id = next_id(scratch, placed, i);
+        write_area(image, area.offset, area.length, 0, id);
         if scratch {
             placed = true;
-            i += 1;
-        } else {
-            i += 1;
         }
     }
 }
@@ -84,10 +70,7 @@ fn write_areas(image: &mut [u8], pairs: &[u32], most: u32)
 fn first_file(span: u32, most: u32) -> usize
     ensures { result ≡ first_file span most }
 {
-    if span == most {
-        return 1;
-    }
-    0
+    usize::from(span == most)
 }
 
 // Writes the root into the first file area.
@@ -102,9 +85,9 @@ fn write_root(image: &mut [u8], pairs: &[u32], most: u32)
         parent: NONE,
         length: 0,
     };
-    let first = first_file(pairs[1], most);
-    let at = pairs[first * 2] as usize + HEADER_SIZE;
-    write_inode(&mut *image, at, root, b"");
+    let first = first_file(area_at(pairs, 0).length, most);
+    let at = area_at(pairs, first).offset as usize + HEADER_SIZE;
+    write_inode(image, at, root, b"");
 }
 
 // Formats two or more good areas.
@@ -114,8 +97,8 @@ fn format_areas(image: &mut [u8], pairs: &[u32])
     ensures { image.new ≡ formatted image.old (paired pairs.now) }
 {
     let most = longest(pairs);
-    write_areas(&mut *image, pairs, most);
-    write_root(&mut *image, pairs, most);
+    write_areas(image, pairs, most);
+    write_root(image, pairs, most);
 }
 
 // Formats the image under a list of areas.
@@ -130,7 +113,6 @@ pub fn format(image: &mut [u8], areas: &[u32]) -> Result<(), Refusal>
     if n == 1 {
         return Err(Refusal::NoFileOrScratch);
     }
-    let end = n * 2;
-    format_areas(image, &areas[..end]);
+    format_areas(image, &areas[..n * 2]);
     Ok(())
 }

@@ -5,6 +5,7 @@ use Rattle.format.specs.Record.{name_good}
 use Rattle.volume.specs.Lists.{all}
 use Rattle.volume.specs.Path.{SLASH, longest_name, longest_path, segments, good_segments, path_names}
 use Rattle.path_names.specs.declared.Walk.{Walk}
+use Rattle.path_names.specs.declared.Walk.TheVariants.{InBase, InPath}
 
 -- ---- segments
 
@@ -38,7 +39,8 @@ segments_from s at = cond (ltb at (length s)) (segments (drop at s)) []
 
 -- from a cursor on, "the base's first"
 unfoldable pub names_from : Bytes → Bytes → Walk → List Bytes
-names_from base path w = cond w.based (segments_from base w.at ++ segments_from path 0) (segments_from path w.at)
+names_from base path (InBase at) = segments_from base at ++ segments_from path 0
+names_from base path (InPath at) = segments_from path at
 
 unfoldable pub any_names : List Bytes → Bool
 any_names [] = false
@@ -64,10 +66,17 @@ pub record Good (s : Bytes) (at : ℕ) : Type 0 where
   pub short : length s ≤ longest_path
   pub good : good_segments (segments_from s at) ≡ true
 
+-- a place in the base of a good path has the next name there, and those of the path behind it
+pub record ReachedInBase (base path : Bytes) (at : ℕ) : Type 0 where
+  pub inside : at < length base
+  pub base_good : Good base at
+  pub path_some : 0 < length path
+  pub path_good : Good path 0
+
 -- the cursors of a good path: while the base has a name left, the next name is there
-pub record Reached (base path : Bytes) (w : Walk) : Type 0 where
-  pub in_base : w.based ≡ true → (w.at < length base) × Good base w.at × (0 < length path) × Good path 0
-  pub in_path : w.based ≡ false → Good path w.at
+abbrev pub Reached : Bytes → Bytes → Walk → Type 0
+Reached base path (InBase at) = ReachedInBase base path at
+Reached base path (InPath at) = Good path at
 
 pub record Started (base path : Bytes) (w : Walk) : Type 0 where
   pub reached : Reached base path w

@@ -1,36 +1,37 @@
 -- Laws of the segments of a path, from its front on.
 use Prim.Native.Nat.{ℕ, suc, ◌+◌, ◌-◌, ◌≤◌, ◌<◌}
-use Rattle.std.specs.Prelude.{◌≡◌, refl, List, [], ◌∷◌, Bool, true, false, cond, not, ◌&&◌, length, take, drop, eqb, leb}
-use Rattle.std.proofs.Common.{sym, ◌∙◌, add-one, drop_of_length-le, take_all, ne_eqb, leb-true, leb-false}
+use Rattle.std.specs.Prelude.{◌≡◌, refl, List, [], ◌∷◌, Bool, true, false, cond, not, ◌&&◌, length, take, drop, eqb, leb, Some}
+use Rattle.std.proofs.Common.{sym, eq-eqb, eqb-true, ◌∙◌, take_all, ne_eqb, leb-true, leb-false}
 use native.Mathlib.Omega.{arith}
 use Rattle.std.proofs.Math.Nat.{add-sub_cancel_left}
 use Rattle.std.proofs.Math.ListN.{length-drop}
-use Rattle.std.proofs.Math.Seq.{drop-cons, drop-drop}
-use Rattle.format.specs.Bytes.{Bytes, byte_at}
+use Rattle.std.proofs.Math.Seq.{drop-drop}
+use Rattle.std.proofs.lemmas.Bool.{eqb-false}
+use Rattle.std.specs.List.{position_from, starts_with}
+use Rattle.std.specs.Option.{unwrap_or}
+use Rattle.format.specs.Bytes.{Bytes}
 use Rattle.format.specs.Record.{name_good}
 use Rattle.volume.specs.Lists.{all}
 use Rattle.volume.specs.Path.{SLASH, longest_name, split_byte, segments, good_segment, good_segments, is_absolute}
 use Rattle.path_names.specs.Names.{no_nul, to_slash, segment_end, segment_at, Ended}
 
--- ---- the loop to a segment's end
+-- ---- where a segment ends
 
-module _ (s : Bytes) (i : ℕ) where
-  end_step : i < length s → segment_end s i ≡ i + cond (eqb (byte_at s i) SLASH) 0 (suc (to_slash (drop (i + 1) s)))
-  unfolding segment_end to_slash
-  end_step h = rw (add-one, drop-cons s i 0)
+-- the place of the first slash, or the end
+first_slash : (l : Bytes) (i n : ℕ) → n ≡ i + length l → unwrap_or (position_from (λ b. eqb b SLASH) i l) n ≡ i + to_slash l
+unfolding to_slash
+first_slash [] i n e = e
+first_slash (b ∷ l) i n e = go (eqb b SLASH) (first_slash l (i + 1) n (omega arith))
+  where
+    go : (t : Bool) → unwrap_or (position_from (λ b. eqb b SLASH) (i + 1) l) n ≡ i + 1 + to_slash l
+        → unwrap_or (cond t (Some i) (position_from (λ b. eqb b SLASH) (i + 1) l)) n ≡ i + cond t 0 (suc (to_slash l))
+    go true h = omega arith
+    go false h = h ∙ omega arith
 
-  pub end_here : i < length s → byte_at s i ≡ SLASH → segment_end s i ≡ i
-  end_here h e = simp (end_step h, e) (omega arith)
+pub to_slash_is : (l : Bytes) → unwrap_or (position_from (λ b. eqb b SLASH) 0 l) (length l) ≡ to_slash l
+to_slash_is l = first_slash l 0 (length l) (omega arith) ∙ omega arith
 
-  pub end_next : i < length s → (byte_at s i ≡ SLASH → ⊥) → segment_end s i ≡ segment_end s (i + 1)
-  unfolding segment_end
-  end_next h e = end_step h ∙ rw (ne_eqb _ _ e) (omega arith)
-
-  pub end_none : length s ≤ i → segment_end s i ≡ i
-  unfolding segment_end to_slash
-  end_none h = rw (drop_of_length-le s h) (omega arith)
-
-slash_within : (l : Bytes) → to_slash l ≤ length l
+pub slash_within : (l : Bytes) → to_slash l ≤ length l
 unfolding to_slash
 slash_within [] = omega arith
 slash_within (b ∷ l) = go (eqb b SLASH) (slash_within l)
@@ -115,15 +116,14 @@ module _ (s : Bytes) (at : ℕ) where
 
 -- ---- the first byte
 
-pub absolute_none : (s : Bytes) → length s ≡ 0 → is_absolute s ≡ false
+pub absolute_is : (s : Bytes) → starts_with eqb s (SLASH ∷ []) ≡ is_absolute s
 unfolding is_absolute
-absolute_none [] h = refl
-absolute_none (b ∷ s) h = absurd (omega arith)
-
-pub absolute_first : (s : Bytes) → (length s ≡ 0 → ⊥) → is_absolute s ≡ eqb (byte_at s 0) SLASH
-unfolding is_absolute
-absolute_first [] h = absurd (h refl)
-absolute_first (b ∷ s) h = refl
+absolute_is [] = refl
+absolute_is (b ∷ s) = go (eqb b SLASH) refl
+  where
+    go : (t : Bool) → eqb b SLASH ≡ t → (eqb SLASH b && true) ≡ t
+    go true e = rw (eq-eqb SLASH b (sym (eqb-true b SLASH e)))
+    go false e = rw (ne_eqb SLASH b (λ f. eqb-false b SLASH e (sym f)))
 
 -- ---- good segments
 

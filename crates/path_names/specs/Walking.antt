@@ -9,9 +9,10 @@ use Rattle.std.proofs.lemmas.Bool.{eqb-false}
 use Rattle.format.specs.Bytes.{Bytes}
 use Rattle.volume.specs.Lists.{all}
 use Rattle.volume.specs.Path.{longest_path, segments, good_segment, good_segments, is_absolute, absolute_names, good_absolute, good_relative, good_path, path_names}
-use Rattle.path_names.specs.Names.{segment_end, segment_at, segments_from, names_from, any_names, one_name, first_name, rest_names, Good, Reached, Started, Named, Stepped}
+use Rattle.path_names.specs.Names.{segment_end, segment_at, segments_from, names_from, any_names, one_name, first_name, rest_names, Good, ReachedInBase, Started, Named, Stepped}
 use Rattle.path_names.specs.Segments.{both, ended, segments_some, last_segment, more_segments, good_parts, empty_bad, fit, clean_segment}
 use Rattle.path_names.specs.declared.Walk.{Walk}
+use Rattle.path_names.specs.declared.Walk.TheVariants.{InBase, InPath}
 
 -- ---- for callers: lists of names
 
@@ -148,40 +149,28 @@ relative_good s e =
     record { short = leb-true _ _ p.0; good = rw (from_inside s 0 (relative_some s e)) p.1 }
 
 module _ (base path : Bytes) (good : good_path base path ≡ true) where
-  pub started_absolute : is_absolute path ≡ true → Started base path (record { based = false; at = 1 })
+  pub started_absolute : is_absolute path ≡ true → Started base path (InPath 1)
   unfolding good_path path_names names_from
-  started_absolute a = record {
-    reached = record {
-      in_base = λ e. let z : ◌≡◌ {A = ℕ} 0 1 = cc in absurd (omega arith);
-      in_path = λ e. absolute_good path (rw a at good);
-    };
-    names = rw a (sym (absolute_names_lem path));
-  }
+  started_absolute a = record { reached = absolute_good path (rw a at good); names = rw a (sym (absolute_names_lem path)) }
 
   relative : is_absolute path ≡ false → (good_absolute base ≡ true) × (good_relative path ≡ true)
   unfolding good_path
   relative a = both (good_absolute base) (good_relative path) (rw a at good)
 
-  pub started_below_root : is_absolute path ≡ false → length base ≤ 1 → Started base path (record { based = false; at = 0 })
+  pub started_below_root : is_absolute path ≡ false → length base ≤ 1 → Started base path (InPath 0)
   unfolding path_names names_from
   started_below_root a h = record {
-    reached = record {
-      in_base = λ e. let z : ◌≡◌ {A = ℕ} 0 1 = cc in absurd (omega arith);
-      in_path = λ e. relative_good path (relative a).1;
-    };
+    reached = relative_good path (relative a).1;
     names = rw (a, absolute_names_lem base, from_end base 1 h) (from_inside path 0 (relative_some path (relative a).1));
   }
 
-  pub started_below : is_absolute path ≡ false → 1 < length base → Started base path (record { based = true; at = 1 })
+  pub started_below : is_absolute path ≡ false → 1 < length base → Started base path (InBase 1)
   unfolding path_names names_from
   started_below a h =
       let p = relative a in
       let n = relative_some path p.1 in
       record {
-        reached = record {
-          in_base = λ e. (h, absolute_good base p.0, n, relative_good path p.1);
-          in_path = λ e. let z : ◌≡◌ {A = ℕ} 0 1 = cc in absurd (omega arith);
-        };
+        reached = record { inside = h; base_good = absolute_good base p.0; path_some = n; path_good = relative_good path p.1 };
         names = rw (a, absolute_names_lem base, from_inside path 0 n);
       }
 
@@ -213,92 +202,77 @@ module _ (base path : Bytes) (w : Walk) where
   rest_of n ns e = sym (ap rest_names e)
 
 -- the next name is in the path
-module _ (base path : Bytes) (w : Walk) (r : Reached base path w) (b : w.based ≡ false) where
-  here : names_from base path w ≡ segments_from path w.at
+module _ (base path : Bytes) (at : ℕ) (r : Good path at) where
+  here : names_from base path (InPath at) ≡ segments_from path at
   unfolding names_from
-  here = rw b
+  here = refl
 
-  pub path_any : any_names (names_from base path w) ≡ ltb w.at (length path)
-  path_any = go (ltb w.at (length path)) refl
+  pub path_any : any_names (names_from base path (InPath at)) ≡ ltb at (length path)
+  path_any = go (ltb at (length path)) refl
     where
-      go : (t : Bool) → ltb w.at (length path) ≡ t → any_names (names_from base path w) ≡ t
-      go true e = rw here (from_any path w.at (ltb-true _ _ e))
-      go false e = rw here (from_none path w.at (ltb-false _ _ e))
+      go : (t : Bool) → ltb at (length path) ≡ t → any_names (names_from base path (InPath at)) ≡ t
+      go true e = rw here (from_any path at (ltb-true _ _ e))
+      go false e = rw here (from_none path at (ltb-false _ _ e))
 
-  pub path_inside : any_names (names_from base path w) ≡ true → w.at < length path
+  pub path_inside : any_names (names_from base path (InPath at)) ≡ true → at < length path
   path_inside any = ltb-true _ _ (sym path_any ∙ any)
 
-  pub path_none : length path ≤ w.at → one_name (names_from base path w) ≡ false
+  pub path_none : length path ≤ at → one_name (names_from base path (InPath at)) ≡ false
   unfolding one_name
-  path_none h = rw (here, from_end path w.at h)
+  path_none h = rw (here, from_end path at h)
 
-  module _ (h : w.at < length path) where
-    path_step : names_from base path w ≡ segment_at path w.at ∷ segments_from path (segment_end path w.at + 1)
-    path_step = here ∙ from_step path w.at h (r.in_path b).good
+  module _ (h : at < length path) where
+    path_step : names_from base path (InPath at) ≡ segment_at path at ∷ segments_from path (segment_end path at + 1)
+    path_step = here ∙ from_step path at h r.good
 
-    pub path_last : one_name (names_from base path w) ≡ eqb (segment_end path w.at) (length path)
-    path_last = go (eqb (segment_end path w.at) (length path)) refl
+    pub path_last : one_name (names_from base path (InPath at)) ≡ eqb (segment_end path at) (length path)
+    path_last = go (eqb (segment_end path at) (length path)) refl
       where
-        bound : segment_end path w.at ≤ length path
-        bound = (ended path w.at (segment_end path w.at) refl).within (omega arith)
+        bound : segment_end path at ≤ length path
+        bound = (ended path at (segment_end path at) refl).within (omega arith)
 
-        go : (t : Bool) → eqb (segment_end path w.at) (length path) ≡ t → one_name (names_from base path w) ≡ t
+        go : (t : Bool) → eqb (segment_end path at) (length path) ≡ t → one_name (names_from base path (InPath at)) ≡ t
         go true e =
-            let n = eqb-true (segment_end path w.at) (length path) e in
-            rw path_step (one_last _ _ (from_none path (segment_end path w.at + 1) (omega arith)))
+            let n = eqb-true (segment_end path at) (length path) e in
+            rw path_step (one_last _ _ (from_none path (segment_end path at + 1) (omega arith)))
         go false e =
-            let m : segment_end path w.at < length path = omega (arith, bound, eqb-false (segment_end path w.at) (length path) e) in
-            rw path_step (one_more _ _ (from_any path (segment_end path w.at + 1) (slash_inside path w.at h (r.in_path b).good m)))
+            let m : segment_end path at < length path = omega (arith, bound, eqb-false (segment_end path at) (length path) e) in
+            rw path_step (one_more _ _ (from_any path (segment_end path at + 1) (slash_inside path at h r.good m)))
 
-    pub path_named : Named base path w (segment_at path w.at)
-    path_named = named base path w path w.at _ path_step (segment_good path w.at h (r.in_path b).good)
+    pub path_named : Named base path (InPath at) (segment_at path at)
+    path_named = named base path (InPath at) path at _ path_step (segment_good path at h r.good)
 
-    pub path_stepped : Stepped base path w (record { based = false; at = segment_end path w.at + 1 })
+    pub path_stepped : Stepped base path (InPath at) (InPath (segment_end path at + 1))
     unfolding names_from
-    path_stepped = record {
-      reached = record {
-        in_base = λ e. let z : ◌≡◌ {A = ℕ} 0 1 = cc in absurd (omega arith);
-        in_path = λ e. good_behind path w.at h (r.in_path b);
-      };
-      rest = rest_of base path w _ _ path_step;
-    }
+    path_stepped = record { reached = good_behind path at h r; rest = rest_of base path (InPath at) _ _ path_step }
 
 -- the next name is in the base
-module _ (base path : Bytes) (w : Walk) (r : Reached base path w) (b : w.based ≡ true) where
-  base_step : names_from base path w
-      ≡ segment_at base w.at ∷ (segments_from base (segment_end base w.at + 1) ++ segments_from path 0)
+module _ (base path : Bytes) (at : ℕ) (r : ReachedInBase base path at) where
+  base_step : names_from base path (InBase at) ≡ segment_at base at ∷ (segments_from base (segment_end base at + 1) ++ segments_from path 0)
   unfolding names_from
-  base_step = let g = r.in_base b in rw (b, from_step base w.at g.0 g.1.good)
+  base_step = rw (from_step base at r.inside r.base_good.good)
 
-  pub base_any : any_names (names_from base path w) ≡ true
+  pub base_any : any_names (names_from base path (InBase at)) ≡ true
   unfolding any_names
   base_any = rw base_step
 
   -- the path has a name too
-  pub base_last : one_name (names_from base path w) ≡ false
-  base_last = rw base_step (one_more _ _ (any_append (segments_from base (segment_end base w.at + 1)) _ (from_any path 0 (r.in_base b).2)))
+  pub base_last : one_name (names_from base path (InBase at)) ≡ false
+  base_last = rw base_step (one_more _ _ (any_append (segments_from base (segment_end base at + 1)) _ (from_any path 0 r.path_some)))
 
-  pub base_named : Named base path w (segment_at base w.at)
-  base_named = let g = r.in_base b in named base path w base w.at _ base_step (segment_good base w.at g.0 g.1.good)
+  pub base_named : Named base path (InBase at) (segment_at base at)
+  base_named = named base path (InBase at) base at _ base_step (segment_good base at r.inside r.base_good.good)
 
-  pub base_left : length base ≤ segment_end base w.at + 1 → Stepped base path w (record { based = false; at = 0 })
+  pub base_left : length base ≤ segment_end base at + 1 → Stepped base path (InBase at) (InPath 0)
   unfolding names_from
   base_left h = record {
-    reached = record {
-      in_base = λ e. let z : ◌≡◌ {A = ℕ} 0 1 = cc in absurd (omega arith);
-      in_path = λ e. (r.in_base b).3;
-    };
-    rest = rest_of base path w _ _ (rw (from_end base (segment_end base w.at + 1) h) at base_step);
+    reached = r.path_good;
+    rest = rest_of base path (InBase at) _ _ (rw (from_end base (segment_end base at + 1) h) at base_step);
   }
 
-  pub base_stepped : segment_end base w.at + 1 < length base → Stepped base path w (record { based = true; at = segment_end base w.at + 1 })
+  pub base_stepped : segment_end base at + 1 < length base → Stepped base path (InBase at) (InBase (segment_end base at + 1))
   unfolding names_from
-  base_stepped h =
-      let g = r.in_base b in
-      record {
-        reached = record {
-          in_base = λ e. (h, good_behind base w.at g.0 g.1, g.2, g.3);
-          in_path = λ e. let z : ◌≡◌ {A = ℕ} 0 1 = cc in absurd (omega arith);
-        };
-        rest = rest_of base path w _ _ base_step;
-      }
+  base_stepped h = record {
+    reached = record { inside = h; base_good = good_behind base at r.inside r.base_good; path_some = r.path_some; path_good = r.path_good };
+    rest = rest_of base path (InBase at) _ _ base_step;
+  }

@@ -3,61 +3,49 @@
 
 ghost use Rattle.std.specs.Prelude.{◌≡◌, true, ◌≤◌, length, drop};
 ghost use Rattle.volume.specs.Path.{good_segment, good_segments, segments, is_absolute, good_absolute, good_relative, good_path};
-ghost use Rattle.path_names.specs.Names.{no_nul, names_from, any_names, one_name, Ended, Reached, Started, Named, Stepped};
+ghost use Rattle.path_names.specs.Names.{no_nul, to_slash, names_from, any_names, one_name, Ended, Reached, Started, Named, Stepped};
 
 // The longest name, and the longest path or base.
 const LONGEST_NAME: usize = 255;
 
 const LONGEST_PATH: usize = 1024;
 
-// How far a path is walked: the next name starts at `at`, in the base or in the path.
+// How far a path is walked: the next name starts at a place in the base, or in the path.
 #[derive(Clone, Copy)]
-pub struct Walk {
-    // in the base
-    pub based: bool,
-    pub at: usize,
+pub enum Walk {
+    InBase(usize),
+    InPath(usize),
+}
+
+// How many bytes stand before the first slash: all, where there is none.
+fn to_slash(s: &[u8]) -> usize
+    ensures before { result ≡ to_slash s.now }
+    ensures within { result ≤ length s.now }
+{
+    s.iter().position(|b| *b == b'/').unwrap_or(s.len())
 }
 
 // Where the segment that starts at `from` ends: at the next slash, or at the end.
 fn segment_end(s: &[u8], from: usize) -> usize
+    requires { from ≤ length s.now }
     ensures { Ended s.now from result }
 {
-    let mut i = from;
-    while i < s.len() {
-        if s[i] == b'/' {
-            return i;
-        }
-        i += 1;
-    }
-    i
+    from + to_slash(&s[from..])
 }
 
 // Whether no byte is NUL.
 fn no_nul(s: &[u8]) -> bool
     ensures { result ≡ no_nul s.now }
 {
-    let mut i = 0;
-    while i < s.len() {
-        if s[i] == 0 {
-            return false;
-        }
-        i += 1;
-    }
-    true
+    s.iter().all(|b| *b != 0)
 }
 
 // Whether a segment is good: 1 to 255 bytes, none of them NUL.
+#[tactic(auto, unfolding(volume::specs::Path::good_segment))]
 fn good_segment(s: &[u8]) -> bool
     ensures { result ≡ good_segment s.now }
 {
-    let n = s.len();
-    if n == 0 {
-        return false;
-    }
-    if LONGEST_NAME < n {
-        return false;
-    }
-    no_nul(s)
+    (1..=LONGEST_NAME).contains(&s.len()) && no_nul(s)
 }
 
 // Whether all segments from `from` on are good.
@@ -68,7 +56,7 @@ fn good_segments(s: &[u8], from: usize) -> bool
     let mut at = from;
     loop {
         let end = segment_end(s, at);
-        if good_segment(&s[at..end]) {} else {
+        if !good_segment(&s[at..end]) {
             return false;
         }
         let next = end + 1;
@@ -83,37 +71,25 @@ fn good_segments(s: &[u8], from: usize) -> bool
 fn is_absolute(s: &[u8]) -> bool
     ensures { result ≡ is_absolute s.now }
 {
-    if s.len() == 0 {
-        return false;
-    }
-    s[0] == b'/'
+    s.starts_with(b"/")
 }
 
 // Whether a path that must be absolute is good.
 fn good_absolute(s: &[u8]) -> bool
     ensures { result ≡ good_absolute s.now }
 {
-    if is_absolute(s) {} else {
-        return false;
-    }
-    if LONGEST_PATH < s.len() {
+    if !is_absolute(s) {
         return false;
     }
     // the root has no names
-    if s.len() <= 1 {
-        return true;
-    }
-    good_segments(s, 1)
+    s.len() <= LONGEST_PATH && (s.len() <= 1 || good_segments(s, 1))
 }
 
 // Whether a path below a base is good.
 fn good_relative(s: &[u8]) -> bool
     ensures { result ≡ good_relative s.now }
 {
-    if LONGEST_PATH < s.len() {
-        return false;
-    }
-    good_segments(s, 0)
+    s.len() <= LONGEST_PATH && good_segments(s, 0)
 }
 
 // Whether `path` is good; one without a leading slash is taken below `base`.
@@ -121,11 +97,10 @@ pub fn good_path(base: &[u8], path: &[u8]) -> bool
     ensures { result ≡ good_path base.now path.now }
 {
     if is_absolute(path) {
-        return good_absolute(path);
+        good_absolute(path)
+    } else {
+        good_absolute(base) && good_relative(path)
     }
-    let base_good = good_absolute(base);
-    let path_good = good_relative(path);
-    base_good && path_good
 }
 
 // The first name of a good path.
@@ -134,18 +109,12 @@ pub fn start(base: &[u8], path: &[u8]) -> Walk
     ensures { Started base.now path.now result }
 {
     if is_absolute(path) {
-        return Walk {
-            based: false,
-            at: 1,
-        };
+        Walk::InPath(1)
+    } else if base.len() <= 1 {
+        Walk::InPath(0)
+    } else {
+        Walk::InBase(1)
     }
-    if base.len() <= 1 {
-        return Walk {
-            based: false,
-            at: 0,
-        };
-    }
-    Walk { based: true, at: 1 }
 }
 
 // Whether a name is left.
@@ -153,10 +122,10 @@ pub fn has_name(base: &[u8], path: &[u8], w: Walk) -> bool
     requires { Reached base.now path.now w }
     ensures { result ≡ any_names (names_from base.now path.now w) }
 {
-    if w.based {
-        return true;
+    match w {
+        Walk::InBase(_) => true,
+        Walk::InPath(at) => at < path.len(),
     }
-    w.at < path.len()
 }
 
 // Whether exactly one name is left.
@@ -164,13 +133,10 @@ pub fn is_last(base: &[u8], path: &[u8], w: Walk) -> bool
     requires { Reached base.now path.now w }
     ensures { result ≡ one_name (names_from base.now path.now w) }
 {
-    if w.based {
-        return false;
+    match w {
+        Walk::InBase(_) => false,
+        Walk::InPath(at) => at < path.len() && segment_end(path, at) == path.len(),
     }
-    if path.len() <= w.at {
-        return false;
-    }
-    segment_end(path, w.at) == path.len()
 }
 
 // The next name, a part of the base or of the path, whichever it comes from.
@@ -179,13 +145,10 @@ pub fn name_at<'a>(base: &'a [u8], path: &'a [u8], w: Walk) -> &'a [u8]
     requires w_value { any_names (names_from base.now path.now w) ≡ true }
     ensures { Named base.now path.now w result.now }
 {
-    let at = w.at;
-    if w.based {
-        let end = segment_end(base, at);
-        return &base[at..end];
+    match w {
+        Walk::InBase(at) => &base[at..segment_end(base, at)],
+        Walk::InPath(at) => &path[at..segment_end(path, at)],
     }
-    let end = segment_end(path, at);
-    &path[at..end]
 }
 
 // Behind the next name; the path comes after the base.
@@ -194,22 +157,15 @@ pub fn after(base: &[u8], path: &[u8], w: Walk) -> Walk
     requires w_value { any_names (names_from base.now path.now w) ≡ true }
     ensures { Stepped base.now path.now w result }
 {
-    if w.based {
-        let next = segment_end(base, w.at) + 1;
-        if base.len() <= next {
-            return Walk {
-                based: false,
-                at: 0,
-            };
+    match w {
+        Walk::InBase(at) => {
+            let next = segment_end(base, at) + 1;
+            if next < base.len() {
+                Walk::InBase(next)
+            } else {
+                Walk::InPath(0)
+            }
         }
-        return Walk {
-            based: true,
-            at: next,
-        };
-    }
-    let next = segment_end(path, w.at) + 1;
-    Walk {
-        based: false,
-        at: next,
+        Walk::InPath(at) => Walk::InPath(segment_end(path, at) + 1),
     }
 }

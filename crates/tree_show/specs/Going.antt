@@ -1,7 +1,8 @@
 -- How lines are shown one after the other: what is written, and how many entries may still be shown.
-use Rattle.std.specs.Prelude.{ℕ, suc, ◌+◌, ◌-◌, ◌*◌, ◌≤◌, ◌<◌, ◌≡◌, cond, ◌≢◌, length, drop, get_or, T, eqb}
-use Rattle.std.proofs.Math.Path.{refl, sym, ap}
-use Rattle.std.proofs.Common.{◌∙◌, arith, add-one, length-append, drop_of_length-le, drop-cons, eq-eqb, ne_eqb}
+use Rattle.std.specs.List.{list_any}
+use Rattle.std.specs.Prelude.{ℕ, suc, Bool, true, false, ◌||◌, ◌+◌, ◌-◌, ◌*◌, ◌≤◌, ◌<◌, ◌≡◌, cond, length, drop, get_or, T, eqb}
+use Rattle.std.proofs.Math.Path.{refl, sym}
+use Rattle.std.proofs.Common.{◌∙◌, arith, add-one, length-append, drop-cons}
 use Rattle.std.proofs.Math.Option.{some}
 use mathlib.Core.List.{List, [], ◌∷◌, ◌++◌, map, append-nil, append_assoc}
 use Rattle.std.proofs.Math.Nat.{add-zero}
@@ -122,23 +123,19 @@ unfolding entries_at keep
 entries_next image order d j h = rw (drop-cons order j 0 h, add-one)
 
 -- whether there are any
-pub record Seeking (image : Bytes) (order : List ℕ) (d j : ℕ) : Type 0 where
-  pub within : j ≤ length order
-  pub same : entries_at image (drop j order) d ≡ entries_at image order d
+pub any_entry : (image : Bytes) (order : List ℕ) (d : ℕ)
+    → deeper_for (entries_at image order d) ≡ cond (list_any (λ p. eqb ((by_place image).parent p) d) order) (deeper ∷ []) []
+unfolding entries_at keep
+any_entry image [] d = refl
+any_entry image (p ∷ order) d = go (eqb ((by_place image).parent p) d) (any_entry image order d)
+  where
+    test : ℕ → Bool
+    test q = eqb ((by_place image).parent q) d
 
-module _ {image : Bytes} {order : List ℕ} {d j : ℕ} (s : Seeking image order d j) where
-  pub seek_found : j < length order → (by_place image).parent (get_or order j 0) ≡ d → deeper_for (entries_at image order d) ≡ deeper ∷ []
-  seek_found h e = rw (← s.same, entries_next image order d j h, eq-eqb ((by_place image).parent (get_or order j 0)) d e)
-
-  pub seek_on : j < length order → (by_place image).parent (get_or order j 0) ≢ d → Seeking image order d (j + 1)
-  seek_on h n =
-      let e = entries_next image order d j h in
-      let f : entries_at image (drop j order) d ≡ entries_at image (drop (j + 1) order) d = rw (ne_eqb ((by_place image).parent (get_or order j 0)) d n) at e in
-      record { within = omega arith; same = sym f ∙ s.same }
-
-  pub seek_none : length order ≤ j → deeper_for (entries_at image order d) ≡ []
-  unfolding entries_at keep
-  seek_none h = ap deeper_for (sym s.same ∙ ap (λ (l : List ℕ). entries_at image l d) (drop_of_length-le order h))
+    go : (t : Bool) → deeper_for (keep test order) ≡ cond (list_any test order) (deeper ∷ []) []
+        → deeper_for (cond t (p ∷ keep test order) (keep test order)) ≡ cond (t || list_any test order) (deeper ∷ []) []
+    go true e = refl
+    go false e = e
 
 -- ---- what the two functions tell, for a volume that the tables hold
 

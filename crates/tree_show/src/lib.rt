@@ -112,15 +112,7 @@ fn has_entry(image: &[u8], order: &[u32], directory: u32) -> bool
     requires { Inodes image.now order.now }
     ensures { deeper_for (entries_at image.now order.now directory) ≡ cond result (deeper ∷ []) [] }
 {
-    let n = order.len();
-    let mut k = 0;
-    while k < n {
-        if link_at(image, order[k]) == directory {
-            return true;
-        }
-        k += 1;
-    }
-    false
+    order.iter().any(|p| link_at(image, *p) == directory)
 }
 
 // Writes that there is more, where the directory has entries.
@@ -133,9 +125,10 @@ fn show_deeper(image: &[u8], order: &[u32], text: &mut [u8], at: usize, director
     if has_entry(image, order, directory) {
         let start = indent(text, at, MOST_DEPTH + 1);
         let end = print(text, start, b"deeper");
-        return push(text, end, NEWLINE);
+        push(text, end, NEWLINE)
+    } else {
+        at
     }
-    at
 }
 
 // Shows the entries of a directory, of at most `levels` more levels. Showing an entry shows what lies below it, and the levels fall: so this ends.
@@ -158,21 +151,12 @@ fn show_directory(
 {
     if levels == 0 {
         let at = show_deeper(image, order, text, cursor.at, directory);
-        return Cursor {
-            at,
-            left: cursor.left,
-        };
+        return Cursor { at, ..cursor };
     }
-    let n = order.len();
     let mut c = cursor;
-    let mut k = 0;
-    while k < n {
-        let p = order[k];
-        if link_at(image, p) == directory {
-            c = show_entry(image, ids, spots, order, text, c, p, levels - 1);
-            k += 1;
-        } else {
-            k += 1;
+    for p in order {
+        if link_at(image, *p) == directory {
+            c = show_entry(image, ids, spots, order, text, c, *p, levels - 1);
         }
     }
     c

@@ -8,6 +8,7 @@ use Rattle.format.specs.Ids.{is_directory_id}
 use Rattle.volume_laws.specs.Lists.{get_or_mem}
 use Rattle.tree_show.specs.Walk.{walking_begins, walking_past, walking_on, walking_ends, deeper_shown, entry_none, entry_file, entry_directory}
 use Rattle.tree_show.proofs.+show_directory_show_entry.Goals as goal
+use Rattle.tree_show.proofs.+show_directory_show_entry.Goals.{show_directory-then-link_at-directory, show_directory-else-link_at-directory}
 
 -- the levels fall
 down : (n t : ℕ) → n + n ≡ t → n ≢ 0 → (n - 1) + (n - 1) + 1 < t
@@ -18,13 +19,13 @@ show_directory-returns-then-levels-eq0-clause-told t c =
     let a = c.args in
     deeper_shown a.image.now a.ids.now a.spots.now a.order.now a.directory a.levels c.if-levels-eq0.true a.text.now a.cursor _ _ c.show_deeper-at.ensures.told
 
-pub show_directory-loop-k-init : goal.show_directory-loop-k-init
-show_directory-loop-k-init t c =
+pub show_directory-loop-p-init : goal.show_directory-loop-p-init
+show_directory-loop-p-init t c =
     let a = c.args in
     walking_begins a.image.now a.ids.now a.spots.now a.order.now a.directory a.levels c.if-levels-eq0.false a.text.now a.cursor
 
 pub show_directory-link_at-requires : goal.show_directory-link_at-requires
-show_directory-link_at-requires t c = (c.requires.showable.inodes _ (get_or_mem c.args.order.now c.loop-k.k 0 c.loop-k-test.true)).0
+show_directory-link_at-requires t c = (c.requires.showable.inodes _ (get_or_mem c.args.order.now c.loop-p.p-index 0 c.loop-p-test.true)).0
 
 pub show_directory-show_entry-c-requires : goal.show_directory-show_entry-c-requires
 show_directory-show_entry-c-requires t c = (
@@ -32,23 +33,26 @@ show_directory-show_entry-c-requires t c = (
   (
     c.requires.showable,
     (
-      c.requires.showable.inodes _ (get_or_mem c.args.order.now c.loop-k.k 0 c.loop-k-test.true),
-      (omega (arith, c.requires.levels_le_most_depth), omega (arith, c.requires.deeper_room_bound, c.loop-k.invariant.room)),
+      c.requires.showable.inodes _ (get_or_mem c.args.order.now c.loop-p.p-index 0 c.loop-p-test.true),
+      (omega (arith, c.requires.levels_le_most_depth), omega (arith, c.requires.deeper_room_bound, c.loop-p.invariant.room)),
     ),
   ),
 )
 
-pub show_directory-loop-k-preserved-then-link_at-directory : goal.show_directory-loop-k-preserved-then-link_at-directory
-show_directory-loop-k-preserved-then-link_at-directory t c =
-    walking_on c.loop-k.invariant c.loop-k-test.true (sym c.link_at.ensures ∙ c.if-link_at-directory.true) _ _ c.show_entry-c.auto.text c.show_entry-c.ensures.within
-    c.show_entry-c.ensures.told
-
-pub show_directory-loop-k-preserved : goal.show_directory-loop-k-preserved
-show_directory-loop-k-preserved t c =
-    walking_past c.loop-k.invariant c.loop-k-test.true (λ e. c.if-link_at-directory.false (c.link_at.ensures ∙ e))
+pub show_directory-loop-p-preserved : goal.show_directory-loop-p-preserved
+show_directory-loop-p-preserved t c =
+    elim c.if-link_at-directory.branch [
+      | show_directory-then-link_at-directory w ↦
+          rw (w.text-is, w.c-is)
+          (walking_on c.loop-p.invariant c.loop-p-test.true (sym c.link_at.ensures ∙ w.if-link_at-directory.true) _ _ w.show_entry-c.auto.text w.show_entry-c.ensures.within
+          w.show_entry-c.ensures.told)
+      | show_directory-else-link_at-directory w ↦
+          rw (w.text-is, w.c-is)
+          (walking_past c.loop-p.invariant c.loop-p-test.true (λ e. w.if-link_at-directory.false (c.link_at.ensures ∙ e)))
+    ]
 
 pub show_directory-returns-clause-told : goal.show_directory-returns-clause-told
-show_directory-returns-clause-told t c = walking_ends c.loop-k.invariant c.loop-k-test.false
+show_directory-returns-clause-told t c = walking_ends c.loop-p.invariant c.loop-p-test.false
 
 pub show_entry-returns-then-cursor-eq0-clause-told : goal.show_entry-returns-then-cursor-eq0-clause-told
 show_entry-returns-then-cursor-eq0-clause-told t c =
