@@ -13,7 +13,6 @@ ghost use Rattle.area_pass.specs.Rows.{spans_at, Lent, Readings};
 use area_damage::Damage;
 use area_erased::erased_end;
 use area_read::{HEADER_SIZE, next_record};
-use byte_crc16::CheckTables;
 use calls::MOST_AREAS;
 
 // The rows of the file areas in columns: starts first, then spans, stretches of damage, and where free space starts.
@@ -41,15 +40,7 @@ pub struct Listing {
 }
 
 // Puts the places of the records of an area that starts at `base` behind the first `n` of `places`; of its damage, number `stretch` is kept, from 0.
-// The tables of the check are lent, as they are to `list_areas`.
-pub fn list_area(
-    tables: &CheckTables,
-    area: &[u8],
-    base: usize,
-    places: &mut [u16],
-    n: usize,
-    stretch: u32,
-) -> Pass
+pub fn list_area(area: &[u8], base: usize, places: &mut [u16], n: usize, stretch: u32) -> Pass
     requires { Room area.now base places.old n }
     ensures listed { Listed area.now base places.old n result.count places.new }
     ensures read { Reads area.now stretch result.damage result.free }
@@ -58,7 +49,7 @@ pub fn list_area(
     let mut count = n;
     let mut at = HEADER_SIZE;
     let mut damage = Damage::default();
-    while let Some(next) = next_record(tables, area, at, written) {
+    while let Some(next) = next_record(area, at, written) {
         damage = damage.with_stretch(stretch, at, next.at - at);
         places[count] = (base + next.at) as u16;
         count += 1;
@@ -75,13 +66,7 @@ pub fn list_area(
 
 // Puts the places of the records of all the file areas into `places`, and what the writers ask of their readings into their rows; answers how
 // many places there are, and the damage.
-pub fn list_areas(
-    tables: &CheckTables,
-    image: &[u8],
-    rows: &mut [u32],
-    files: usize,
-    places: &mut [u16],
-) -> Listing
+pub fn list_areas(image: &[u8], rows: &mut [u32], files: usize, places: &mut [u16]) -> Listing
     requires { Lent image.now rows.old files places.old }
     ensures listed { take result.count places.new ≡ places_in image.now (described (part 0 files rows.old) (part spans_at files rows.old)) }
     ensures within { result.count ≤ length places.new }
@@ -94,7 +79,7 @@ pub fn list_areas(
         let offset = rows[i];
         let start = offset as usize;
         let end = start + rows[SPANS + i] as usize;
-        let pass = list_area(tables, &image[start..end], start, &mut *places, count, 0);
+        let pass = list_area(&image[start..end], start, places, count, 0);
         count = pass.count;
         damage = damage.joined(offset, pass.damage);
         rows[STRETCHES + i] = pass.damage.stretches;

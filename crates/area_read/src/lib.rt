@@ -8,7 +8,6 @@ ghost use Rattle.area_read.specs.Area.{next_record, WrittenTo};
 ghost use Rattle.area_read.specs.Kinds.{HasId, HasCount, kind_of};
 
 use area_list::area_end;
-use byte_crc16::CheckTables;
 use byte_fields::load32;
 use calls::Descriptor;
 use record_magics::next_magic;
@@ -119,14 +118,14 @@ pub fn area_kind(image: &[u8], area: Descriptor) -> AreaKind
 }
 
 // The first record that starts at `from` or after it, if any. What is written of the area ends at `written`: nothing starts behind that, and the
-// search goes no further. The tables of the check are lent.
-pub fn next_record(tables: &CheckTables, area: &[u8], from: usize, written: usize) -> Option<Next>
+// search goes no further.
+pub fn next_record(area: &[u8], from: usize, written: usize) -> Option<Next>
     requires { WrittenTo area.now from written }
     ensures { result ≡ next_record area.now from }
 {
     let mut at = from;
     while at < written {
-        let size = record_size(tables, &area[at..]);
+        let size = record_size(&area[at..]);
         if size != 0 {
             return Some(Next { at, size });
         }

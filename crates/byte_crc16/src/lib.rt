@@ -5,18 +5,9 @@ mod tables;
 
 ghost use Rattle.std.specs.Prelude.{◌≡◌};
 ghost use Rattle.format.specs.Crc.{crc_over, check};
-ghost use Rattle.crc_laws.specs.Table.{Tables};
 
 use crc16_register::{four, one, two};
 use tables::{HIGH, LOW};
-
-// The two tables of the check, each of a byte of the register. They are statics, which no compiled code copies; who checks records lends them down.
-#[derive(Drop)]
-pub struct CheckTables {
-    high: &'static [u16; 256],
-    low: &'static [u16; 256],
-    ghost right: { Tables high.now low.now },
-}
 
 // The register after the bytes of `s`, two a turn.
 #[tactic(auto, using(crate::proofs::Chunks::two_chunk, format_laws::specs::Crc::crc_step, format_laws::specs::Crc::crc_end))]
@@ -34,42 +25,18 @@ fn two_a_turn(start: u16, s: &[u8]) -> u16
     r
 }
 
-impl CheckTables {
-    // The tables, which are right: the proof tests each entry.
-    pub fn new() -> CheckTables {
-        CheckTables {
-            high: &HIGH,
-            low: &LOW,
-        }
-    }
-
-    // The register after the bytes of `s`, four a turn.
-    #[tactic(auto, using(crate::proofs::Chunks::four_chunk))]
-    fn over(&self, start: u16, s: &[u8]) -> u16
-        ensures { result ≡ crc_over start s.now }
-    {
-        let (fours, rest) = s.as_chunks::<4>();
-        let mut r = start;
-        for [b, c, d, e] in fours {
-            r = four(self.high, self.low, r, *b, *c, *d, *e);
-        }
-        two_a_turn(r, rest)
-    }
-
-    // The check over the header bytes before the check field, and then the body: four bytes a turn in slices of every length.
-    #[tactic(auto, unfolding(format::specs::Crc::check))]
-    pub fn check(&self, front: &[u8], body: &[u8]) -> u16
-        ensures { result ≡ check front.now body.now }
-    {
-        self.over(self.over(0, front), body)
-    }
-}
-
-// The register after the bytes of `s`. Who checks a body in parts goes on from one to the next.
+// The register after the bytes of `s`, four a turn; who checks a body in parts goes on from one to the next. The proof tests each entry of the tables,
+// which are statics, since no compiled code copies those.
+#[tactic(auto, using(crate::proofs::Chunks::four_chunk))]
 pub fn over(start: u16, s: &[u8]) -> u16
     ensures { result ≡ crc_over start s.now }
 {
-    CheckTables::new().over(start, s)
+    let (fours, rest) = s.as_chunks::<4>();
+    let mut r = start;
+    for [b, c, d, e] in fours {
+        r = four(&HIGH, &LOW, r, *b, *c, *d, *e);
+    }
+    two_a_turn(r, rest)
 }
 
 // The check over the header bytes before the check field, and then the body.

@@ -12,7 +12,6 @@ ghost use Rattle.call_area_report.specs.Header.{HeaderSays};
 use area_list::{area_at, area_end, count_good_areas};
 use area_pass::list_area;
 use area_read::{AreaKind, area_count, area_id, area_kind};
-use byte_crc16::CheckTables;
 use calls::{AREA_FILE, AREA_PASSED_OVER, AREA_SCRATCH, AreaReport, Descriptor, Refusal};
 
 // What a header says; without a valid one, zeros.
@@ -70,8 +69,7 @@ pub fn report_area(
     let header = header_of(image, area);
     let start = area.offset as usize;
     let end = area_end(area);
-    let tables = CheckTables::new();
-    let pass = list_area(&tables, &image[start..end], 0, places, 0, stretch);
+    let pass = list_area(&image[start..end], 0, places, 0, stretch);
     let damage = pass.damage;
     Ok(AreaReport {
         number: 0,

@@ -1,5 +1,5 @@
 -- The places of the source and those elsewhere: the records of the source, and those of the other file areas.
-use Rattle.std.specs.Prelude.{ℕ, ◌≤◌, ◌<◌, ◌≡◌, ◌⊎◌, Bool, not, ◌&&◌, length, drop, T, leb}
+use Rattle.std.specs.Prelude.{ℕ, ◌≤◌, ◌<◌, ◌≡◌, Bool, not, ◌&&◌, drop, T, leb}
 use Rattle.std.proofs.Math.Path.{refl}
 use Rattle.std.proofs.Common.{sym, ◌∙◌, inl, inr, arith, length-take, length-drop}
 use Rattle.std.proofs.Math.Logic.{⊎_elim}

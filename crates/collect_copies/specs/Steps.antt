@@ -1,17 +1,15 @@
 -- One record tested: what each branch of the code answers.
-use Rattle.std.specs.Prelude.{ℕ, ◌+◌, ◌-◌, ◌≤◌, ◌<◌, ◌≡◌, refl, ◌≢◌, Bool, not, List, length, eqb}
+use Rattle.std.specs.Prelude.{ℕ, ◌+◌, ◌-◌, ◌≤◌, ◌<◌, ◌≡◌, refl, Bool, not, List, length}
 use Rattle.std.proofs.Math.Path.{sym}
 use Rattle.std.proofs.Math.Bool.{true, false}
 use Rattle.std.proofs.Math.Option.{Option, none, some}
 use Rattle.std.proofs.Common.{arith}
 use Rattle.std.proofs.Math.Dec.{ltb}
-use borrow.Author.Tests.{eq-eqb, ne_eqb, le-leb, lt-leb, lt-ltb, le-ltb, ltb-true, ltb-false}
+use borrow.Author.Tests.{le-leb, lt-leb, lt-ltb, le-ltb, ltb-true, ltb-false}
 use Rattle.format.specs.Bytes.{Bytes, le32}
-use Rattle.volume.specs.Fate.{is_dead}
 use Rattle.record_places.specs.Place.{block_at, by_place}
 use Rattle.table_rows.specs.Table.{found}
-use Rattle.inode_fate.specs.Fates.{fate_by}
-use Rattle.collect_copies.specs.Copied.{Table, Tables, table_of, inside, holds, unheld, bearer, dropped, counts_in, copied}
+use Rattle.collect_copies.specs.Copied.{Table, Tables, table_of, inside, dropped, counts_in, copied}
 
 module _ (o n p : ℕ) where
   pub inside_before : p < o → false ≡ inside o n p
@@ -25,38 +23,6 @@ module _ (o n p : ℕ) where
       go : (b : Bool) → ltb (p - o) n ≡ b → b ≡ ltb p (o + n)
       go true e = let l = ltb-true (p - o) n e in sym (lt-ltb p (o + n) (omega arith))
       go false e = let l = ltb-false (p - o) n e in sym (le-ltb p (o + n) (omega arith))
-
-module _ (image : Bytes) (id : ℕ) (block near : Bool) (q : ℕ) where
-  pub holds_own : le32 image (q + 4) ≡ id → not near ≡ holds image id block near q
-  unfolding holds
-  holds_own e = rw (eq-eqb (le32 image (q + 4)) id e)
-
-  pub holds_block : le32 image (q + 4) ≢ id → block ≡ true → false ≡ holds image id block near q
-  unfolding holds
-  holds_block n e = rw (ne_eqb (le32 image (q + 4)) id n, e)
-
-  pub holds_link : le32 image (q + 4) ≢ id → block ≡ false → eqb (le32 image (q + 12)) id ≡ holds image id block near q
-  unfolding holds
-  holds_link n e = rw (ne_eqb (le32 image (q + 4)) id n, e)
-
-module _ (image : Bytes) (p : ℕ) where
-  pub bearer_block : block_at image p ≡ true → le32 image (p + 12) ≡ bearer image p
-  bearer_block e = rw e
-
-  pub bearer_inode : block_at image p ≡ false → le32 image (p + 4) ≡ bearer image p
-  bearer_inode e = rw e
-
-module _ (image : Bytes) (o n : ℕ) (ps : List ℕ) (u : Table) (p : ℕ) where
-  abbrev dead_then : Bool
-  dead_then = is_dead (fate_by (by_place image) (length u.ids) u.ids u.spots (bearer image p))
-
-  pub dropped_not : dead_then ≡ false → false ≡ dropped image o n ps u p
-  unfolding dropped
-  dropped_not e = rw e
-
-  pub dropped_if : dead_then ≡ true → unheld image o n ps (le32 image (p + 4)) (block_at image p) ≡ dropped image o n ps u p
-  unfolding dropped
-  dropped_if e = rw e
 
 module _ (image : Bytes) (u : Table) (p : ℕ) where
   abbrev there : Option ℕ

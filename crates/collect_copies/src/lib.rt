@@ -16,17 +16,16 @@ use table_rows::find;
 pub const MOST_COPIES: usize = MOST_INODES + MOST_BLOCKS;
 
 // Whether a place is among the `span` bytes from `offset` on.
+#[tactic(auto, using(crate::specs::Steps::inside_before, crate::specs::Steps::inside_from))]
 fn is_inside(offset: u32, span: u32, p: u32) -> bool
     ensures { result ≡ inside offset span p }
 {
-    if p < offset {
-        return false;
-    }
-    p - offset < span
+    offset <= p && p - offset < span
 }
 
 // Whether the record at `q` keeps the dead record of an id, a block or an inode; `near` tells whether `q` lies in the source.
 // Their own records in the source keep neither: they go with it.
+#[tactic(auto, unfolding(crate::specs::Copied::holds))]
 fn holds(image: &[u8], id: u32, block: bool, near: bool, q: u32) -> bool
     requires { Lies image.now q }
     ensures { result ≡ holds image.now id block near q }
@@ -34,10 +33,7 @@ fn holds(image: &[u8], id: u32, block: bool, near: bool, q: u32) -> bool
     if id_at(image, q) == id {
         return !near;
     }
-    if block {
-        return false;
-    }
-    link_at(image, q) == id
+    !block && link_at(image, q) == id
 }
 
 // Whether no record keeps the dead record of an id.
@@ -45,15 +41,10 @@ fn is_unheld(image: &[u8], offset: u32, span: u32, places: &[u16], id: u32, bloc
     requires { AllLie image.now places.now (length places.now) }
     ensures { result ≡ unheld image.now offset span places.now id block }
 {
-    let mut i = 0;
-    while i < places.len() {
-        let q = places[i] as u32;
-        if holds(image, id, block, is_inside(offset, span, q), q) {
-            return false;
-        }
-        i += 1;
-    }
-    true
+    places.iter().all(|q| {
+        let q = u32::from(*q);
+        !holds(image, id, block, is_inside(offset, span, q), q)
+    })
 }
 
 // The id of the inode whose fate the record at `p` has.
@@ -62,12 +53,14 @@ fn bearer(image: &[u8], p: u32) -> u32
     ensures { result ≡ bearer image.now p }
 {
     if is_block_at(image, p) {
-        return link_at(image, p);
+        link_at(image, p)
+    } else {
+        id_at(image, p)
     }
-    id_at(image, p)
 }
 
 // Whether the record at `p` is dead and nothing else needs it, by the rows of inodes.
+#[tactic(auto, unfolding(crate::specs::Copied::dropped))]
 fn is_dropped(
     image: &[u8],
     offset: u32,
@@ -83,17 +76,15 @@ fn is_dropped(
     ensures { result ≡ dropped image.now offset span places.now (record { ids = ids.now; spots = spots.now }) p }
 {
     let fate = fate_of(image, ids, spots, bearer(image, p));
-    if is_dead(fate) {} else {
-        return false;
-    }
-    is_unheld(
-        image,
-        offset,
-        span,
-        places,
-        id_at(image, p),
-        is_block_at(image, p),
-    )
+    is_dead(fate)
+        && is_unheld(
+            image,
+            offset,
+            span,
+            places,
+            id_at(image, p),
+            is_block_at(image, p),
+        )
 }
 
 // Whether the record at `p` has the bytes of the one that the rows hold for its id.
@@ -150,23 +141,19 @@ fn is_copied(
     requires lies { Lies image.now p }
     ensures { result ≡ copied image.now offset span places.now (tables_of inodes blocks tables.now) p }
 {
-    if is_inside(offset, span, p) {} else {
-        return false;
-    }
-    if counts(image, tables, inodes, blocks, p) {} else {
-        return false;
-    }
     let ids_end = INODE_IDS + inodes;
     let spots_end = INODE_SPOTS + inodes;
-    !is_dropped(
-        image,
-        offset,
-        span,
-        places,
-        &tables[INODE_IDS..ids_end],
-        &tables[INODE_SPOTS..spots_end],
-        p,
-    )
+    is_inside(offset, span, p)
+        && counts(image, tables, inodes, blocks, p)
+        && !is_dropped(
+            image,
+            offset,
+            span,
+            places,
+            &tables[INODE_IDS..ids_end],
+            &tables[INODE_SPOTS..spots_end],
+            p,
+        )
 }
 
 // Whether no record listed has the bytes of the one at `p`.
@@ -175,14 +162,7 @@ fn is_new(image: &[u8], listed: &[u16], p: u32) -> bool
     requires lies { Lies image.now p }
     ensures { result ≡ none_same image.now listed.now p }
 {
-    let mut i = 0;
-    while i < listed.len() {
-        if same_bytes(image, listed[i] as u32, p) {
-            return false;
-        }
-        i += 1;
-    }
-    true
+    listed.iter().all(|q| !same_bytes(image, u32::from(*q), p))
 }
 
 // Stores the places of the copies, in order, in the first places of `copies` and answers their number.
@@ -200,21 +180,13 @@ pub fn list_copies(
     ensures { (result ≤ most_copies) × (take result copies.new ≡ copied_places image.now offset span places.now (tables_of inodes blocks tables.now)) }
 {
     let mut k = 0;
-    let mut i = 0;
-    while i < places.len() {
-        let p = places[i];
-        if is_copied(
-            image, offset, span, places, tables, inodes, blocks, p as u32,
-        ) {
-            if is_new(image, &copies[0..k], p as u32) {
-                copies[k] = p;
-                k += 1;
-                i += 1;
-            } else {
-                i += 1;
-            }
-        } else {
-            i += 1;
+    for place in places {
+        let p = u32::from(*place);
+        if is_copied(image, offset, span, places, tables, inodes, blocks, p)
+            && is_new(image, &copies[..k], p)
+        {
+            copies[k] = *place;
+            k += 1;
         }
     }
     k

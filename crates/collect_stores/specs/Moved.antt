@@ -1,5 +1,5 @@
 -- What the stores of a collection come to. Document 01, "Collect".
-use Rattle.std.specs.Prelude.{ℕ, ◌+◌, ◌≤◌, ◌<◌, ◌≡◌, ◌≢◌, List, ◌∷◌, ◌++◌, map}
+use Rattle.std.specs.Prelude.{ℕ, ◌+◌, ◌≤◌, ◌≡◌, List, ◌∷◌, ◌++◌, map}
 use Rattle.std.proofs.Math.Path.{sym, ap}
 use Rattle.std.proofs.Common.{◌∙◌, append_assoc, arith}
 use Rattle.std.proofs.Math.ListN.{length}
@@ -30,14 +30,6 @@ pub record Removable (x : Bytes) (t s : Descriptor) (ps : List ℕ) : Type 0 whe
   pub inside : area_end s ≤ length x
   pub header : area_header_size ≤ s.length
   pub fill : Fillable x t.offset t.length ps
-
-pub count_wraps : (n : ℕ) → n ≡ 255 → 0 ≡ next_count n
-unfolding next_count
-count_wraps n e = rw e
-
-pub count_next : (n : ℕ) → n < 256 → n ≢ 255 → n + 1 ≡ next_count n
-unfolding next_count
-count_next n h e = let l : n < 255 = omega arith in omega arith
 
 module _ (x : Bytes) (t s : Descriptor) (ps : List ℕ) where
   -- the stores into scratch

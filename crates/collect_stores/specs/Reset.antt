@@ -1,7 +1,7 @@
 -- An area erased whole, with the header that it had; and what makes scratch ready.
 use Rattle.std.specs.Prelude.{ℕ, ◌+◌, ◌≤◌, ◌≡◌, true, false, length, take, drop}
 use Rattle.std.proofs.Math.Path.{sym}
-use Rattle.std.proofs.Common.{◌∙◌, arith, take-take}
+use Rattle.std.proofs.Common.{◌∙◌, take-take}
 use Rattle.format.specs.Bytes.{Bytes}
 use Rattle.format.specs.AreaHeader.{area_header_size}
 use Rattle.calls.specs.Image.{put, part, erased}
@@ -9,20 +9,17 @@ use Rattle.calls.specs.Areas.{area_bytes}
 use Rattle.calls.specs.Storing.{store_all}
 use Rattle.calls.specs.Collect.{is_blank, reset_stores, ready_stores}
 use Rattle.area_list.specs.Described.{area_of}
-use Rattle.image_laws.specs.Laws.{part_length}
-use Rattle.image_laws.specs.Stores.{put_whole}
 
 module _ (x : Bytes) (o n : ℕ) (inside : o + n ≤ length x) (header : area_header_size ≤ n) where
   abbrev own : Bytes
   own = take area_header_size (area_bytes x (area_of o n))
 
   -- the header copied out, the area erased, the header stored
-  pub reset_done : (none h y z : Bytes) → length none ≡ area_header_size → h ≡ put none 0 (part x o area_header_size) → y ≡ put x o (erased n) → z ≡ put y o h
+  pub reset_done : (h y z : Bytes) → h ≡ part x o area_header_size → y ≡ put x o (erased n) → z ≡ put y o h
       → z ≡ store_all x (reset_stores (area_of o n) own)
   unfolding store_all reset_stores
-  reset_done none h y z k e f g =
-      let l = part_length x o area_header_size (omega arith) in
-      let q : h ≡ own = e ∙ put_whole none (part x o area_header_size) (omega arith) ∙ sym (take-take area_header_size n (drop o x) header) in
+  reset_done h y z e f g =
+      let q : h ≡ own = e ∙ sym (take-take area_header_size n (drop o x) header) in
       rw (← q, ← f) g
 
   -- done only where it is needed

@@ -23,17 +23,12 @@ use byte_store::{ERASED, copy, erase, put};
 use calls::Descriptor;
 use record_places::size_at;
 
-// The last collection count, which 0 follows.
-const LAST_COUNT: u8 = 255;
-
-// The collection count of an area that is collected once more.
+// The collection count of an area that is collected once more; 0 follows the last.
+#[tactic(auto, unfolding(calls::specs::Collect::next_count))]
 fn next_count(count: u8) -> u8
     ensures { result ≡ next_count count }
 {
-    if count == LAST_COUNT {
-        return 0;
-    }
-    count + 1
+    count.wrapping_add(1)
 }
 
 // Whether the records at some places can be stored behind an area's header, one behind the other: the area has room for them, and none of
@@ -45,9 +40,8 @@ pub fn fits(image: &[u8], area: Descriptor, places: &[u16]) -> bool
 {
     let span = area.length as usize;
     let mut at = HEADER_SIZE;
-    let mut i = 0;
-    while i < places.len() {
-        let p = places[i] as u32;
+    for place in places {
+        let p = u32::from(*place);
         let size = size_at(image, p);
         let end = at + size;
         if end > span {
@@ -57,11 +51,10 @@ pub fn fits(image: &[u8], area: Descriptor, places: &[u16]) -> bool
             offset: p,
             length: size as u32,
         };
-        if disjoint(record, area) {} else {
+        if !disjoint(record, area) {
             return false;
         }
         at = end;
-        i += 1;
     }
     true
 }
@@ -72,13 +65,11 @@ fn copy_records(image: &mut [u8], places: &[u16], to: usize)
     ensures { image.new ≡ put image.old to (moved image.old places.now) }
 {
     let mut at = to;
-    let mut i = 0;
-    while i < places.len() {
-        let p = places[i] as u32;
-        let size = size_at(&*image, p);
-        copy(&mut *image, p as usize, at, size);
+    for place in places {
+        let p = u32::from(*place);
+        let size = size_at(image, p);
+        copy(image, p as usize, at, size);
         at += size;
-        i += 1;
     }
 }
 
@@ -86,14 +77,7 @@ fn copy_records(image: &mut [u8], places: &[u16], to: usize)
 fn is_blank(area: &[u8]) -> bool
     ensures { result ≡ is_blank area.now }
 {
-    let mut i = HEADER_SIZE;
-    while i < area.len() {
-        if area[i] != ERASED {
-            return false;
-        }
-        i += 1;
-    }
-    true
+    area.iter().skip(HEADER_SIZE).all(|b| *b == ERASED)
 }
 
 // Erases an area whole and restores its header.
@@ -102,10 +86,10 @@ fn erase_area(image: &mut [u8], offset: u32, span: u32)
     ensures { image.new ≡ store_all image.old (reset_stores (area_of offset span) (take area_header_size (area_bytes image.old (area_of offset span)))) }
 {
     let start = offset as usize;
-    let mut header: [u8; HEADER_SIZE] = [0; HEADER_SIZE];
-    put(&mut header, 0, &image[start..start + HEADER_SIZE]);
-    erase(&mut *image, start, span as usize);
-    put(&mut *image, start, &header);
+    let mut header = [0; HEADER_SIZE];
+    header.copy_from_slice(&image[start..start + HEADER_SIZE]);
+    erase(image, start, span as usize);
+    put(image, start, &header);
 }
 
 // Erases the scratch area and restores its header, if it is not erased behind its header already.
@@ -115,10 +99,9 @@ fn ready_scratch(image: &mut [u8], offset: u32, span: u32)
 {
     let start = offset as usize;
     let end = start + span as usize;
-    if is_blank(&image[start..end]) {
-        return;
+    if !is_blank(&image[start..end]) {
+        erase_area(image, offset, span);
     }
-    erase_area(&mut *image, offset, span);
 }
 
 // Makes a file area of the scratch area: with the id of the source and the records at some places of the source.
@@ -127,10 +110,9 @@ fn fill_scratch(image: &mut [u8], offset: u32, span: u32, id: u8, places: &[u16]
     ensures { image.new ≡ store_all image.old (ready_stores image.old (area_of offset span) ++ (id_store (area_of offset span) id ∷ record_stores (offset + area_header_size) (map (bytes_at image.old) places.now))) }
 {
     let start = offset as usize;
-    let label: [u8; 1] = [id];
-    ready_scratch(&mut *image, offset, span);
-    put(&mut *image, start + ID_AT, &label);
-    copy_records(&mut *image, places, start + HEADER_SIZE);
+    ready_scratch(image, offset, span);
+    put(image, start + ID_AT, &[id]);
+    copy_records(image, places, start + HEADER_SIZE);
 }
 
 // Moves the records at some places from a source area to scratch: scratch becomes a file area of the source's id, and the source scratch.
@@ -138,8 +120,8 @@ pub fn move_records(image: &mut [u8], offset: u32, span: u32, scratch: Descripto
     requires { Removable image.old scratch (area_of offset span) places.now }
     ensures { image.new ≡ moved_into image.old scratch (area_of offset span) places.now }
 {
-    let id = area_id(&*image, offset);
-    let count = next_count(area_count(&*image, offset));
-    fill_scratch(&mut *image, scratch.offset, scratch.length, id, places);
-    write_area(&mut *image, offset, span, count, SCRATCH_ID);
+    let id = area_id(image, offset);
+    let count = next_count(area_count(image, offset));
+    fill_scratch(image, scratch.offset, scratch.length, id, places);
+    write_area(image, offset, span, count, SCRATCH_ID);
 }

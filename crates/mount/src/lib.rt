@@ -8,7 +8,6 @@ ghost use Rattle.mount.specs.Filling.{Ready, Fills};
 
 use area_kinds::check_areas;
 use area_pass::list_areas;
-use byte_crc16::CheckTables;
 use calls::{MOST_BLOCKS, MOST_INODES, Refusal};
 use mount_state::{INODE_IDS, Mounted, TABLES};
 use record_read::ROOT;
@@ -68,7 +67,7 @@ pub fn mount(
     ensures { Mounts image.now (area_list areas.now) result tables.new places.new }
 {
     let found = check_areas(image, areas, tables)?;
-    let listing = list_areas(&CheckTables::new(), image, tables, found.files, places);
+    let listing = list_areas(image, tables, found.files, places);
     let filled = fill_tables(image, places, listing.count, &mut tables[INODE_IDS..TABLES])?;
     Ok(Mounted {
         files: found.files,

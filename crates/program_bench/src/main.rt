@@ -5,7 +5,7 @@ ghost use Rattle.std.specs.Prelude.{◌≡◌, ◌≤◌, length};
 
 use area_pass::list_area;
 use area_read::{HEADER_SIZE, next_record};
-use byte_crc16::{CheckTables, check};
+use byte_crc16::check;
 
 // The area's header, the root at 24, the file "a" at 44, its block of 10 at 65 and its block of 5 at 99; FF follows.
 const BENCH: [u8; 128] = [
@@ -31,11 +31,11 @@ fn show(word: &[u8], n: usize) {
 }
 
 // What the reading of an area comes to: stretches of damage, their bytes, the first of them (T-08), and where free space starts.
-fn show_reading(tables: &CheckTables, area: &[u8])
+fn show_reading(area: &[u8])
     requires { length area.now ≡ 4096 }
 {
     let mut places = [0u16; PLACES];
-    let pass = list_area(tables, area, 0, &mut places, 0, 0);
+    let pass = list_area(area, 0, &mut places, 0, 0);
     let damage = pass.damage;
     show(b"stretches ", damage.stretches as usize);
     show(b" skipped ", damage.skipped as usize);
@@ -46,11 +46,11 @@ fn show_reading(tables: &CheckTables, area: &[u8])
 }
 
 // The next record of an area, if there is one, and where the one behind it is sought.
-fn show_next(tables: &CheckTables, area: &[u8], at: usize) -> usize
+fn show_next(area: &[u8], at: usize) -> usize
     requires { at ≤ length area.now }
     ensures { result ≤ length area.now }
 {
-    let Some(next) = next_record(tables, area, at, area.len()) else {
+    let Some(next) = next_record(area, at, area.len()) else {
         return at;
     };
     show(b"record ", next.at);
@@ -63,12 +63,11 @@ fn show_next(tables: &CheckTables, area: &[u8], at: usize) -> usize
 fn show_area(area: &[u8])
     requires { length area.now ≡ 4096 }
 {
-    let tables = CheckTables::new();
     let mut at = HEADER_SIZE;
     for _ in 0..8 {
-        at = show_next(&tables, area, at);
+        at = show_next(area, at);
     }
-    show_reading(&tables, area);
+    show_reading(area);
 }
 
 // The check of document 01's nine digits; then the bench area as it is, and with one bit changed at a time.

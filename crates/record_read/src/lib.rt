@@ -19,7 +19,7 @@ ghost use Rattle.format.specs.Record.{
 };
 ghost use Rattle.record_read.specs.Headers.{inode_header, block_header};
 
-use byte_crc16::CheckTables;
+use byte_crc16::check;
 use byte_fields::{load16, load32};
 
 // The id of nothing: no parent, no block before this one.
@@ -187,11 +187,11 @@ pub fn name_good(s: &[u8]) -> bool
 }
 
 // Whether the check field at `offset`, the last of a header of `size` bytes, is right for the record `b`.
-fn check_right(tables: &CheckTables, b: &[u8], offset: usize, size: usize) -> bool
+fn check_right(b: &[u8], offset: usize, size: usize) -> bool
     requires { (offset + 2 ≤ length b.now) × (size ≤ length b.now) }
     ensures { result ≡ eqb (le16 b.now offset) (check (take offset b.now) (drop size b.now)) }
 {
-    load16(b, offset) == u32::from(tables.check(&b[..offset], &b[size..]))
+    load16(b, offset) == u32::from(check(&b[..offset], &b[size..]))
 }
 
 // The rules of an inode: of its reserved byte, of its header's fields, and of its name.
@@ -216,11 +216,11 @@ fn block_rules(b: &[u8]) -> bool
 
 // The size of the record whose bytes are `b`, with a header of `size` bytes and the check field at `offset`; 0 if its rules, which `lawful` tells, or
 // its check are broken.
-fn right_size(tables: &CheckTables, b: &[u8], lawful: bool, offset: usize, size: usize) -> usize
+fn right_size(b: &[u8], lawful: bool, offset: usize, size: usize) -> usize
     requires { (offset + 2 ≤ length b.now) × (size ≤ length b.now) }
     ensures { result ≡ cond (lawful && eqb (le16 b.now offset) (check (take offset b.now) (drop size b.now))) (length b.now) 0 }
 {
-    if lawful && check_right(tables, b, offset, size) {
+    if lawful && check_right(b, offset, size) {
         b.len()
     } else {
         0
@@ -228,7 +228,7 @@ fn right_size(tables: &CheckTables, b: &[u8], lawful: bool, offset: usize, size:
 }
 
 // The size of the inode at the front of `t`, which has the magic of one; 0 if it is not acceptable.
-fn inode_size(tables: &CheckTables, t: &[u8]) -> usize
+fn inode_size(t: &[u8]) -> usize
     requires { (20 ≤ length t.now) × (le32 t.now 0 ≡ inode.magic) }
     ensures { result ≡ record_size t.now }
 {
@@ -237,7 +237,6 @@ fn inode_size(tables: &CheckTables, t: &[u8]) -> usize
         return 0;
     };
     right_size(
-        tables,
         record,
         inode_rules(record),
         InodeHeader::CHECK_OFFSET,
@@ -246,7 +245,7 @@ fn inode_size(tables: &CheckTables, t: &[u8]) -> usize
 }
 
 // The same for a block.
-fn block_size(tables: &CheckTables, t: &[u8]) -> usize
+fn block_size(t: &[u8]) -> usize
     requires { (24 ≤ length t.now) × (le32 t.now 0 ≡ block.magic) }
     ensures { result ≡ record_size t.now }
 {
@@ -255,7 +254,6 @@ fn block_size(tables: &CheckTables, t: &[u8]) -> usize
         return 0;
     };
     right_size(
-        tables,
         record,
         block_rules(record),
         BlockHeader::CHECK_OFFSET,
@@ -263,17 +261,17 @@ fn block_size(tables: &CheckTables, t: &[u8]) -> usize
     )
 }
 
-// The size of the acceptable record at the front of `t`, 0 where there is none. The tables of the check are lent.
+// The size of the acceptable record at the front of `t`, 0 where there is none.
 #[tactic(auto, using(format_laws::specs::Record::too_short, format_laws::specs::Record::no_magic, format_laws::specs::Record::only_block, format_laws::specs::Record::kind_short))]
-pub fn record_size(tables: &CheckTables, t: &[u8]) -> usize
+pub fn record_size(t: &[u8]) -> usize
     ensures { result ≡ record_size t.now }
 {
     if t.len() < InodeHeader::SIZE {
         return 0;
     }
     match load32(t, 0) {
-        InodeHeader::MAGIC => inode_size(tables, t),
-        BlockHeader::MAGIC if BlockHeader::SIZE <= t.len() => block_size(tables, t),
+        InodeHeader::MAGIC => inode_size(t),
+        BlockHeader::MAGIC if BlockHeader::SIZE <= t.len() => block_size(t),
         _ => 0,
     }
 }

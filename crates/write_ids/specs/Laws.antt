@@ -1,15 +1,15 @@
 -- Ids marked in a window, and the smallest that is not.
 use Prim.Native.Nat.{ℕ, suc, ◌+◌, ◌-◌, ◌*◌, ◌≤◌, ◌<◌}
-use Rattle.std.specs.Prelude.{◌≡◌, ◌≢◌, Bool, not, ◌&&◌, ◌||◌, length, set, replicate, drop, eqb}
+use Rattle.std.specs.Prelude.{◌≡◌, ◌≢◌, Bool, not, ◌&&◌, ◌||◌, length, set, replicate, take, eqb}
 use Rattle.std.proofs.Math.Path.{refl, sym, subst⁻¹}
-use Rattle.std.proofs.Common.{◌∙◌, length-append, drop_of_length-le, get_or-set_other, drop-cons}
+use Rattle.std.proofs.Common.{◌∙◌, length-append, add-one, take_all, get_or-set_other}
 use Rattle.std.proofs.Math.Bool.{true, false, cond}
 use mathlib.Core.List.{List, [], ◌∷◌, ◌++◌, map, Memᴰ}
 use native.Mathlib.Omega.{arith}
 use Rattle.std.proofs.Math.Decide.{ℕ_discrete}
 use Rattle.std.proofs.Math.ListN.{get_or}
 use Rattle.std.proofs.lemmas.List.{length-map, length-replicate, get_or-replicate}
-use Rattle.std.proofs.Math.Seq.{get_or-set_same}
+use Rattle.std.proofs.Math.Seq.{get_or-set_same, take-suc}
 use Rattle.std.proofs.Math.Dec.{T}
 use borrow.Author.Tests.{eq-eqb, ne_eqb}
 use Rattle.format.specs.Bytes.{Bytes}
@@ -222,39 +222,51 @@ pub marks_named : (image : Bytes) (ps : List ℕ) (first : ℕ) (words : List �
 unfolding Marks
 marks_named image ps first words marks k h = marks k h ∙ rw (names_same image (first + k) ps)
 
--- ---- the records marked one after the other, the last first
+-- ---- the records marked one after the other
 
--- the names of the records at the places from i on are marked
-pub record Marking (image : Bytes) (ps : List ℕ) (first : ℕ) (words₀ words : List ℕ) (i : ℕ) : Type 0 where
-  pub within : i ≤ length ps
-  pub long : length words ≡ length words₀
-  pub marks : Marks first (names_of image (drop i ps)) words
+or_swap : (a b c : Bool) → (a || (b || c)) ≡ (b || (a || c))
+or_swap true true c = refl
+or_swap true false c = refl
+or_swap false b c = refl
 
-pub marking_begins : (image : Bytes) (ps : List ℕ) (first : ℕ) (words : List ℕ) → words ≡ replicate (length words) 0 → Marking image ps first words words (length ps)
-unfolding names_of
-marking_begins image ps first words e = record {
-  within = omega arith;
-  long = refl;
-  marks = rw (drop_of_length-le ps {i = length ps} (omega arith)) (subst⁻¹ (Marks first []) e (marks_fresh first (length words)));
-}
+module _ (image : Bytes) (k : ℕ) where
+  with_parted : (p : ℕ) (names : List ℕ) → is_among k (with_names image p names) ≡ (is_among k (with_names image p []) || is_among k names)
+  with_parted p names = go (block_at image p)
+    where
+      go : (b : Bool)
+          → is_among k (cond b ((by_place image).previous p ∷ (by_place image).owner p ∷ (by_place image).id p ∷ names) ((by_place image).parent p ∷ (by_place image).id p ∷ names))
+          ≡ (is_among k (cond b ((by_place image).previous p ∷ (by_place image).owner p ∷ (by_place image).id p ∷ []) ((by_place image).parent p ∷ (by_place image).id p ∷ [])) || is_among k names)
+      go true = among_append k ((by_place image).previous p ∷ (by_place image).owner p ∷ (by_place image).id p ∷ []) names
+      go false = among_append k ((by_place image).parent p ∷ (by_place image).id p ∷ []) names
 
-module _ {image : Bytes} {ps : List ℕ} {first : ℕ} {words₀ words : List ℕ} {i : ℕ} (m : Marking image ps first words₀ words i) where
-  pub marking_on : {words' : List ℕ} → 0 < i → length words' ≡ length words
-      → ((names : List ℕ) → Marks first names words → Marks first (with_names image (get_or ps (i - 1) 0) names) words')
-      → Marking image ps first words₀ words' (i - 1)
+  -- the names of one record more
+  names_snoc : (ps : List ℕ) (p : ℕ) → is_among k (names_of image (ps ++ (p ∷ []))) ≡ is_among k (with_names image p (names_of image ps))
   unfolding names_of
-  marking_on {words'} h long step =
-      let e : i ≡ suc (i - 1) = omega arith in
-      record {
-        within = omega (arith, m.within);
-        long = long ∙ m.long;
-        marks = rw (drop-cons ps (i - 1) 0 (omega (arith, m.within))) (step (names_of image (drop (suc (i - 1)) ps)) (rw e at m.marks));
-      }
+  names_snoc [] p = refl
+  names_snoc (q ∷ ps) p =
+      with_parted q (names_of image (ps ++ (p ∷ [])))
+      ∙ rw (names_snoc ps p, with_parted p (names_of image ps), with_parted p (with_names image q (names_of image ps)), with_parted q (names_of image ps))
+      (or_swap (is_among k (with_names image q [])) (is_among k (with_names image p [])) (is_among k (names_of image ps)))
 
-  pub marking_ends : i ≤ 0 → Marks first (named_at image ps) words
-  marking_ends h =
-      let e : i ≡ 0 = omega arith in
-      marks_named image ps first words (rw e at m.marks)
+-- the names of the records at the first i places are marked
+abbrev pub Marking : Bytes → List ℕ → ℕ → List ℕ → ℕ → Type 0
+Marking image ps first words i = Marks first (names_of image (take i ps)) words
+
+pub marking_begins : (image : Bytes) (ps : List ℕ) (first : ℕ) (words : List ℕ) → words ≡ replicate (length words) 0 → Marking image ps first words 0
+unfolding names_of
+marking_begins image ps first words e = subst⁻¹ (Marks first []) e (marks_fresh first (length words))
+
+module _ (image : Bytes) (ps : List ℕ) (first : ℕ) (words : List ℕ) (i : ℕ) (marks : Marking image ps first words i) where
+  pub marking_on : (words' : List ℕ) → i < length ps → length words' ≡ length words
+      → ((names : List ℕ) → Marks first names words → Marks first (with_names image (get_or ps i 0) names) words')
+      → Marking image ps first words' (i + 1)
+  unfolding Marks
+  marking_on words' h long step k l =
+      let t : take (i + 1) ps ≡ take i ps ++ (get_or ps i 0 ∷ []) = rw add-one (take-suc ps i 0 h) in
+      rw (t, names_snoc image (first + k) (take i ps) (get_or ps i 0)) (step (names_of image (take i ps)) marks k l)
+
+  pub marking_ends : length ps ≤ i → Marks first (named_at image ps) words
+  marking_ends h = marks_named image ps first words (rw (take_all i ps h) at marks)
 
 -- ---- a volume names at most three ids for each of its records
 

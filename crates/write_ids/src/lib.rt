@@ -26,7 +26,7 @@ fn mark(words: &mut [u64], first: u32, id: u32)
     }
     let k = (id - first) as usize;
     if k < words.len() * BITS {
-        occupy(&mut *words, k);
+        occupy(words, k);
     }
 }
 
@@ -38,10 +38,10 @@ fn mark_record(image: &[u8], p: u32, words: &mut [u64], first: u32)
 {
     let id = id_at(image, p);
     let link = link_at(image, p);
-    mark(&mut *words, first, id);
-    mark(&mut *words, first, link);
+    mark(words, first, id);
+    mark(words, first, link);
     if is_block_at(image, p) {
-        mark(&mut *words, first, previous_at(image, p));
+        mark(words, first, previous_at(image, p));
     }
 }
 
@@ -52,10 +52,8 @@ pub fn mark_named(image: &[u8], places: &[u16], words: &mut [u64], first: u32)
     requires words_value { words.old ≡ replicate (length words.old) 0 }
     ensures { Marks first (named_at image.now places.now) words.new }
 {
-    let mut left = places.len();
-    while left > 0 {
-        left -= 1;
-        mark_record(image, places[left] as u32, &mut *words, first);
+    for p in places {
+        mark_record(image, u32::from(*p), words, first);
     }
 }
 
@@ -66,8 +64,8 @@ pub fn take_id(words: &mut [u64], first: u32) -> u32
     requires first_le_first_block_id { first ≤ first_block_id }
     ensures { (names : List ℕ) → Marks first names words.old → length names < capacity words.old → (result ≡ unused_id first names) × Marks first (result ∷ names) words.new }
 {
-    let free = first_free(&*words);
-    occupy(&mut *words, free);
+    let free = first_free(words);
+    occupy(words, free);
     first + free as u32
 }
 
@@ -79,6 +77,6 @@ pub fn unused_id(image: &[u8], places: &[u16], first: u32) -> u32
     ensures { result ≡ unused_id first (named_at image.now places.now) }
 {
     let mut words = [0u64; ID_WORDS];
-    mark_named(image, places, &mut words[..], first);
-    take_id(&mut words[..], first)
+    mark_named(image, places, &mut words, first);
+    take_id(&mut words, first)
 }

@@ -2,7 +2,7 @@
 use Prim.Native.Nat.{ℕ, suc, ◌+◌, ◌-◌, ◌≤◌, ◌<◌}
 use Rattle.std.specs.Prelude.{◌≡◌, refl, get_or, set}
 use Rattle.std.proofs.Math.Path.{sym, ap}
-use Rattle.std.proofs.Common.{◌∙◌, length-take, length-drop, take-suc-set}
+use Rattle.std.proofs.Common.{◌∙◌, take-suc-set}
 use mathlib.Core.List.{List, [], ◌∷◌, ◌++◌, map, append-nil, append_assoc}
 use Rattle.std.specs.Prelude.{Option, None, Some}
 use Rattle.std.proofs.Math.Option.{none, some}
@@ -25,50 +25,41 @@ use Rattle.write_ids.specs.Window.{Marks}
 use Rattle.write_ids.specs.Laws.{unused_within}
 use Rattle.write_room.specs.Spaces.{spaces_of, fit_of, EndsWithin}
 use Rattle.write_room.specs.Plan.{places_for, EachAt, Planned, Planning, planning_begins, planning_fails, planning_on, planning_ends}
-use Rattle.write_sizes.specs.Cut.{pieces, next_length, next_some, pieces_next, pieces_end}
+use Rattle.write_sizes.specs.Cut.{pieces, Comes, pieces_next, pieces_none}
 use Rattle.write_pieces.specs.Plan.{ids_for, stores_of}
 
 -- ---- places
 
--- the pieces before start have their places
-pub record Placing (n : ℕ) (text : Bytes) (es fs₀ qs₀ fs qs : List ℕ) (start i : ℕ) : Type 0 where
-  pub count : i + length (pieces n (drop start text)) ≡ length qs₀
-  pub planning : Planning (map length (pieces n text)) (map length (pieces n (drop start text))) es fs₀ qs₀ fs qs i
+-- the pieces before the bytes that are left have their places
+pub record Placing (n : ℕ) (text : Bytes) (es fs₀ qs₀ fs qs : List ℕ) (rest : Bytes) (i : ℕ) : Type 0 where
+  pub count : i + length (pieces n rest) ≡ length qs₀
+  pub planning : Planning (map length (pieces n text)) (map length (pieces n rest)) es fs₀ qs₀ fs qs i
 
-pub placing_begins : (n : ℕ) (text : Bytes) (es fs qs : List ℕ) → length qs ≡ length (pieces n text) → Placing n text es fs qs fs qs 0 0
+pub placing_begins : (n : ℕ) (text : Bytes) (es fs qs : List ℕ) → length qs ≡ length (pieces n text) → Placing n text es fs qs fs qs text 0
 placing_begins n text es fs qs e = record { count = omega arith; planning = planning_begins (map length (pieces n text)) es fs qs }
 
-module _ {n : ℕ} (some_room : 1 ≤ n) {text : Bytes} {es fs₀ qs₀ fs qs : List ℕ} {start i : ℕ} (g : Placing n text es fs₀ qs₀ fs qs start i) where
-  module _ (h : start < length text) (k : ℕ) (next : k ≡ next_length n (length text - start)) where
-    abbrev piece : Bytes
-    piece = take k (drop start text)
-
-    more : pieces n (drop start text) ≡ piece ∷ pieces n (drop (start + k) text)
-    more = pieces_next n some_room text start k next h
-
-    piece_long : length piece ≡ k
-    piece_long = omega (arith, length-take k (drop start text), length-drop start text, next_some n some_room text start k next h)
+module _ {n : ℕ} (some_room : 1 ≤ n) {text : Bytes} {es fs₀ qs₀ fs qs : List ℕ} {rest : Bytes} {i : ℕ} (g : Placing n text es fs₀ qs₀ fs qs rest i) where
+  module _ {piece later : Bytes} (comes : Comes n some_room rest piece later) where
+    more : pieces n rest ≡ piece ∷ pieces n later
+    more = pieces_next n some_room comes
 
     -- there is a row in the plan for the piece
     pub placing_room : i < length qs
     placing_room = omega (arith, g.count, ap length more, g.planning.places_long)
 
-    more_sizes : map length (pieces n (drop start text)) ≡ k ∷ map length (pieces n (drop (start + k) text))
-    more_sizes = ap (map length) more ∙ rw piece_long
-
-    module _ (r : Option ℕ) (fs' : List ℕ) (took : first_fit (block.header_size + k) (spaces_of fs es) ≡ fit_of r (spaces_of fs' es)) where
+    module _ (r : Option ℕ) (fs' : List ℕ) (took : first_fit (block.header_size + length piece) (spaces_of fs es) ≡ fit_of r (spaces_of fs' es)) where
       pub placing_fails : r ≡ None → places_for (spaces_of fs₀ es) (map length (pieces n text)) ≡ none
-      placing_fails = planning_fails g.planning k _ more_sizes r fs' took
+      placing_fails = planning_fails g.planning (length piece) _ (ap (map length) more) r fs' took
 
-      pub placing_on : length fs' ≡ length fs → (q : ℕ) → r ≡ Some q → Placing n text es fs₀ qs₀ fs' (set qs i q) (start + k) (i + 1)
+      pub placing_on : length fs' ≡ length fs → (q : ℕ) → r ≡ Some q → Placing n text es fs₀ qs₀ fs' (set qs i q) later (i + 1)
       placing_on l q a = record {
         count = omega (arith, g.count, ap length more);
-        planning = planning_on g.planning k _ more_sizes r fs' took placing_room l q a;
+        planning = planning_on g.planning (length piece) _ (ap (map length) more) r fs' took placing_room l q a;
       }
 
-  pub placing_ends : length text ≤ start → places_for (spaces_of fs₀ es) (map length (pieces n text)) ≡ some qs
+  pub placing_ends : length rest ≤ 0 → places_for (spaces_of fs₀ es) (map length (pieces n text)) ≡ some qs
   placing_ends h =
-      let z = pieces_end n text start h in
+      let z = pieces_none n rest h in
       planning_ends g.planning (ap (map length) z) ∙ ap some (take_all i qs (omega (arith, g.count, ap length z, g.planning.places_long)))
 
 -- ---- ids
@@ -134,12 +125,12 @@ module _ {names₀ words₀ ids₀ words ids : List ℕ} {i : ℕ} (g : Taking n
 
 -- ---- stores
 
--- the pieces before start are stored, and those to come make the whole
-pub record Storing (n : ℕ) (text : Bytes) (is qs : List ℕ) (f last : ℕ) (x₀ x : Bytes) (previous start i : ℕ) : Type 0 where
+-- the pieces before the bytes that are left are stored, and those to come make the whole
+pub record Storing (n : ℕ) (text : Bytes) (is qs : List ℕ) (f last : ℕ) (x₀ x : Bytes) (previous : ℕ) (rest : Bytes) (i : ℕ) : Type 0 where
   pub long : length x ≡ length x₀
-  pub count : i + length (pieces n (drop start text)) ≡ length is
-  pub ends : EachAt (EndsWithin (length x₀)) (map length (pieces n (drop start text))) (drop i qs)
-  pub left : store_all x (stores_of (drop i is) f previous (pieces n (drop start text)) (drop i qs)) ≡ store_all x₀ (stores_of is f last (pieces n text) qs)
+  pub count : i + length (pieces n rest) ≡ length is
+  pub ends : EachAt (EndsWithin (length x₀)) (map length (pieces n rest)) (drop i qs)
+  pub left : store_all x (stores_of (drop i is) f previous (pieces n rest) (drop i qs)) ≡ store_all x₀ (stores_of is f last (pieces n text) qs)
 
 -- as many ids and places as pieces, and the places in the image
 pub record Ready (n : ℕ) (text : Bytes) (is qs : List ℕ) (x : Bytes) : Type 0 where
@@ -148,45 +139,39 @@ pub record Ready (n : ℕ) (text : Bytes) (is qs : List ℕ) (x : Bytes) : Type 
   pub ids_count : length is ≡ length (pieces n text)
   pub planned : Planned (length x) (map length (pieces n text)) qs
 
-pub storing_begins : {n : ℕ} {text : Bytes} {is qs : List ℕ} {x : Bytes} (f last : ℕ) → Ready n text is qs x → Storing n text is qs f last x x last 0 0
+pub storing_begins : {n : ℕ} {text : Bytes} {is qs : List ℕ} {x : Bytes} (f last : ℕ) → Ready n text is qs x → Storing n text is qs f last x x last text 0
 storing_begins f last r = record { long = refl; count = omega (arith, r.ids_count); ends = r.planned.ends; left = refl }
 
-module _ {n : ℕ} {text : Bytes} {is qs : List ℕ} {f last : ℕ} {x₀ x : Bytes} {previous start i : ℕ} (ready : Ready n text is qs x₀)
-    (g : Storing n text is qs f last x₀ x previous start i) where
-  module _ (h : start < length text) (k : ℕ) (next : k ≡ next_length n (length text - start)) where
-    abbrev stored : Bytes
-    stored = take k (drop start text)
-
-    rest : pieces n (drop start text) ≡ stored ∷ pieces n (drop (start + k) text)
-    rest = pieces_next n ready.some_room text start k next h
-
-    pub stored_long : length stored ≡ k
-    stored_long = omega (arith, length-take k (drop start text), length-drop start text, next_some n ready.some_room text start k next h)
+module _ {n : ℕ} {text : Bytes} {is qs : List ℕ} {f last : ℕ} {x₀ x : Bytes} {previous : ℕ} {rest : Bytes} {i : ℕ} (ready : Ready n text is qs x₀)
+    (g : Storing n text is qs f last x₀ x previous rest i) where
+  module _ {piece later : Bytes} (comes : Comes n ready.some_room rest piece later) where
+    next : pieces n rest ≡ piece ∷ pieces n later
+    next = pieces_next n ready.some_room comes
 
     pub storing_room : (i < length is) × (i < length qs)
-    storing_room = (omega (arith, g.count, ap length rest), omega (arith, g.count, ap length rest, ready.ids_count, ready.planned.count, length-map (pieces n text) (length {A = ℕ})))
+    storing_room = (omega (arith, g.count, ap length next), omega (arith, g.count, ap length next, ready.ids_count, ready.planned.count, length-map (pieces n text) (length {A = ℕ})))
 
-    both_end : (get_or qs i 0 + (block.header_size + length stored) ≤ length x₀) × EachAt (EndsWithin (length x₀)) (map length (pieces n (drop (start + k) text))) (drop (i + 1) qs)
+    both_end : (get_or qs i 0 + (block.header_size + length piece) ≤ length x₀) × EachAt (EndsWithin (length x₀)) (map length (pieces n later)) (drop (i + 1) qs)
     unfolding EachAt
-    both_end = rw add-one (rw (rest, drop-cons qs i 0 storing_room.1) at g.ends)
+    both_end = rw add-one (rw (next, drop-cons qs i 0 storing_room.1) at g.ends)
 
-    pub storing_fits : get_or qs i 0 + (block.header_size + length stored) ≤ length x
+    pub storing_fits : get_or qs i 0 + (block.header_size + length piece) ≤ length x
     storing_fits = rw g.long both_end.0
 
-    pub storing_on : Storing n text is qs f last x₀ (put x (get_or qs i 0) (block_bytes (get_or is i 0) 0 f previous stored)) (get_or is i 0) (start + k) (i + 1)
+    pub storing_on : Storing n text is qs f last x₀ (put x (get_or qs i 0) (block_bytes (get_or is i 0) 0 f previous piece)) (get_or is i 0) later (i + 1)
     unfolding stores_of store_all
     storing_on = record {
       long =
-          length_put x (get_or qs i 0) (block_bytes (get_or is i 0) 0 f previous stored) (rw (block_size (get_or is i 0) 0 f previous stored) storing_fits)
+          length_put x (get_or qs i 0) (block_bytes (get_or is i 0) 0 f previous piece) (rw (block_size (get_or is i 0) 0 f previous piece) storing_fits)
           ∙ g.long;
-      count = omega (arith, g.count, ap length rest);
+      count = omega (arith, g.count, ap length next);
       ends = both_end.1;
-      left = rw add-one (rw (rest, drop-cons qs i 0 storing_room.1, drop-cons is i 0 storing_room.0) at g.left);
+      left = rw add-one (rw (next, drop-cons qs i 0 storing_room.1, drop-cons is i 0 storing_room.0) at g.left);
     }
 
-  pub storing_ends : length text ≤ start → x ≡ store_all x₀ (stores_of is f last (pieces n text) qs)
+  pub storing_ends : length rest ≤ 0 → x ≡ store_all x₀ (stores_of is f last (pieces n text) qs)
   unfolding stores_of store_all
   storing_ends h =
-      let z = pieces_end n text start h in
+      let z = pieces_none n rest h in
       let e : drop i is ≡ [] = drop_of_length-le is {i = i} (omega (arith, g.count, ap length z)) in
       rw (z, e) at g.left

@@ -25,7 +25,6 @@ use record_read::{BlockHeader, FIRST_BLOCK_ID};
 use record_write::write_block;
 use write_ids::{ID_WORDS, mark_named, take_id};
 use write_room::{find_spaces, take_place};
-use write_sizes::smaller;
 
 // Takes a place for each piece; answers whether there is room for all.
 fn take_places(
@@ -39,16 +38,11 @@ fn take_places(
     requires places_len { length places.old ≡ length (pieces size text.now) }
     ensures { places_for (spaces_of froms.old ends.now) (map length (pieces size text.now)) ≡ planned_of result places.new }
 {
-    let mut start = 0;
-    let mut i = 0;
-    while start < text.len() {
-        let n = smaller(size, text.len() - start);
-        let Some(at) = take_place(froms, ends, BlockHeader::SIZE + n) else {
+    for (i, piece) in text.chunks(size).enumerate() {
+        let Some(at) = take_place(froms, ends, BlockHeader::SIZE + piece.len()) else {
             return false;
         };
         places[i] = at;
-        i += 1;
-        start += n;
     }
     true
 }
@@ -70,8 +64,8 @@ pub fn plan_places(
 {
     let mut froms = [0u32; MOST_AREAS];
     let mut ends = [0u32; MOST_AREAS];
-    let n = find_spaces(tables, m.files, &mut froms[..], &mut ends[..]);
-    take_places(&mut froms[..n], &ends[..n], text, size, &mut *places)
+    let n = find_spaces(tables, m.files, &mut froms, &mut ends);
+    take_places(&mut froms[..n], &ends[..n], text, size, places)
 }
 
 // The smallest block ids that no record names, in order, none of them twice.
@@ -81,11 +75,9 @@ pub fn plan_ids(image: &[u8], records: &[u16], ids: &mut [u32])
     ensures { ids.new ≡ ids_for (named_at image.now records.now) (length ids.old) }
 {
     let mut words = [0u64; ID_WORDS];
-    mark_named(image, records, &mut words[..], FIRST_BLOCK_ID);
-    let mut i = 0;
-    while i < ids.len() {
-        ids[i] = take_id(&mut words[..], FIRST_BLOCK_ID);
-        i += 1;
+    mark_named(image, records, &mut words, FIRST_BLOCK_ID);
+    for id in ids.iter_mut() {
+        *id = take_id(&mut words, FIRST_BLOCK_ID);
     }
 }
 
@@ -101,7 +93,7 @@ fn store_piece(image: &mut [u8], at: u32, id: u32, file: u32, previous: u32, pie
         previous,
         length: piece.len() as u32,
     };
-    write_block(&mut *image, at as usize, header, piece);
+    write_block(image, at as usize, header, piece);
 }
 
 // Stores the pieces, each naming the one before; the first names the file's last block.
@@ -118,14 +110,9 @@ pub fn store_pieces(
     ensures { image.new ≡ store_all image.old (stores_of ids.now file last (pieces size text.now) places.now) }
 {
     let mut previous = last;
-    let mut from = 0;
-    let mut i = 0;
-    while from < text.len() {
-        let end = from + smaller(size, text.len() - from);
+    for (i, piece) in text.chunks(size).enumerate() {
         let id = ids[i];
-        store_piece(&mut *image, places[i], id, file, previous, &text[from..end]);
+        store_piece(image, places[i], id, file, previous, piece);
         previous = id;
-        from = end;
-        i += 1;
     }
 }

@@ -2,7 +2,7 @@
 use Rattle.std.specs.Prelude.{Option}
 use Rattle.std.specs.Prelude.{ℕ, zero, suc, ◌+◌, ◌-◌, ◌≤◌, ◌<◌, ◌≡◌, refl, ◌≢◌, Bool, true, false, cond, List, [], ◌∷◌, ◌++◌, length, take, drop, get_or, set}
 use Rattle.std.proofs.Math.Path.{sym, ap}
-use Rattle.std.proofs.Common.{◌∙◌, append-nil, append_assoc, length-set, get_or-take, get_or-drop, drop-cons, eq-eqb, ne_eqb}
+use Rattle.std.proofs.Common.{◌∙◌, append-nil, append_assoc, get_or-take, get_or-drop, drop-cons, eq-eqb, ne_eqb}
 use native.Mathlib.Omega.{arith}
 use Rattle.std.proofs.Math.Dec.{eqb}
 use Rattle.format.specs.Bytes.{Bytes}
@@ -42,67 +42,50 @@ pub record AreaRows (files : ℕ) (t : List ℕ) : Type 0 where
 -- ---- the loop that finds it
 
 -- the rows before i are seen and k spaces found: those and the ones to come make the whole
-pub record Finding (t : List ℕ) (files : ℕ) (fs₀ es₀ fs es : List ℕ) (k i : ℕ) : Type 0 where
+pub record Finding (t : List ℕ) (files : ℕ) (fs es : List ℕ) (k i : ℕ) : Type 0 where
   pub few : k ≤ i
-  pub within : i ≤ files
-  pub starts_long : length fs ≡ length fs₀
-  pub ends_long : length es ≡ length es₀
   pub are : spaces_of (take k fs) (take k es) ++ row_spaces t i (files - i) ≡ row_spaces t 0 files
 
-pub finding_begins : (t : List ℕ) (files : ℕ) (fs es : List ℕ) → Finding t files fs es fs es 0 0
+pub finding_begins : (t : List ℕ) (files : ℕ) (fs es : List ℕ) → Finding t files fs es 0 0
 unfolding spaces_of
 finding_begins t files fs es =
     let z : files - 0 ≡ files = omega arith in
-    record { few = omega arith; within = omega arith; starts_long = refl; ends_long = refl; are = rw z }
+    record { few = omega arith; are = rw z }
 
 row_next : (t : List ℕ) (i n m : ℕ) → n ≡ suc m → (b : Bool) → eqb (get_or t (stretches_at + i) 0) 0 ≡ b
     → row_spaces t i n ≡ cond b (record { from = from_at t i; end = end_at t i } ∷ row_spaces t (suc i) m) (row_spaces t (suc i) m)
 unfolding row_spaces
 row_next t i n m e b q = rw (e, q)
 
-module _ {t : List ℕ} {files : ℕ} {fs₀ es₀ fs es : List ℕ} {k i : ℕ} (g : Finding t files fs₀ es₀ fs es k i) where
+module _ {t : List ℕ} {files : ℕ} {fs es : List ℕ} {k i : ℕ} (g : Finding t files fs es k i) where
   pub finding_ends : files ≤ i → spaces_of (take k fs) (take k es) ≡ row_spaces t 0 files
   unfolding row_spaces
   finding_ends h =
       let z : files - i ≡ 0 = omega arith in
       sym (rw z (append-nil (spaces_of (take k fs) (take k es)))) ∙ g.are
 
-  module _ (x : files ≤ length fs₀) (y : files ≤ length es₀) where
-    pub found_within : (k ≤ length fs) × (k ≤ length es)
-    found_within = (omega (arith, g.few, g.within, g.starts_long), omega (arith, g.few, g.within, g.ends_long))
+  module _ (h : i < files) where
+    abbrev later : List Space
+    later = row_spaces t (i + 1) (files - (i + 1))
 
-    module _ (h : i < files) where
-      -- there is a place for one space more
-      pub has_room : (k < length fs) × (k < length es)
-      has_room = (omega (arith, g.few, g.starts_long), omega (arith, g.few, g.ends_long))
+    here : (b : Bool) → eqb (get_or t (stretches_at + i) 0) 0 ≡ b
+        → row_spaces t i (files - i) ≡ cond b (record { from = from_at t i; end = end_at t i } ∷ later) later
+    here b q = let e : i + 1 ≡ suc i = omega arith in rw e (row_next t i (files - i) (files - suc i) (omega arith) b q)
 
-      abbrev later : List Space
-      later = row_spaces t (i + 1) (files - (i + 1))
+    pub finding_clean : k < length fs → k < length es → get_or t (stretches_at + i) 0 ≡ 0 → Finding t files (set fs k (from_at t i)) (set es k (end_at t i)) (k + 1) (i + 1)
+    finding_clean x y z = record {
+      few = omega (arith, g.few);
+      are =
+          rw (spaces_more fs es k (from_at t i) (end_at t i) x y)
+          (append_assoc (spaces_of (take k fs) (take k es)) _ later
+          ∙ sym (ap (λ (l : List Space). spaces_of (take k fs) (take k es) ++ l) (here true (eq-eqb _ _ z))) ∙ g.are);
+    }
 
-      here : (b : Bool) → eqb (get_or t (stretches_at + i) 0) 0 ≡ b
-          → row_spaces t i (files - i) ≡ cond b (record { from = from_at t i; end = end_at t i } ∷ later) later
-      here b q = let e : i + 1 ≡ suc i = omega arith in rw e (row_next t i (files - i) (files - suc i) (omega arith) b q)
-
-      pub finding_clean : get_or t (stretches_at + i) 0 ≡ 0 → Finding t files fs₀ es₀ (set fs k (from_at t i)) (set es k (end_at t i)) (k + 1) (i + 1)
-      finding_clean z = record {
-        few = omega (arith, g.few);
-        within = omega arith;
-        starts_long = length-set fs k (from_at t i) ∙ g.starts_long;
-        ends_long = length-set es k (end_at t i) ∙ g.ends_long;
-        are =
-            rw (spaces_more fs es k (from_at t i) (end_at t i) has_room.0 has_room.1)
-            (append_assoc (spaces_of (take k fs) (take k es)) _ later
-            ∙ sym (ap (λ (l : List Space). spaces_of (take k fs) (take k es) ++ l) (here true (eq-eqb _ _ z))) ∙ g.are);
-      }
-
-      pub finding_damaged : get_or t (stretches_at + i) 0 ≢ 0 → Finding t files fs₀ es₀ fs es k (i + 1)
-      finding_damaged z = record {
-        few = omega (arith, g.few);
-        within = omega arith;
-        starts_long = g.starts_long;
-        ends_long = g.ends_long;
-        are = sym (ap (λ (l : List Space). spaces_of (take k fs) (take k es) ++ l) (here false (ne_eqb _ _ z))) ∙ g.are;
-      }
+    pub finding_damaged : get_or t (stretches_at + i) 0 ≢ 0 → Finding t files fs es k (i + 1)
+    finding_damaged z = record {
+      few = omega (arith, g.few);
+      are = sym (ap (λ (l : List Space). spaces_of (take k fs) (take k es) ++ l) (here false (ne_eqb _ _ z))) ∙ g.are;
+    }
 
 -- ---- the rows of a mounted volume
 

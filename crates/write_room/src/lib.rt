@@ -23,36 +23,25 @@ pub fn find_spaces(tables: &[u32], files: usize, froms: &mut [u32], ends: &mut [
     ensures within { (result ≤ length froms.new) × (result ≤ length ends.new) }
 {
     let mut k = 0;
-    let mut i = 0;
-    while i < files {
-        let start = tables[i] as usize;
-        let end = start + tables[SPANS + i] as usize;
-        let from = start + tables[FREE + i] as usize;
+    for i in 0..files {
         if tables[STRETCHES + i] == 0 {
-            froms[k] = from as u32;
-            ends[k] = end as u32;
+            froms[k] = tables[i] + tables[FREE + i];
+            ends[k] = tables[i] + tables[SPANS + i];
             k += 1;
-            i += 1;
-        } else {
-            i += 1;
         }
     }
     k
 }
 
-// The first space with room for `n` bytes; the number of spaces where there is none.
-fn first_fit(froms: &[u32], ends: &[u32], n: usize) -> usize
+// The first space with room for `n` bytes, if any.
+fn first_fit(froms: &[u32], ends: &[u32], n: usize) -> Option<usize>
     requires { (length froms.now ≡ length ends.now) × (n ≤ largest_image) }
     ensures { First n froms.now ends.now result }
 {
-    let mut i = 0;
-    while i < froms.len() {
-        if froms[i] as usize + n <= ends[i] as usize {
-            return i;
-        }
-        i += 1;
-    }
-    i
+    froms
+        .iter()
+        .zip(ends)
+        .position(|(from, end)| *from as usize + n <= *end as usize)
 }
 
 // Takes `n` bytes from the first space with room, which then starts behind them; answers where they are.
@@ -60,10 +49,7 @@ pub fn take_place(froms: &mut [u32], ends: &[u32], n: usize) -> Option<u32>
     requires { (length froms.old ≡ length ends.now) × (n ≤ largest_image) }
     ensures { first_fit n (spaces_of froms.old ends.now) ≡ fit_of result (spaces_of froms.new ends.now) }
 {
-    let i = first_fit(&*froms, ends, n);
-    if i == froms.len() {
-        return None;
-    }
+    let i = first_fit(froms, ends, n)?;
     let at = froms[i];
     froms[i] = (at as usize + n) as u32;
     Some(at)
@@ -78,6 +64,6 @@ pub fn place_one(image: &[u8], tables: &[u32], m: Mounted, n: usize) -> Option<u
 {
     let mut froms = [0u32; MOST_AREAS];
     let mut ends = [0u32; MOST_AREAS];
-    let count = find_spaces(tables, m.files, &mut froms[..], &mut ends[..]);
+    let count = find_spaces(tables, m.files, &mut froms, &mut ends);
     take_place(&mut froms[..count], &ends[..count], n)
 }

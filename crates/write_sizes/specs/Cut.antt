@@ -1,10 +1,13 @@
 -- The pieces of data, cut one after the other. Document 01, "Create, append, unlink": "pieces of the greatest block size, the last one shorter".
 use Prim.Native.Nat.{ℕ, zero, suc, min, ◌+◌, ◌-◌, ◌*◌, ◌/◌, ◌≤◌, ◌<◌}
 use Rattle.std.specs.Prelude.{◌≡◌, Bool, drop, get_or}
+use Rattle.std.specs.List.{fold, reduce}
+use Rattle.std.specs.Option.{unwrap_or}
 use Rattle.std.proofs.Math.Path.{refl, sym, ap}
-use Rattle.std.proofs.Common.{ap₂, ◌∙◌, arith, add-one, mul-le-mul_right, mul-le-mul_left, add-mul, mul_comm, drop_of_length-le, drop-drop, drop-cons, take_all}
+use Rattle.std.proofs.Common.{ap₂, ◌∙◌, arith, length-append, mul-le-mul_right, mul-le-mul_left, add-mul, mul_comm, drop_of_length-le, take_all}
 use Rattle.std.proofs.Math.Bool.{true, false}
-use mathlib.Core.List.{List, [], ◌∷◌}
+use mathlib.Core.List.{List, [], ◌∷◌, ◌++◌, append-nil}
+use Rattle.std.proofs.Math.Seq.{take-append_seam, drop-append_seam}
 use Rattle.std.proofs.Math.Nat.{div-eq_of_lt, div-eq-sub-div}
 use Rattle.std.proofs.Math.ListN.{length, take, length-drop}
 use Rattle.std.proofs.Math.Dec.{leb}
@@ -22,10 +25,6 @@ use Rattle.area_list.specs.Described.{described}
 abbrev pub pieces : ℕ → Bytes → List Bytes
 pieces n text = cut_into (length text) n text
 
--- how long the next piece is when so many bytes are left
-abbrev pub next_length : ℕ → ℕ → ℕ
-next_length n left = min n left
-
 module _ (n : ℕ) (some_room : 1 ≤ n) where
   -- the count of pieces that bounds the cutting is enough, so any greater one cuts alike
   cut_enough : (k m : ℕ) (text : Bytes) → length text ≤ k → length text ≤ m → cut_into k n text ≡ cut_into m n text
@@ -40,10 +39,10 @@ module _ (n : ℕ) (some_room : 1 ≤ n) where
       ap (λ (x : List Bytes). take n (b ∷ l) ∷ x)
       (cut_enough k m (drop n (b ∷ l)) (omega (arith, length-drop n (b ∷ l))) (omega (arith, length-drop n (b ∷ l))))
 
-  cut_some : (text : Bytes) → 0 < length text → pieces n text ≡ take n text ∷ pieces n (drop n text)
+  pieces_some : (text : Bytes) → 0 < length text → pieces n text ≡ take n text ∷ pieces n (drop n text)
   unfolding cut_into
-  cut_some [] h = absurd (omega arith)
-  cut_some (b ∷ l) h =
+  pieces_some [] h = absurd (omega arith)
+  pieces_some (b ∷ l) h =
       ap (λ (x : List Bytes). take n (b ∷ l) ∷ x)
       (cut_enough (length l) (length (drop n (b ∷ l))) (drop n (b ∷ l)) (omega (arith, length-drop n (b ∷ l))) (omega arith))
 
@@ -76,29 +75,33 @@ module _ (n : ℕ) (some_room : 1 ≤ n) where
   pub pieces_count : (text : Bytes) → length (pieces n text) ≡ (length text + (n - 1)) / n
   pieces_count text = cut_count (length text) text (omega arith)
 
-  -- the pieces from start on: the next is k bytes long
-  module _ (text : Bytes) (start k : ℕ) (next : k ≡ next_length n (length text - start)) where
-    pub next_some : start < length text → (0 < k) × (start + k ≤ length text) × (k ≤ n)
-    next_some h = (omega arith, omega arith, omega arith)
+  -- a piece comes off the front of what is left, and is short only where less is left
+  pub record Comes (rest piece later : Bytes) : Type 0 where
+    pub parts : rest ≡ piece ++ later
+    pub long : length piece ≡ min n (length rest)
+    pub some : 0 < length rest
 
-    pub pieces_next : start < length text → pieces n (drop start text) ≡ take k (drop start text) ∷ pieces n (drop (start + k) text)
-    pieces_next h =
-        cut_some (drop start text) (omega (arith, length-drop start text))
-        ∙ ap₂ (λ (p : Bytes) (l : Bytes). p ∷ pieces n l) (same_take (leb n (length text - start)) refl) (same_drop (leb n (length text - start)) refl)
-      where
-        same_take : (b : Bool) → leb n (length text - start) ≡ b → take n (drop start text) ≡ take k (drop start text)
-        same_take true e = let q : k ≡ n = omega (arith, leb-true n (length text - start) e) in rw q
-        same_take false e =
-            let g = leb-false n (length text - start) e in
-            let d = length-drop start text in
-            take_all n (drop start text) (omega arith) ∙ sym (take_all k (drop start text) (omega arith))
+  pub chunk_comes : {rest piece later : Bytes} {k : ℕ} → k ≡ n → (rest ≡ piece ++ later) × (length piece ≡ min k (length rest)) × (0 < length rest) → Comes rest piece later
+  chunk_comes e c = record { parts = c.0; long = rw e at c.1; some = c.2 }
 
-        same_drop : (b : Bool) → leb n (length text - start) ≡ b → drop n (drop start text) ≡ drop (start + k) text
-        same_drop true e = let q : k ≡ n = omega (arith, leb-true n (length text - start) e) in rw q (drop-drop n start text)
-        same_drop false e =
-            let g = leb-false n (length text - start) e in
-            let d = length-drop start text in
-            drop_of_length-le (drop start text) {i = n} (omega arith) ∙ sym (drop_of_length-le text {i = start + k} (omega arith))
+  front_piece : (piece later : Bytes) → length piece ≡ min n (length (piece ++ later)) → 0 < length (piece ++ later)
+      → pieces n (piece ++ later) ≡ piece ∷ pieces n later
+  front_piece piece [] e h =
+      let l = length-append piece [] in
+      pieces_some (piece ++ []) h
+      ∙ ap₂ (λ (p : Bytes) (r : Bytes). p ∷ pieces n r) (take_all n (piece ++ []) (omega (arith, l, e)) ∙ append-nil piece) (drop_of_length-le (piece ++ []) {i = n} (omega (arith, l, e)))
+  front_piece piece (b ∷ later) e h =
+      let whole : n ≡ length piece = omega (arith, length-append piece (b ∷ later), e) in
+      pieces_some (piece ++ (b ∷ later)) h
+      ∙ ap₂ (λ (p : Bytes) (r : Bytes). p ∷ pieces n r)
+      (ap (λ (k : ℕ). take k (piece ++ (b ∷ later))) whole ∙ take-append_seam piece (b ∷ later))
+      (ap (λ (k : ℕ). drop k (piece ++ (b ∷ later))) whole ∙ drop-append_seam piece (b ∷ later))
+
+  pub pieces_next : {rest piece later : Bytes} → Comes rest piece later → pieces n rest ≡ piece ∷ pieces n later
+  pieces_next {rest} {piece} {later} c =
+      let long = rw c.parts at c.long in
+      let some = rw c.parts at c.some in
+      rw c.parts (front_piece piece later long some)
 
 -- fewer bytes in greater pieces are no more pieces
 fewer : (n m s t : ℕ) → n ≤ m → 1 ≤ t → t ≤ s → (n + (s - 1)) / s ≤ (m + (t - 1)) / t
@@ -134,9 +137,10 @@ few_pieces shortest text h l =
     (fewer (length text) most_appended (greatest_block shortest) least_block l (omega arith) (least_block_lem shortest h))
 
 -- past the data there is no piece
-pub pieces_end : (n : ℕ) (text : Bytes) (start : ℕ) → length text ≤ start → pieces n (drop start text) ≡ []
+pub pieces_none : (n : ℕ) (text : Bytes) → length text ≤ 0 → pieces n text ≡ []
 unfolding cut_into
-pieces_end n text start h = rw (drop_of_length-le text {i = start} h)
+pieces_none n [] h = refl
+pieces_none n (b ∷ l) h = absurd (omega arith)
 
 -- ---- the shortest of the areas
 
@@ -155,39 +159,17 @@ shortest_described (o ∷ []) (n ∷ m ∷ spans) e = absurd (omega arith)
 shortest_described (o ∷ p ∷ starts) (n ∷ []) e = absurd (omega arith)
 shortest_described (o ∷ p ∷ starts) (n ∷ m ∷ spans) e = ap (min n) (shortest_described (p ∷ starts) (m ∷ spans) (omega arith))
 
-min_two : (a b c : ℕ) → min a (min b c) ≡ min (min a b) c
-min_two a b c = omega arith
-
-shortest_two : (a b : ℕ) (l : List ℕ) → shortest_of (a ∷ b ∷ l) ≡ shortest_of (min a b ∷ l)
+shortest_folded : (a : ℕ) (l : List ℕ) → fold min a l ≡ shortest_of (a ∷ l)
 unfolding shortest_of
-shortest_two a b [] = refl
-shortest_two a b (c ∷ l) = min_two a b (shortest_of (c ∷ l))
+shortest_folded a [] = refl
+shortest_folded a (b ∷ []) = refl
+shortest_folded a (b ∷ c ∷ l) = shortest_folded (min a b) (c ∷ l) ∙ omega arith
 
--- the shortest of the first i areas, and of those that are left
-pub record Shrinking (spans : List ℕ) (least i : ℕ) : Type 0 where
-  pub whole : shortest_of (least ∷ drop i spans) ≡ shortest_of spans
-
-module _ (spans : List ℕ) where
-  pub shrinking_begins : 0 < length spans → Shrinking spans (get_or spans 0 0) 1
-  shrinking_begins h = record { whole = ap shortest_of (sym (drop-cons spans 0 0 h)) }
-
-  module _ (least i : ℕ) (s : Shrinking spans least i) where
-    next : i < length spans → shortest_of (min least (get_or spans i 0) ∷ drop (suc i) spans) ≡ shortest_of spans
-    next h = sym (shortest_two least (get_or spans i 0) (drop (suc i) spans)) ∙ rw (drop-cons spans i 0 h) at s.whole
-
-    pub shrinking_shorter : i < length spans → get_or spans i 0 < least → Shrinking spans (get_or spans i 0) (i + 1)
-    shrinking_shorter h l =
-        let m : min least (get_or spans i 0) ≡ get_or spans i 0 = omega arith in
-        record { whole = rw (add-one, ← m) (next h) }
-
-    pub shrinking_not : i < length spans → least ≤ get_or spans i 0 → Shrinking spans least (i + 1)
-    shrinking_not h l =
-        let m : min least (get_or spans i 0) ≡ least = omega arith in
-        record { whole = rw add-one (rw m at (next h)) }
-
-    pub shrinking_ends : length spans ≤ i → least ≡ shortest_of spans
-    unfolding shortest_of
-    shrinking_ends h = rw (drop_of_length-le spans {i = i} h) at s.whole
+-- the least of the numbers, or 0 where there is none
+pub shortest_reduced : (spans : List ℕ) → unwrap_or (reduce min spans) 0 ≡ shortest_of spans
+unfolding shortest_of
+shortest_reduced [] = refl
+shortest_reduced (n ∷ spans) = shortest_folded n spans
 
 -- every area is so long, so the shortest is
 pub shortest_long : (m : ℕ) (spans : List ℕ) → 0 < length spans → ((i : ℕ) → i < length spans → m ≤ get_or spans i 0) → m ≤ shortest_of spans

@@ -1,7 +1,7 @@
 // How long the pieces of an append are, by the shortest file area, and how many.
 #![tactic(auto)]
 
-ghost use Rattle.std.specs.Prelude.{◌≡◌, min, ◌+◌, ◌-◌, ◌/◌, ◌≤◌, ◌<◌, length};
+ghost use Rattle.std.specs.Prelude.{◌≡◌, ◌+◌, ◌-◌, ◌/◌, ◌≤◌};
 ghost use Rattle.format.specs.Record.{longest_data};
 ghost use Rattle.format.specs.BlockSize.{greatest_block};
 ghost use Rattle.calls.specs.Areas.{shortest_area};
@@ -14,42 +14,19 @@ use record_read::{BlockHeader, LONGEST_DATA};
 
 // The length of the shortest area.
 pub fn shortest(spans: &[u32]) -> u32
-    requires { 0 < length spans.now }
     ensures { result ≡ shortest_of spans.now }
 {
-    let mut least = spans[0];
-    let mut i = 1;
-    while i < spans.len() {
-        let length = spans[i];
-        if length < least {
-            least = length;
-            i += 1;
-        } else {
-            i += 1;
-        }
-    }
-    least
-}
-
-// The smaller of two numbers.
-pub fn smaller(a: usize, b: usize) -> usize
-    ensures { result ≡ min a b }
-{
-    if a < b {
-        return a;
-    }
-    b
+    spans.iter().copied().min().unwrap_or(0)
 }
 
 // The greatest block size of writers, by the shortest file area's length.
+#[tactic(auto, unfolding(format::specs::BlockSize::greatest_block))]
 pub fn greatest_block(shortest: u32) -> usize
     requires { shortest_area ≤ shortest }
     ensures { result ≡ greatest_block shortest }
 {
-    smaller(
-        LONGEST_DATA as usize,
-        (shortest as usize - HEADER_SIZE) / 2 - BlockHeader::SIZE,
-    )
+    let half = (shortest as usize - HEADER_SIZE) / 2;
+    (half - BlockHeader::SIZE).min(LONGEST_DATA as usize)
 }
 
 // The greatest block size of the shortest areas there are; that none is less is a law (`least-block`).
@@ -63,5 +40,5 @@ pub fn piece_count(length: usize, size: usize) -> usize
     requires { (1 ≤ size) × (size ≤ longest_data) × (length ≤ most_appended) }
     ensures { result ≡ (length + (size - 1)) / size }
 {
-    (length + (size - 1)) / size
+    length.div_ceil(size)
 }

@@ -40,7 +40,7 @@ pub struct Range {
 fn begin_in(range: Range, s: usize) -> usize
     ensures { result ≡ max s range.from }
 {
-    if s > range.from { s } else { range.from }
+    s.max(range.from)
 }
 
 // Where it ends in a block of `n` bytes that begins at `s`.
@@ -48,10 +48,11 @@ fn end_in(range: Range, s: usize, n: usize) -> usize
     requires { s + n ≤ most_blocks * 65535 }
     ensures { result ≡ min (s + n) range.to }
 {
-    if s + n < range.to { s + n } else { range.to }
+    (s + n).min(range.to)
 }
 
 // Whether that block holds a byte of the range.
+#[tactic(auto, unfolding(calls::specs::Overwrite::holds_byte))]
 fn holds(range: Range, s: usize, n: usize) -> bool
     requires { s + n ≤ most_blocks * 65535 }
     ensures { result ≡ holds_byte range.from range.to s n }
@@ -65,10 +66,7 @@ fn is_greatest(image: &[u8], p: u32, range: Range, s: usize, n: usize) -> bool
     requires n_bound { s + n ≤ most_blocks * 65535 }
     ensures { result ≡ (holds_byte range.from range.to s n && eqb last_sequence (record_sequence (bytes_at image.now p))) }
 {
-    if holds(range, s, n) {
-        return sequence_at(image, p) == GREATEST_SEQUENCE;
-    }
-    false
+    holds(range, s, n) && sequence_at(image, p) == GREATEST_SEQUENCE
 }
 
 // Whether a block that holds a byte of the range has the greatest sequence.
@@ -78,14 +76,12 @@ pub fn any_greatest(image: &[u8], blocks: &[u32], sizes: &[u32], range: Range) -
     ensures { (after : Bytes) → result ≡ is_among last_sequence (map (λ c. record_sequence c.block) (changes_from range.from range.to after 0 (map (bytes_at image.now) blocks.now))) }
 {
     let mut s = 0;
-    let mut i = 0;
-    while i < blocks.len() {
+    for (i, p) in blocks.iter().enumerate() {
         let n = sizes[i] as usize;
-        if is_greatest(image, blocks[i], range, s, n) {
+        if is_greatest(image, *p, range, s, n) {
             return true;
         }
         s += n;
-        i += 1;
     }
     false
 }
@@ -104,21 +100,16 @@ fn take_places(
 {
     let mut s = 0;
     let mut k = 0;
-    let mut i = 0;
-    while i < sizes.len() {
-        let n = sizes[i] as usize;
+    for size in sizes {
+        let n = *size as usize;
         if holds(range, s, n) {
             let Some(at) = take_place(froms, ends, BlockHeader::SIZE + n) else {
                 return false;
             };
             places[k] = at;
             k += 1;
-            s += n;
-            i += 1;
-        } else {
-            s += n;
-            i += 1;
         }
+        s += n;
     }
     true
 }
@@ -140,18 +131,15 @@ pub fn plan_versions(
 {
     let mut froms = [0u32; MOST_AREAS];
     let mut ends = [0u32; MOST_AREAS];
-    let n = find_spaces(tables, m.files, &mut froms[..], &mut ends[..]);
-    take_places(&mut froms[..n], &ends[..n], sizes, range, &mut *places)
+    let n = find_spaces(tables, m.files, &mut froms, &mut ends);
+    take_places(&mut froms[..n], &ends[..n], sizes, range, places)
 }
 
 // The sequence that follows another; 0 follows the greatest, though no version does.
 fn next_sequence(sequence: u32) -> u32
     ensures { sequence ≢ last_sequence → result ≡ suc sequence }
 {
-    if sequence == GREATEST_SEQUENCE {
-        return 0;
-    }
-    sequence + 1
+    sequence.wrapping_add(1)
 }
 
 // Stores at `at` the next version of the block at `p`, which holds `n` bytes, with `text` in the place of those from `begin` on.
@@ -161,14 +149,14 @@ fn store_version(image: &mut [u8], p: u32, n: u32, at: u32, begin: usize, text: 
 {
     let old = p as usize;
     let header = BlockHeader {
-        id: load32(&*image, old + ID_AT),
-        sequence: next_sequence(load32(&*image, old + SEQUENCE_AT)),
-        owner: load32(&*image, old + LINK_AT),
-        previous: load32(&*image, old + BlockHeader::PREVIOUS_AT),
+        id: load32(image, old + ID_AT),
+        sequence: next_sequence(load32(image, old + SEQUENCE_AT)),
+        owner: load32(image, old + LINK_AT),
+        previous: load32(image, old + BlockHeader::PREVIOUS_AT),
         length: n,
     };
     write_changed(
-        &mut *image,
+        image,
         at as usize,
         header,
         old + BlockHeader::SIZE,
@@ -186,7 +174,7 @@ fn store_part(image: &mut [u8], p: u32, n: u32, at: u32, s: usize, range: Range,
     let begin = begin_in(range, s);
     let first = begin - range.from;
     let last = end_in(range, s, n as usize) - range.from;
-    store_version(&mut *image, p, n, at, begin - s, &text[first..last]);
+    store_version(image, p, n, at, begin - s, &text[first..last]);
 }
 
 // Stores the new versions of the blocks that hold a byte of the range, in file order, each at its place.
@@ -203,17 +191,12 @@ pub fn store_versions(
 {
     let mut s = 0;
     let mut k = 0;
-    let mut i = 0;
-    while i < blocks.len() {
-        let n = sizes[i] as usize;
-        if holds(range, s, n) {
-            store_part(&mut *image, blocks[i], sizes[i], places[k], s, range, text);
+    for (i, p) in blocks.iter().enumerate() {
+        let n = sizes[i];
+        if holds(range, s, n as usize) {
+            store_part(image, *p, n, places[k], s, range, text);
             k += 1;
-            s += n;
-            i += 1;
-        } else {
-            s += n;
-            i += 1;
         }
+        s += n as usize;
     }
 }
