@@ -2,7 +2,7 @@
 // What the code relies on is `Safe`, and what the tables hold is `Holds` (specs/State.antt).
 #![tactic(auto)]
 
-ghost use Rattle.std.specs.Prelude.{◌≡◌};
+ghost use Rattle.std.specs.Prelude.{◌≡◌, length};
 ghost use Rattle.mount_state.specs.State.{Safe, inode_ids_in, inode_spots_in, block_ids_in, block_spots_in};
 
 use area_damage::Damage;
@@ -40,6 +40,7 @@ impl Mounted {
         ensures image { result.image.now ≡ image.now }
         ensures ids { result.ids.now ≡ inode_ids_in self tables.now }
         ensures spots { result.spots.now ≡ inode_spots_in self tables.now }
+        ensures number { length result.ids.now ≡ self.inodes }
     {
         let ids_end = INODE_IDS + self.inodes;
         let spots_end = INODE_SPOTS + self.inodes;
@@ -56,6 +57,7 @@ impl Mounted {
         ensures image { result.image.now ≡ image.now }
         ensures ids { result.ids.now ≡ block_ids_in self tables.now }
         ensures spots { result.spots.now ≡ block_spots_in self tables.now }
+        ensures number { length result.ids.now ≡ self.blocks }
     {
         let ids_end = BLOCK_IDS + self.blocks;
         let spots_end = BLOCK_SPOTS + self.blocks;
