@@ -71,7 +71,10 @@ pub fn owned_count(rows: &TakenRows<'_>, file: u32) -> usize
     ensures counted { (v : Volume ℕ) → BlocksOf rows.now.image.now rows.now.ids.now rows.now.spots.now v → result ≡ length (owned (by_place rows.now.image.now) v file) }
     ensures few { result ≤ length rows.now.ids.now }
 {
-    rows.spots.iter().filter(|p| is_mine(rows.image, **p, file)).count()
+    rows.spots
+        .iter()
+        .filter(|p| is_mine(rows.image, **p, file))
+        .count()
 }
 
 // The place of the counting block `id`, if it names the file as owner.
@@ -94,12 +97,7 @@ pub fn data_length(image: &[u8], p: u32) -> usize
 }
 
 // The size of a chain of just `count` blocks of the file, followed back from `start`; none where they form no chain. The count makes a chain that loops end.
-pub fn chain_size(
-    rows: &TakenRows<'_>,
-    file: u32,
-    start: u32,
-    count: usize,
-) -> Option<usize>
+pub fn chain_size(rows: &TakenRows<'_>, file: u32, start: u32, count: usize) -> Option<usize>
     requires block_table { BlockTable rows.now.image.now rows.now.ids.now rows.now.spots.now }
     requires count_le_most_blocks { count ≤ most_blocks }
     ensures small { IfSome result (λ size. size ≤ count * 65535) }

@@ -65,13 +65,7 @@ pub fn list_file(
 {
     let last = last_block(rows, file)?;
     let n = owned_count(rows, file);
-    let size = list_chain(
-        rows,
-        file,
-        last,
-        &mut blocks[..n],
-        &mut sizes[..n],
-    )?;
+    let size = list_chain(rows, file, last, &mut blocks[..n], &mut sizes[..n])?;
     Some(Total {
         blocks: n,
         bytes: size,

@@ -42,12 +42,7 @@ fn lay(text: &[u8], begin: usize, from: usize, buffer: &mut [u8])
 }
 
 // Puts the file's bytes from `from` on into the buffer, following its blocks back to the one that holds the first of them; answers how many it followed.
-fn follow(
-    rows: &TakenRows<'_>,
-    chain: Chain,
-    from: usize,
-    buffer: &mut [u8],
-) -> usize
+fn follow(rows: &TakenRows<'_>, chain: Chain, from: usize, buffer: &mut [u8]) -> usize
     requires block_table { BlockTable rows.now.image.now rows.now.ids.now rows.now.spots.now }
     requires whole { Whole rows.now.image.now rows.now.ids.now rows.now.spots.now chain }
     ensures few { result ≤ chain.count }

@@ -68,7 +68,8 @@ pub fn is_dead(f: Fate) -> bool
 pub fn live_count(rows: &TakenRows<'_>) -> usize
     ensures { result ≡ length (live_rows (by_place rows.now.image.now) (length rows.now.ids.now) rows.now.ids.now rows.now.spots.now) }
 {
-    rows.ids.iter()
+    rows.ids
+        .iter()
         .filter(|id| lives(fate_of(rows, **id)))
         .count()
 }

@@ -120,11 +120,7 @@ pub fn last_name<'a>(base: &'a [u8], path: &'a [u8]) -> &'a [u8]
 }
 
 // What all but the last name of a good path lead to, by the rows of inodes: the first step that fails decides.
-fn walk_before<'a>(
-    rows: &TakenRows<'_>,
-    base: &'a [u8],
-    path: &'a [u8],
-) -> Result<u32, Refusal>
+fn walk_before<'a>(rows: &TakenRows<'_>, base: &'a [u8], path: &'a [u8]) -> Result<u32, Refusal>
     requires inode_table { InodeTable rows.now.image.now rows.now.ids.now rows.now.spots.now }
     requires path_value { good_path base.now path.now ≡ true }
     requires path_value_2 { any_names (path_names base.now path.now) ≡ true }

@@ -6,7 +6,7 @@ ghost use Rattle.volume.specs.Lists.{only};
 ghost use Rattle.volume.specs.Counting.{Volume};
 ghost use Rattle.volume.specs.Fate.{is_live, fate_of};
 ghost use Rattle.volume.specs.Path.{good_path, path_names};
-ghost use Rattle.volume.specs.Tree.{found, is_entry, is_child, children, lookup_names};
+ghost use Rattle.volume.specs.Tree.{is_entry, is_child, children, lookup_names};
 ghost use Rattle.record_places.specs.Place.{by_place, block_at, Lies};
 ghost use Rattle.table_rows.specs.Rows.{InodeTable};
 ghost use Rattle.file_blocks.specs.Blocks.{first_of};
@@ -52,12 +52,7 @@ pub fn is_live(rows: &TakenRows<'_>, id: u32) -> bool
 }
 
 // Whether the inode of a row is a live child of the directory, of the name.
-fn is_child(
-    rows: &TakenRows<'_>,
-    directory: u32,
-    name: &[u8],
-    row: usize,
-) -> bool
+fn is_child(rows: &TakenRows<'_>, directory: u32, name: &[u8], row: usize) -> bool
     requires inode_table { InodeTable rows.now.image.now rows.now.ids.now rows.now.spots.now }
     requires row_in_bounds { row < length rows.now.ids.now }
     ensures { (v : Volume ℕ) → InodesOf rows.now.image.now rows.now.ids.now rows.now.spots.now v → result ≡ is_child (by_place rows.now.image.now) v directory name.now (get_or rows.now.ids.now row 0) }
@@ -66,12 +61,7 @@ fn is_child(
 }
 
 // The first row from `from` on whose inode is a live child of the directory, of the name.
-fn next_child(
-    rows: &TakenRows<'_>,
-    directory: u32,
-    name: &[u8],
-    from: usize,
-) -> Option<usize>
+fn next_child(rows: &TakenRows<'_>, directory: u32, name: &[u8], from: usize) -> Option<usize>
     requires inode_table { InodeTable rows.now.image.now rows.now.ids.now rows.now.spots.now }
     requires from_in_bounds { from ≤ length rows.now.ids.now }
     ensures first { (v : Volume ℕ) → InodesOf rows.now.image.now rows.now.ids.now rows.now.spots.now v → unwrap_or result (length rows.now.ids.now) ≡ from + first_of (is_child (by_place rows.now.image.now) v directory name.now) (drop from rows.now.ids.now) }
@@ -100,11 +90,7 @@ pub fn find_child(rows: &TakenRows<'_>, directory: u32, name: &[u8]) -> Child
 }
 
 // One step of a walk: what the name leads to, looked for in the inode of an id.
-pub fn enter(
-    rows: &TakenRows<'_>,
-    directory: u32,
-    name: &[u8],
-) -> Result<u32, Refusal>
+pub fn enter(rows: &TakenRows<'_>, directory: u32, name: &[u8]) -> Result<u32, Refusal>
     requires { InodeTable rows.now.image.now rows.now.ids.now rows.now.spots.now }
     ensures { (v : Volume ℕ) → InodesOf rows.now.image.now rows.now.ids.now rows.now.spots.now v → meaning result ≡ step_of (by_place rows.now.image.now) v directory name.now }
 {
@@ -119,11 +105,7 @@ pub fn enter(
 }
 
 // What a good path leads to: the first step that fails decides.
-pub fn resolve<'a>(
-    rows: &TakenRows<'_>,
-    base: &'a [u8],
-    path: &'a [u8],
-) -> Result<u32, Refusal>
+pub fn resolve<'a>(rows: &TakenRows<'_>, base: &'a [u8], path: &'a [u8]) -> Result<u32, Refusal>
     requires inode_table { InodeTable rows.now.image.now rows.now.ids.now rows.now.spots.now }
     requires path_value { good_path base.now path.now ≡ true }
     ensures { (v : Volume ℕ) → InodesOf rows.now.image.now rows.now.ids.now rows.now.spots.now v → meaning result ≡ lookup_names (by_place rows.now.image.now) v (path_names base.now path.now) }

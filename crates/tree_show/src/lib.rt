@@ -42,12 +42,7 @@ pub struct Cursor {
 }
 
 // Writes a file's size, or that it is broken.
-fn show_size(
-    rows: &TakenRows<'_>,
-    text: &mut [u8],
-    at: usize,
-    file: u32,
-) -> usize
+fn show_size(rows: &TakenRows<'_>, text: &mut [u8], at: usize, file: u32) -> usize
     requires block_table { BlockTable rows.now.image.now rows.now.ids.now rows.now.spots.now }
     requires ids_len_bound { length rows.now.ids.now ≤ most_blocks }
     requires at_bound { at + 11 ≤ longest_text }
@@ -84,13 +79,7 @@ fn show_words(rows: &TakenRows<'_>, text: &mut [u8], at: usize, p: u32) -> usize
 }
 
 // Writes the line of the inode at `p`.
-fn show_line(
-    rows: &TakenRows<'_>,
-    text: &mut [u8],
-    at: usize,
-    p: u32,
-    depth: usize,
-) -> usize
+fn show_line(rows: &TakenRows<'_>, text: &mut [u8], at: usize, p: u32, depth: usize) -> usize
     requires block_table { BlockTable rows.now.image.now rows.now.ids.now rows.now.spots.now }
     requires ids_len_bound { length rows.now.ids.now ≤ most_blocks }
     requires inode_at { InodeAt rows.now.image.now p }
@@ -190,12 +179,7 @@ fn show_entry(
 }
 
 // Shows the whole tree, of which the root is at `root`, and answers the length of its text.
-pub fn show_tree(
-    rows: &TakenRows<'_>,
-    order: &[u32],
-    text: &mut [u8],
-    root: u32,
-) -> usize
+pub fn show_tree(rows: &TakenRows<'_>, order: &[u32], text: &mut [u8], root: u32) -> usize
     requires showable { Showable rows.now.image.now rows.now.ids.now rows.now.spots.now order.now }
     requires inode_at { InodeAt rows.now.image.now root }
     requires order_len_bound { length order.now ≤ most_inodes }
