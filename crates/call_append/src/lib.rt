@@ -26,9 +26,10 @@ ghost use Rattle.call_append.specs.Outcome.{Outcome, append_at};
 use area_pass::SPANS;
 use calls::{MOST_APPENDED, MOST_BLOCKS, Refusal};
 use file_blocks::{file_size, last_block};
-use mount_state::{BLOCK_IDS, BLOCK_SPOTS, Mounted};
+use mount_state::Mounted;
 use path_find::find_path;
 use record_read::is_directory_id;
+use table_rows::TakenRows;
 use write_pieces::{plan_ids, plan_places, store_pieces};
 use write_sizes::{MOST_PIECES, greatest_block, piece_count, shortest};
 
@@ -42,13 +43,13 @@ pub struct Chain {
 }
 
 // The block that the first piece follows, NONE where the file is empty. A broken file has none.
-fn last_unless_broken(image: &[u8], ids: &[u32], spots: &[u32], file: u32) -> Option<u32>
-    requires block_table { BlockTable image.now ids.now spots.now }
-    requires ids_len_bound { length ids.now ≤ most_blocks }
-    ensures { (v : Volume ℕ) → BlocksOf image.now ids.now spots.now v → meant result ≡ last_unless_broken image.now v file }
+fn last_unless_broken(rows: &TakenRows<'_>, file: u32) -> Option<u32>
+    requires block_table { BlockTable rows.now.image.now rows.now.ids.now rows.now.spots.now }
+    requires ids_len_bound { length rows.now.ids.now ≤ most_blocks }
+    ensures { (v : Volume ℕ) → BlocksOf rows.now.image.now rows.now.ids.now rows.now.spots.now v → meant result ≡ last_unless_broken rows.now.image.now v file }
 {
-    file_size(image, ids, spots, file)?;
-    last_block(image, ids, spots, file)
+    file_size(rows, file)?;
+    last_block(rows, file)
 }
 
 // How long the pieces are: as long as the shortest file area lets blocks be.
@@ -130,14 +131,7 @@ fn append_to(
     requires text_len_bound { length text.now ≤ most_appended }
     ensures { (ds : List Descriptor) → Holds image.old ds m tables.now → HoldsPlaces image.old ds m places.now → is_directory_id file ≡ false → Outcome image.old ds text.now (append_at image.old ds text.now file) (number_of (outcome_of result)) image.new }
 {
-    let ids_end = BLOCK_IDS + m.blocks;
-    let spots_end = BLOCK_SPOTS + m.blocks;
-    let Some(last) = last_unless_broken(
-        image,
-        &tables[BLOCK_IDS..ids_end],
-        &tables[BLOCK_SPOTS..spots_end],
-        file,
-    ) else {
+    let Some(last) = last_unless_broken(&m.block_rows(image, tables), file) else {
         return Err(Refusal::Broken);
     };
     let size = piece_size(image, tables, m);

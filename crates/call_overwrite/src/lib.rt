@@ -18,7 +18,7 @@ ghost use Rattle.call_overwrite.specs.Outcome.{Outcome, overwrite_at};
 
 use calls::{MOST_APPENDED, MOST_BLOCKS, Refusal};
 use file_list::list_file;
-use mount_state::{BLOCK_IDS, BLOCK_SPOTS, Mounted};
+use mount_state::Mounted;
 use path_find::find_path;
 use record_read::is_directory_id;
 use write_versions::{Range, any_greatest, plan_versions, store_versions};
@@ -93,18 +93,10 @@ fn overwrite_in(
     requires text_len_bound { length text.now ≤ most_appended }
     ensures { (ds : List Descriptor) → Holds image.old ds m tables.now → is_directory_id file ≡ false → Outcome image.old ds offset text.now (overwrite_at image.old ds offset text.now file) (number_of (outcome_of result)) image.new }
 {
-    let ids_end = BLOCK_IDS + m.blocks;
-    let spots_end = BLOCK_SPOTS + m.blocks;
     let mut blocks = [0u32; MOST_BLOCKS];
     let mut sizes = [0u32; MOST_BLOCKS];
-    let Some(total) = list_file(
-        image,
-        &tables[BLOCK_IDS..ids_end],
-        &tables[BLOCK_SPOTS..spots_end],
-        file,
-        &mut blocks,
-        &mut sizes,
-    ) else {
+    let rows = m.block_rows(image, tables);
+    let Some(total) = list_file(&rows, file, &mut blocks, &mut sizes) else {
         return Err(Refusal::Broken);
     };
     let n = total.blocks;

@@ -11,7 +11,7 @@ ghost use Rattle.call_read.specs.Reads.{Reads};
 
 use calls::{BytesRead, DIRECTORY, FILE, Lookup, Opened, Refusal};
 use file_read::read_file;
-use mount_state::{BLOCK_IDS, BLOCK_SPOTS, INODE_IDS, INODE_SPOTS, Mounted};
+use mount_state::Mounted;
 use path_walk::is_live;
 use record_read::is_directory_id;
 
@@ -93,27 +93,11 @@ pub fn read_mounted(
     requires { Safe image.now m tables.now }
     ensures { (ds : List Descriptor) → Holds image.now ds m tables.now → Reads image.now ds id position buffer.old (read_seen result) buffer.new }
 {
-    let inode_ids = INODE_IDS + m.inodes;
-    let inode_spots = INODE_SPOTS + m.inodes;
-    if !is_live(
-        image,
-        &tables[INODE_IDS..inode_ids],
-        &tables[INODE_SPOTS..inode_spots],
-        id,
-    ) {
+    if !is_live(&m.inode_rows(image, tables), id) {
         return Err(Refusal::NotFound);
     }
     if is_directory_id(id) {
         return Err(Refusal::WrongKind);
     }
-    let block_ids = BLOCK_IDS + m.blocks;
-    let block_spots = BLOCK_SPOTS + m.blocks;
-    read_file(
-        image,
-        &tables[BLOCK_IDS..block_ids],
-        &tables[BLOCK_SPOTS..block_spots],
-        id,
-        position,
-        buffer,
-    )
+    read_file(&m.block_rows(image, tables), id, position, buffer)
 }

@@ -13,7 +13,7 @@ ghost use Rattle.mount_state.specs.State.{Safe, Holds};
 
 use calls::Refusal;
 use inode_lineage::in_lineage;
-use mount_state::{INODE_IDS, INODE_SPOTS, Mounted};
+use mount_state::Mounted;
 use path_find::{check_name, find_parent, find_path, is_below_root, last_name};
 use record_read::ROOT;
 use write_inodes::rewrite_inode;
@@ -26,15 +26,7 @@ fn moves_into_itself(image: &[u8], tables: &[u32], m: Mounted, id: u32, director
     if id == ROOT {
         return true;
     }
-    let ids_end = INODE_IDS + m.inodes;
-    let spots_end = INODE_SPOTS + m.inodes;
-    in_lineage(
-        image,
-        &tables[INODE_IDS..ids_end],
-        &tables[INODE_SPOTS..spots_end],
-        directory,
-        id,
-    )
+    in_lineage(&m.inode_rows(image, tables), directory, id)
 }
 
 // Rewrites an inode with a new parent and name.

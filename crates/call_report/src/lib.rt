@@ -8,20 +8,14 @@ ghost use Rattle.mount_state.specs.State.{Safe, Holds};
 
 use calls::Report;
 use inode_fate::live_count;
-use mount_state::{INODE_IDS, INODE_SPOTS, Mounted};
+use mount_state::Mounted;
 
 // The report, by the rows of inodes and the damage that the mount found: no area is read again.
 pub fn report_mounted(image: &[u8], tables: &[u32], m: Mounted) -> Report
     requires { Safe image.now m tables.now }
     ensures { (ds : List Descriptor) → Holds image.now ds m tables.now → result ≡ report_of image.now ds }
 {
-    let ids_end = INODE_IDS + m.inodes;
-    let spots_end = INODE_SPOTS + m.inodes;
-    let live = live_count(
-        image,
-        &tables[INODE_IDS..ids_end],
-        &tables[INODE_SPOTS..spots_end],
-    );
+    let live = live_count(&m.inode_rows(image, tables));
     let damage = m.damage;
     Report {
         number: 0,

@@ -21,33 +21,31 @@ ghost use Rattle.call_tree.specs.Outcome.{Answers};
 
 use calls::Refusal;
 use inode_order::order_inodes;
-use mount_state::{BLOCK_IDS, BLOCK_SPOTS, INODE_IDS, INODE_SPOTS, Mounted};
+use mount_state::Mounted;
 use record_read::ROOT;
-use table_rows::find;
+use table_rows::TakenRows;
 use tree_show::show_tree;
 
-// Puts the inodes at their places in order, and shows the tree of which the root is at `root`; `ids` and `spots` are those of the blocks.
+// Puts the inodes at their places in order, and shows the tree of which the root is at `root`, by the rows of blocks.
 fn show_ordered(
-    image: &[u8],
+    blocks: &TakenRows<'_>,
     inodes: &[u32],
-    ids: &[u32],
-    spots: &[u32],
     order: &mut [u32],
     text: &mut [u8],
     root: u32,
 ) -> usize
-    requires inodes { Inodes image.now inodes.now }
+    requires inodes { Inodes blocks.now.image.now inodes.now }
     requires inodes_len_bound { length inodes.now ≤ most_inodes }
-    requires block_table { BlockTable image.now ids.now spots.now }
-    requires ids_len_bound { length ids.now ≤ most_blocks }
+    requires block_table { BlockTable blocks.now.image.now blocks.now.ids.now blocks.now.spots.now }
+    requires ids_len_bound { length blocks.now.ids.now ≤ most_blocks }
     requires inodes_in_bounds { length inodes.now ≤ length order.old }
-    requires inode_at { InodeAt image.now root }
+    requires inode_at { InodeAt blocks.now.image.now root }
     ensures within { result ≤ longest_text }
-    ensures told { (v : Volume ℕ) → Lists image.now ids.now spots.now (sort (place_before image.now) inodes.now) v → inode_of (by_place image.now) v root_id ≡ some root → length (ids_shown (show_directory (by_place image.now) v most_depth root_id)) ≤ length inodes.now → Wrote text.old 0 (tree_text (by_place image.now) v) text.new result }
+    ensures told { (v : Volume ℕ) → Lists blocks.now.image.now blocks.now.ids.now blocks.now.spots.now (sort (place_before blocks.now.image.now) inodes.now) v → inode_of (by_place blocks.now.image.now) v root_id ≡ some root → length (ids_shown (show_directory (by_place blocks.now.image.now) v most_depth root_id)) ≤ length inodes.now → Wrote text.old 0 (tree_text (by_place blocks.now.image.now) v) text.new result }
 {
     let n = inodes.len();
-    order_inodes(image, inodes, &mut *order);
-    show_tree(image, ids, spots, &order[..n], text, root)
+    order_inodes(blocks.image, inodes, &mut *order);
+    show_tree(blocks, &order[..n], text, root)
 }
 
 // The tree of a mounted volume: as much of its text as fits goes into the front of `text`, and how long all of it is is answered; `order` is lent to put
@@ -63,22 +61,11 @@ pub fn tree_mounted(
     requires order_len { length order.old ≡ most_inodes }
     ensures { (ds : List Descriptor) → Holds image.now ds m tables.now → Answers image.now ds text.old text.new (tree_seen result) }
 {
-    let ids_end = INODE_IDS + m.inodes;
-    let spots_end = INODE_SPOTS + m.inodes;
-    let blocks_end = BLOCK_IDS + m.blocks;
-    let block_spots_end = BLOCK_SPOTS + m.blocks;
-    let spots = &tables[INODE_SPOTS..spots_end];
-    let Some(root) = find(&tables[INODE_IDS..ids_end], spots, ROOT) else {
+    let inodes = m.inode_rows(image, tables);
+    let Some(root) = inodes.find(ROOT) else {
         return Err(Refusal::NoRoot);
     };
-    let length = show_ordered(
-        image,
-        spots,
-        &tables[BLOCK_IDS..blocks_end],
-        &tables[BLOCK_SPOTS..block_spots_end],
-        order,
-        text,
-        root,
-    );
+    let blocks = m.block_rows(image, tables);
+    let length = show_ordered(&blocks, inodes.spots, order, text, root);
     Ok(length as u32)
 }

@@ -3,14 +3,13 @@
 
 ghost use Rattle.std.specs.Prelude.{◌≡◌, ◌≤◌, length, take};
 ghost use Rattle.record_places.specs.Place.{block_at, Lies, AllLie};
-ghost use Rattle.table_rows.specs.Rows.{Usable};
 ghost use Rattle.collect_copies.specs.Copied.{table_of, tables_of, Rowed, most_copies, inside, holds, unheld, bearer, dropped, counts_in, copied, copied_places, none_same, Lent};
 
 use calls::{MOST_BLOCKS, MOST_INODES};
 use inode_fate::{fate_of, is_dead};
 use mount_state::{BLOCK_IDS, BLOCK_SPOTS, INODE_IDS, INODE_SPOTS};
 use record_places::{id_at, is_block_at, link_at, same_bytes};
-use table_rows::find;
+use table_rows::TakenRows;
 
 // The most copies that there can be: each is of an id of its own.
 pub const MOST_COPIES: usize = MOST_INODES + MOST_BLOCKS;
@@ -61,21 +60,13 @@ fn bearer(image: &[u8], p: u32) -> u32
 
 // Whether the record at `p` is dead and nothing else needs it, by the rows of inodes.
 #[tactic(auto, unfolding(crate::specs::Copied::dropped))]
-fn is_dropped(
-    image: &[u8],
-    offset: u32,
-    span: u32,
-    places: &[u16],
-    ids: &[u32],
-    spots: &[u32],
-    p: u32,
-) -> bool
-    requires all_lie { AllLie image.now places.now (length places.now) }
-    requires usable { Usable image.now ids.now spots.now }
-    requires lies { Lies image.now p }
-    ensures { result ≡ dropped image.now offset span places.now (record { ids = ids.now; spots = spots.now }) p }
+fn is_dropped(rows: &TakenRows<'_>, offset: u32, span: u32, places: &[u16], p: u32) -> bool
+    requires all_lie { AllLie rows.now.image.now places.now (length places.now) }
+    requires lies { Lies rows.now.image.now p }
+    ensures { result ≡ dropped rows.now.image.now offset span places.now (record { ids = rows.now.ids.now; spots = rows.now.spots.now }) p }
 {
-    let fate = fate_of(image, ids, spots, bearer(image, p));
+    let image = rows.image;
+    let fate = fate_of(rows, bearer(image, p));
     is_dead(fate)
         && is_unheld(
             image,
@@ -88,15 +79,14 @@ fn is_dropped(
 }
 
 // Whether the record at `p` has the bytes of the one that the rows hold for its id.
-fn counts_in(image: &[u8], ids: &[u32], spots: &[u32], p: u32) -> bool
-    requires usable { Usable image.now ids.now spots.now }
-    requires lies { Lies image.now p }
-    ensures { result ≡ counts_in image.now (record { ids = ids.now; spots = spots.now }) p }
+fn counts_in(rows: &TakenRows<'_>, p: u32) -> bool
+    requires { Lies rows.now.image.now p }
+    ensures { result ≡ counts_in rows.now.image.now (record { ids = rows.now.ids.now; spots = rows.now.spots.now }) p }
 {
-    let Some(q) = find(ids, spots, id_at(image, p)) else {
+    let Some(q) = rows.find(id_at(rows.image, p)) else {
         return false;
     };
-    same_bytes(image, p, q)
+    same_bytes(rows.image, p, q)
 }
 
 // Whether the record at `p` counts, by the rows of its kind.
@@ -108,21 +98,21 @@ fn counts(image: &[u8], tables: &[u32], inodes: usize, blocks: usize, p: u32) ->
     if is_block_at(image, p) {
         let ids_end = BLOCK_IDS + blocks;
         let spots_end = BLOCK_SPOTS + blocks;
-        return counts_in(
+        let rows = TakenRows {
             image,
-            &tables[BLOCK_IDS..ids_end],
-            &tables[BLOCK_SPOTS..spots_end],
-            p,
-        );
+            ids: &tables[BLOCK_IDS..ids_end],
+            spots: &tables[BLOCK_SPOTS..spots_end],
+        };
+        return counts_in(&rows, p);
     }
     let ids_end = INODE_IDS + inodes;
     let spots_end = INODE_SPOTS + inodes;
-    counts_in(
+    let rows = TakenRows {
         image,
-        &tables[INODE_IDS..ids_end],
-        &tables[INODE_SPOTS..spots_end],
-        p,
-    )
+        ids: &tables[INODE_IDS..ids_end],
+        spots: &tables[INODE_SPOTS..spots_end],
+    };
+    counts_in(&rows, p)
 }
 
 // Whether a collection of the source copies the record at `p`, or one of the same bytes.
@@ -143,17 +133,14 @@ fn is_copied(
 {
     let ids_end = INODE_IDS + inodes;
     let spots_end = INODE_SPOTS + inodes;
+    let rows = TakenRows {
+        image,
+        ids: &tables[INODE_IDS..ids_end],
+        spots: &tables[INODE_SPOTS..spots_end],
+    };
     is_inside(offset, span, p)
         && counts(image, tables, inodes, blocks, p)
-        && !is_dropped(
-            image,
-            offset,
-            span,
-            places,
-            &tables[INODE_IDS..ids_end],
-            &tables[INODE_SPOTS..spots_end],
-            p,
-        )
+        && !is_dropped(&rows, offset, span, places, p)
 }
 
 // Whether no record listed has the bytes of the one at `p`.

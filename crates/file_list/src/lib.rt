@@ -15,6 +15,7 @@ ghost use Rattle.file_list.specs.File.{Filled, file_of};
 use file_blocks::{data_length, last_block, own_block, owned_count};
 use record_places::previous_at;
 use record_read::NONE;
+use table_rows::TakenRows;
 
 // How many blocks a file has, and how many bytes they hold.
 #[derive(Clone, Copy)]
@@ -26,57 +27,45 @@ pub struct Total {
 // Lists the chain of just as many blocks of the file as there are rows, followed back from `start`; answers how many bytes they hold, none where they
 // form no chain.
 fn list_chain(
-    image: &[u8],
-    ids: &[u32],
-    spots: &[u32],
+    rows: &TakenRows<'_>,
     file: u32,
     start: u32,
     blocks: &mut [u32],
     sizes: &mut [u32],
 ) -> Option<usize>
-    requires block_table { BlockTable image.now ids.now spots.now }
+    requires block_table { BlockTable rows.now.image.now rows.now.ids.now rows.now.spots.now }
     requires sizes_len { (length sizes.old ≡ length blocks.old) × (length blocks.old ≤ most_blocks) }
     ensures small { IfSome result (λ size. size ≤ length blocks.old * 65535) }
-    ensures told { Lists image.now (chain_back (by_place image.now) (found (length ids.now) ids.now spots.now) file (length blocks.old) start) result blocks.new sizes.new }
+    ensures told { Lists rows.now.image.now (chain_back (by_place rows.now.image.now) (found (length rows.now.ids.now) rows.now.ids.now rows.now.spots.now) file (length blocks.old) start) result blocks.new sizes.new }
 {
     let mut id = start;
     let mut size = 0;
     for k in (0..blocks.len()).rev() {
-        let p = own_block(image, ids, spots, file, id)?;
-        let n = data_length(image, p);
+        let p = own_block(rows, file, id)?;
+        let n = data_length(rows.image, p);
         blocks[k] = p;
         sizes[k] = n as u32;
         size += n;
-        id = previous_at(image, p);
+        id = previous_at(rows.image, p);
     }
     (id == NONE).then_some(size)
 }
 
 // Lists the blocks of the file in the first rows; answers how many there are, and how many bytes they hold, none where they form no chain.
 pub fn list_file(
-    image: &[u8],
-    ids: &[u32],
-    spots: &[u32],
+    rows: &TakenRows<'_>,
     file: u32,
     blocks: &mut [u32],
     sizes: &mut [u32],
 ) -> Option<Total>
-    requires block_table { BlockTable image.now ids.now spots.now }
-    requires ids_in_bounds { (length ids.now ≤ length blocks.old) × (length blocks.old ≡ most_blocks) × (length sizes.old ≡ most_blocks) }
-    ensures held { Filled image.now result blocks.new sizes.new }
-    ensures told { (v : Volume ℕ) → BlocksOf image.now ids.now spots.now v → file_of result blocks.new ≡ file_blocks (by_place image.now) v file }
+    requires block_table { BlockTable rows.now.image.now rows.now.ids.now rows.now.spots.now }
+    requires ids_in_bounds { (length rows.now.ids.now ≤ length blocks.old) × (length blocks.old ≡ most_blocks) × (length sizes.old ≡ most_blocks) }
+    ensures held { Filled rows.now.image.now result blocks.new sizes.new }
+    ensures told { (v : Volume ℕ) → BlocksOf rows.now.image.now rows.now.ids.now rows.now.spots.now v → file_of result blocks.new ≡ file_blocks (by_place rows.now.image.now) v file }
 {
-    let last = last_block(image, ids, spots, file)?;
-    let n = owned_count(image, ids, spots, file);
-    let size = list_chain(
-        image,
-        ids,
-        spots,
-        file,
-        last,
-        &mut blocks[..n],
-        &mut sizes[..n],
-    )?;
+    let last = last_block(rows, file)?;
+    let n = owned_count(rows, file);
+    let size = list_chain(rows, file, last, &mut blocks[..n], &mut sizes[..n])?;
     Some(Total {
         blocks: n,
         bytes: size,

@@ -17,6 +17,7 @@ use calls::{BytesRead, Refusal};
 use file_blocks::{chain_size, data_length, last_block, own_block, owned_count};
 use record_places::previous_at;
 use record_read::BlockHeader;
+use table_rows::TakenRows;
 
 // The blocks of a file that is whole: `count` of them, followed back from `last`, with `size` bytes in all.
 #[derive(Clone, Copy)]
@@ -41,49 +42,42 @@ fn lay(text: &[u8], begin: usize, from: usize, buffer: &mut [u8])
 }
 
 // Puts the file's bytes from `from` on into the buffer, following its blocks back to the one that holds the first of them; answers how many it followed.
-fn follow(
-    image: &[u8],
-    ids: &[u32],
-    spots: &[u32],
-    chain: Chain,
-    from: usize,
-    buffer: &mut [u8],
-) -> usize
-    requires block_table { BlockTable image.now ids.now spots.now }
-    requires whole { Whole image.now ids.now spots.now chain }
+fn follow(rows: &TakenRows<'_>, chain: Chain, from: usize, buffer: &mut [u8]) -> usize
+    requires block_table { BlockTable rows.now.image.now rows.now.ids.now rows.now.spots.now }
+    requires whole { Whole rows.now.image.now rows.now.ids.now rows.now.spots.now chain }
     ensures few { result ≤ chain.count }
-    ensures headers { (bs : List ℕ) → chain_of image.now ids.now spots.now chain ≡ some bs → result ≡ headers_from (by_place image.now) from bs }
-    ensures bytes { (bs : List ℕ) → chain_of image.now ids.now spots.now chain ≡ some bs → buffer.new ≡ filled (text_of (by_place image.now) bs) from buffer.old }
+    ensures headers { (bs : List ℕ) → chain_of rows.now.image.now rows.now.ids.now rows.now.spots.now chain ≡ some bs → result ≡ headers_from (by_place rows.now.image.now) from bs }
+    ensures bytes { (bs : List ℕ) → chain_of rows.now.image.now rows.now.ids.now rows.now.spots.now chain ≡ some bs → buffer.new ≡ filled (text_of (by_place rows.now.image.now) bs) from buffer.old }
 {
     let mut id = chain.last;
     let mut left = chain.count;
     let mut end = chain.size;
     while from < end {
-        let Some(p) = own_block(image, ids, spots, chain.file, id) else {
+        let Some(p) = own_block(rows, chain.file, id) else {
             // never: the chain is whole
             return 0;
         };
-        let n = data_length(image, p);
+        let n = data_length(rows.image, p);
         let start = p as usize + BlockHeader::SIZE;
         let stop = start + n;
         end -= n;
-        lay(&image[start..stop], end, from, &mut *buffer);
-        id = previous_at(image, p);
+        lay(&rows.image[start..stop], end, from, &mut *buffer);
+        id = previous_at(rows.image, p);
         left -= 1;
     }
     chain.count - left
 }
 
 // The chain of a file's blocks, none where they form none.
-fn find_chain(image: &[u8], ids: &[u32], spots: &[u32], file: u32) -> Option<Chain>
-    requires block_table { BlockTable image.now ids.now spots.now }
-    requires ids_len_bound { length ids.now ≤ most_blocks }
-    ensures whole { IfSome result (λ chain. FullChain image.now ids.now spots.now chain) }
-    ensures told { (v : Volume ℕ) → BlocksOf image.now ids.now spots.now v → file_blocks (by_place image.now) v file ≡ blocks_in image.now ids.now spots.now result }
+fn find_chain(rows: &TakenRows<'_>, file: u32) -> Option<Chain>
+    requires block_table { BlockTable rows.now.image.now rows.now.ids.now rows.now.spots.now }
+    requires ids_len_bound { length rows.now.ids.now ≤ most_blocks }
+    ensures whole { IfSome result (λ chain. FullChain rows.now.image.now rows.now.ids.now rows.now.spots.now chain) }
+    ensures told { (v : Volume ℕ) → BlocksOf rows.now.image.now rows.now.ids.now rows.now.spots.now v → file_blocks (by_place rows.now.image.now) v file ≡ blocks_in rows.now.image.now rows.now.ids.now rows.now.spots.now result }
 {
-    let last = last_block(image, ids, spots, file)?;
-    let count = owned_count(image, ids, spots, file);
-    let size = chain_size(image, ids, spots, file, last, count)?;
+    let last = last_block(rows, file)?;
+    let count = owned_count(rows, file);
+    let size = chain_size(rows, file, last, count)?;
     Some(Chain {
         file,
         last,
@@ -94,18 +88,16 @@ fn find_chain(image: &[u8], ids: &[u32], spots: &[u32], file: u32) -> Option<Cha
 
 // Reads a live file from `position` on. Its blocks are followed twice: for the size, which alone tells whether it is broken and where the read ends, and for the bytes.
 pub fn read_file(
-    image: &[u8],
-    ids: &[u32],
-    spots: &[u32],
+    rows: &TakenRows<'_>,
     file: u32,
     position: u32,
     buffer: &mut [u8],
 ) -> Result<BytesRead, Refusal>
-    requires block_table { BlockTable image.now ids.now spots.now }
-    requires ids_len_bound { length ids.now ≤ most_blocks }
-    ensures { (v : Volume ℕ) → BlocksOf image.now ids.now spots.now v → FileRead image.now v file position buffer.old (read_seen result) buffer.new }
+    requires block_table { BlockTable rows.now.image.now rows.now.ids.now rows.now.spots.now }
+    requires ids_len_bound { length rows.now.ids.now ≤ most_blocks }
+    ensures { (v : Volume ℕ) → BlocksOf rows.now.image.now rows.now.ids.now rows.now.spots.now v → FileRead rows.now.image.now v file position buffer.old (read_seen result) buffer.new }
 {
-    let Some(chain) = find_chain(image, ids, spots, file) else {
+    let Some(chain) = find_chain(rows, file) else {
         return Err(Refusal::Broken);
     };
     let from = position as usize;
@@ -119,7 +111,7 @@ pub fn read_file(
             headers: 0,
         });
     }
-    let headers = follow(image, ids, spots, chain, from, &mut *buffer);
+    let headers = follow(rows, chain, from, &mut *buffer);
     Ok(BytesRead {
         given: given as u32,
         headers: headers as u32,

@@ -10,17 +10,16 @@ use Rattle.volume_laws.specs.Map.{over, over_volume, lookup_names_map, children_
 use Rattle.record_places.specs.Place.{by_place, bytes_at, AllLie}
 use Rattle.record_places.specs.Laws.{place_views}
 use Rattle.calls.specs.Areas.{most_areas, file_areas}
-use Rattle.calls.specs.Mount.{most_blocks, most_records, volume}
+use Rattle.calls.specs.Mount.{most_records, volume}
 use Rattle.calls.specs.Storing.{named_ids}
 use Rattle.calls.specs.declared.Descriptor.{Descriptor}
 use Rattle.area_list.specs.Described.{described}
 use Rattle.area_pass.specs.Listing.{AreasFit}
 use Rattle.area_pass.specs.Bridge.{placed_volume, volume_places}
 use Rattle.area_pass.specs.Rows.{spans_at}
-use Rattle.table_rows.specs.Parts.{part_long, lent, both}
+use Rattle.table_rows.specs.Parts.{part_long, lent}
 use Rattle.table_rows.specs.Laws.{rows_number}
-use Rattle.table_rows.specs.Rows.{InodeTable, BlockTable, RowsOf}
-use Rattle.mount_state.specs.State.{inode_ids_in, inode_spots_in, inode_ids_at, inode_spots_at, block_ids_at, block_spots_at, Safe, Holds, SafePlaces, HoldsPlaces}
+use Rattle.mount_state.specs.State.{inode_ids_in, inode_spots_in, inode_ids_at, Safe, Holds, SafePlaces, HoldsPlaces}
 use Rattle.mount_state.specs.declared.Mounted.{Mounted}
 
 -- the volume of the calls, by the places of its records
@@ -43,15 +42,6 @@ module _ (image : Bytes) (ds : List Descriptor) where
 -- ---- the parts, as the checker states what `&tables[a..a + n]` lends
 
 module _ {image : Bytes} {m : Mounted} {t : List ℕ} (s : Safe image m t) where
-  pub inodes_lent : InodeTable image (take (inode_ids_at + m.inodes - inode_ids_at) (drop inode_ids_at t)) (take (inode_spots_at + m.inodes - inode_spots_at) (drop inode_spots_at t))
-  inodes_lent = both (InodeTable image) (lent inode_ids_at m.inodes t) (lent inode_spots_at m.inodes t) s.inodes
-
-  pub blocks_lent : BlockTable image (take (block_ids_at + m.blocks - block_ids_at) (drop block_ids_at t)) (take (block_spots_at + m.blocks - block_spots_at) (drop block_spots_at t))
-  blocks_lent = both (BlockTable image) (lent block_ids_at m.blocks t) (lent block_spots_at m.blocks t) s.blocks
-
-  pub blocks_few : length (take (block_ids_at + m.blocks - block_ids_at) (drop block_ids_at t)) ≤ most_blocks
-  blocks_few = omega (arith, s.blocks_few, length-take (block_ids_at + m.blocks - block_ids_at) (drop block_ids_at t))
-
   pub fit_lent : AreasFit image (take m.files t) (take (spans_at + m.files - spans_at) (drop spans_at t))
   fit_lent = subst (AreasFit image (take m.files t)) (sym (lent spans_at m.files t)) s.fit
 
@@ -59,14 +49,6 @@ module _ {image : Bytes} {m : Mounted} {t : List ℕ} (s : Safe image m t) where
   starts_few = omega (arith, s.files_few, length-take m.files t)
 
 module _ {image : Bytes} {ds : List Descriptor} {m : Mounted} {t : List ℕ} (h : Holds image ds m t) where
-  pub rows_lent : RowsOf (by_place image) (placed_volume image ds).inodes
-      (take (inode_ids_at + m.inodes - inode_ids_at) (drop inode_ids_at t)) (take (inode_spots_at + m.inodes - inode_spots_at) (drop inode_spots_at t))
-  rows_lent = both (RowsOf (by_place image) (placed_volume image ds).inodes) (lent inode_ids_at m.inodes t) (lent inode_spots_at m.inodes t) h.inodes
-
-  pub block_rows_lent : RowsOf (by_place image) (placed_volume image ds).blocks
-      (take (block_ids_at + m.blocks - block_ids_at) (drop block_ids_at t)) (take (block_spots_at + m.blocks - block_spots_at) (drop block_spots_at t))
-  block_rows_lent = both (RowsOf (by_place image) (placed_volume image ds).blocks) (lent block_ids_at m.blocks t) (lent block_spots_at m.blocks t) h.blocks
-
   pub files_lent : described (take m.files t) (take (spans_at + m.files - spans_at) (drop spans_at t)) ≡ file_areas image ds
   files_lent = ap (described (take m.files t)) (lent spans_at m.files t) ∙ h.files
 

@@ -1,12 +1,12 @@
 -- What a path leads to, and the sequence of an inode, by the tables of a mounted volume. Document 01, refusals 8 to 11.
 use Rattle.std.specs.Prelude.{Option, None, Some, ℕ, ◌≡◌, true, false, cond, List, length}
-use Rattle.std.proofs.Common.{sym, ap, ◌∙◌, eq-eqb}
+use Rattle.std.proofs.Common.{sym, ◌∙◌, eq-eqb}
 use Rattle.format.specs.Bytes.{Bytes}
 use Rattle.volume.specs.View.{View, by_bytes}
 use Rattle.volume.specs.Counting.{Volume, inode_of}
 use Rattle.volume.specs.Path.{good_path, path_names}
 use Rattle.volume.specs.Tree.{Found, absent, lookup_names}
-use Rattle.record_places.specs.Place.{by_place, Lies}
+use Rattle.record_places.specs.Place.{by_place}
 use Rattle.record_places.specs.Laws.{place_views}
 use Rattle.table_rows.specs.Answer.{meant}
 use Rattle.table_rows.specs.Table.{found}
@@ -15,7 +15,7 @@ use Rattle.calls.specs.Lookup.{resolve}
 use Rattle.calls.specs.Rewrite.{sequence_of}
 use Rattle.calls.specs.declared.Descriptor.{Descriptor}
 use Rattle.area_pass.specs.Bridge.{placed_volume}
-use Rattle.table_rows.specs.Rows.{InodeTable, RowsOf, found_in}
+use Rattle.table_rows.specs.Rows.{RowsOf}
 use Rattle.mount_state.specs.State.{Holds}
 use Rattle.mount_state.specs.Bridge.{inode_is}
 use Rattle.mount_state.specs.declared.Mounted.{Mounted}
@@ -39,9 +39,6 @@ module _ {image : Bytes} {ds : List Descriptor} {m : Mounted} {t : List ℕ} (h 
 -- ---- the sequence of an inode, by its row
 
 module _ (image : Bytes) (ids spots : List ℕ) (i : ℕ) (r : Option ℕ) (e : meant r ≡ found (length ids) ids spots i) where
-  pub row_lies : InodeTable image ids spots → (p : ℕ) → r ≡ Some p → Lies image p
-  row_lies t p q = found_in t.usable i p (sym e ∙ ap meant q)
-
   module _ (ds : List Descriptor) (rows : RowsOf (by_place image) (placed_volume image ds).inodes ids spots) where
     counts : inode_of (by_place image) (placed_volume image ds) i ≡ meant r
     counts = rows.counts i ∙ sym e

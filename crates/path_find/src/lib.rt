@@ -25,12 +25,12 @@ ghost use Rattle.path_find.specs.Parent.{ShortName, parent_of, Below};
 ghost use Rattle.path_find.specs.NewName.{any_of};
 
 use calls::Refusal;
-use mount_state::{INODE_IDS, INODE_SPOTS, Mounted};
+use mount_state::Mounted;
 use path_names::{after, good_path, has_name, is_last, name_at, start};
 use path_walk::{Child, enter, find_child, resolve};
 use record_places::sequence_at;
 use record_read::{ROOT, is_directory_id};
-use table_rows::find;
+use table_rows::TakenRows;
 
 // What a good path leads to.
 fn walk<'a>(
@@ -44,15 +44,7 @@ fn walk<'a>(
     requires path_value { good_path base.now path.now ≡ true }
     ensures { (ds : List Descriptor) → Holds image.now ds m tables.now → meaning result ≡ lookup_names by_bytes (volume image.now ds) (path_names base.now path.now) }
 {
-    let ids_end = INODE_IDS + m.inodes;
-    let spots_end = INODE_SPOTS + m.inodes;
-    resolve(
-        image,
-        &tables[INODE_IDS..ids_end],
-        &tables[INODE_SPOTS..spots_end],
-        base,
-        path,
-    )
+    resolve(&m.inode_rows(image, tables), base, path)
 }
 
 // What a path leads to.
@@ -105,14 +97,7 @@ pub fn sequence_of(image: &[u8], tables: &[u32], m: Mounted, id: u32) -> u32
     requires { Safe image.now m tables.now }
     ensures { (ds : List Descriptor) → Holds image.now ds m tables.now → result ≡ sequence_of (inode_of by_bytes (volume image.now ds) id) }
 {
-    let ids_end = INODE_IDS + m.inodes;
-    let spots_end = INODE_SPOTS + m.inodes;
-    let spot = find(
-        &tables[INODE_IDS..ids_end],
-        &tables[INODE_SPOTS..spots_end],
-        id,
-    );
-    let Some(p) = spot else {
+    let Some(p) = m.inode_rows(image, tables).find(id) else {
         return 0;
     };
     sequence_at(image, p)
@@ -135,17 +120,11 @@ pub fn last_name<'a>(base: &'a [u8], path: &'a [u8]) -> &'a [u8]
 }
 
 // What all but the last name of a good path lead to, by the rows of inodes: the first step that fails decides.
-fn walk_before<'a>(
-    image: &[u8],
-    ids: &[u32],
-    spots: &[u32],
-    base: &'a [u8],
-    path: &'a [u8],
-) -> Result<u32, Refusal>
-    requires inode_table { InodeTable image.now ids.now spots.now }
+fn walk_before<'a>(rows: &TakenRows<'_>, base: &'a [u8], path: &'a [u8]) -> Result<u32, Refusal>
+    requires inode_table { InodeTable rows.now.image.now rows.now.ids.now rows.now.spots.now }
     requires path_value { good_path base.now path.now ≡ true }
     requires path_value_2 { any_names (path_names base.now path.now) ≡ true }
-    ensures { (v : Volume ℕ) → InodesOf image.now ids.now spots.now v → meaning result ≡ lookup_names (by_place image.now) v (names_before (path_names base.now path.now)) }
+    ensures { (v : Volume ℕ) → InodesOf rows.now.image.now rows.now.ids.now rows.now.spots.now v → meaning result ≡ lookup_names (by_place rows.now.image.now) v (names_before (path_names base.now path.now)) }
 {
     let mut w = start(base, path);
     let mut at = ROOT;
@@ -153,7 +132,7 @@ fn walk_before<'a>(
         if is_last(base, path, w) {
             return Ok(at);
         }
-        at = enter(image, ids, spots, at, name_at(base, path, w))?;
+        at = enter(rows, at, name_at(base, path, w))?;
         w = after(base, path, w);
     }
 }
@@ -173,15 +152,7 @@ pub fn find_parent<'a>(
     if !is_below_root(base, path) {
         return Err(Refusal::BadPath);
     }
-    let ids_end = INODE_IDS + m.inodes;
-    let spots_end = INODE_SPOTS + m.inodes;
-    walk_before(
-        image,
-        &tables[INODE_IDS..ids_end],
-        &tables[INODE_SPOTS..spots_end],
-        base,
-        path,
-    )
+    walk_before(&m.inode_rows(image, tables), base, path)
 }
 
 // Whether a child was found, once or oftener.
@@ -209,15 +180,7 @@ pub fn check_name(
     if !is_directory_id(directory) {
         return Err(Refusal::WrongKind);
     }
-    let ids_end = INODE_IDS + m.inodes;
-    let spots_end = INODE_SPOTS + m.inodes;
-    let child = find_child(
-        image,
-        &tables[INODE_IDS..ids_end],
-        &tables[INODE_SPOTS..spots_end],
-        directory,
-        name,
-    );
+    let child = find_child(&m.inode_rows(image, tables), directory, name);
     if any_child(child) {
         return Err(Refusal::Exists);
     }

@@ -6,7 +6,7 @@ ghost use Rattle.volume.specs.Lists.{only};
 ghost use Rattle.volume.specs.Counting.{Volume};
 ghost use Rattle.volume.specs.Fate.{is_live, fate_of};
 ghost use Rattle.volume.specs.Path.{good_path, path_names};
-ghost use Rattle.volume.specs.Tree.{found, is_entry, is_child, children, lookup_names};
+ghost use Rattle.volume.specs.Tree.{is_entry, is_child, children, lookup_names};
 ghost use Rattle.record_places.specs.Place.{by_place, block_at, Lies};
 ghost use Rattle.table_rows.specs.Rows.{InodeTable};
 ghost use Rattle.file_blocks.specs.Blocks.{first_of};
@@ -18,6 +18,7 @@ use inode_fate::{fate_of, lives};
 use path_names::{after, has_name, name_at, start};
 use record_places::link_at;
 use record_read::{InodeHeader, ROOT, is_directory_id};
+use table_rows::TakenRows;
 
 // The live children of a directory that have one name.
 #[derive(Clone, Copy)]
@@ -43,45 +44,31 @@ fn is_entry(image: &[u8], p: u32, directory: u32, name: &[u8]) -> bool
 }
 
 // Whether the inode of an id is live.
-pub fn is_live(image: &[u8], ids: &[u32], spots: &[u32], id: u32) -> bool
-    requires { InodeTable image.now ids.now spots.now }
-    ensures { (v : Volume ℕ) → InodesOf image.now ids.now spots.now v → result ≡ is_live (fate_of (by_place image.now) v id) }
+pub fn is_live(rows: &TakenRows<'_>, id: u32) -> bool
+    requires { InodeTable rows.now.image.now rows.now.ids.now rows.now.spots.now }
+    ensures { (v : Volume ℕ) → InodesOf rows.now.image.now rows.now.ids.now rows.now.spots.now v → result ≡ is_live (fate_of (by_place rows.now.image.now) v id) }
 {
-    lives(fate_of(image, ids, spots, id))
+    lives(fate_of(rows, id))
 }
 
 // Whether the inode of a row is a live child of the directory, of the name.
-fn is_child(
-    image: &[u8],
-    ids: &[u32],
-    spots: &[u32],
-    directory: u32,
-    name: &[u8],
-    row: usize,
-) -> bool
-    requires inode_table { InodeTable image.now ids.now spots.now }
-    requires row_in_bounds { row < length ids.now }
-    ensures { (v : Volume ℕ) → InodesOf image.now ids.now spots.now v → result ≡ is_child (by_place image.now) v directory name.now (get_or ids.now row 0) }
+fn is_child(rows: &TakenRows<'_>, directory: u32, name: &[u8], row: usize) -> bool
+    requires inode_table { InodeTable rows.now.image.now rows.now.ids.now rows.now.spots.now }
+    requires row_in_bounds { row < length rows.now.ids.now }
+    ensures { (v : Volume ℕ) → InodesOf rows.now.image.now rows.now.ids.now rows.now.spots.now v → result ≡ is_child (by_place rows.now.image.now) v directory name.now (get_or rows.now.ids.now row 0) }
 {
-    is_entry(image, spots[row], directory, name) && is_live(image, ids, spots, ids[row])
+    is_entry(rows.image, rows.spots[row], directory, name) && is_live(rows, rows.ids[row])
 }
 
 // The first row from `from` on whose inode is a live child of the directory, of the name.
-fn next_child(
-    image: &[u8],
-    ids: &[u32],
-    spots: &[u32],
-    directory: u32,
-    name: &[u8],
-    from: usize,
-) -> Option<usize>
-    requires inode_table { InodeTable image.now ids.now spots.now }
-    requires from_in_bounds { from ≤ length ids.now }
-    ensures first { (v : Volume ℕ) → InodesOf image.now ids.now spots.now v → unwrap_or result (length ids.now) ≡ from + first_of (is_child (by_place image.now) v directory name.now) (drop from ids.now) }
-    ensures within { IfSome result (λ row. row < length ids.now) }
+fn next_child(rows: &TakenRows<'_>, directory: u32, name: &[u8], from: usize) -> Option<usize>
+    requires inode_table { InodeTable rows.now.image.now rows.now.ids.now rows.now.spots.now }
+    requires from_in_bounds { from ≤ length rows.now.ids.now }
+    ensures first { (v : Volume ℕ) → InodesOf rows.now.image.now rows.now.ids.now rows.now.spots.now v → unwrap_or result (length rows.now.ids.now) ≡ from + first_of (is_child (by_place rows.now.image.now) v directory name.now) (drop from rows.now.ids.now) }
+    ensures within { IfSome result (λ row. row < length rows.now.ids.now) }
 {
-    for row in from..ids.len() {
-        if is_child(image, ids, spots, directory, name, row) {
+    for row in from..rows.ids.len() {
+        if is_child(rows, directory, name, row) {
             return Some(row);
         }
     }
@@ -89,34 +76,28 @@ fn next_child(
 }
 
 // The live children of the directory that have the name.
-pub fn find_child(image: &[u8], ids: &[u32], spots: &[u32], directory: u32, name: &[u8]) -> Child
-    requires { InodeTable image.now ids.now spots.now }
-    ensures { (v : Volume ℕ) → InodesOf image.now ids.now spots.now v → only_of result ≡ only (children (by_place image.now) v directory name.now) }
+pub fn find_child(rows: &TakenRows<'_>, directory: u32, name: &[u8]) -> Child
+    requires { InodeTable rows.now.image.now rows.now.ids.now rows.now.spots.now }
+    ensures { (v : Volume ℕ) → InodesOf rows.now.image.now rows.now.ids.now rows.now.spots.now v → only_of result ≡ only (children (by_place rows.now.image.now) v directory name.now) }
 {
-    let Some(first) = next_child(image, ids, spots, directory, name, 0) else {
+    let Some(first) = next_child(rows, directory, name, 0) else {
         return Child::Nobody;
     };
-    match next_child(image, ids, spots, directory, name, first + 1) {
+    match next_child(rows, directory, name, first + 1) {
         Some(_) => Child::Several,
-        None => Child::One(ids[first]),
+        None => Child::One(rows.ids[first]),
     }
 }
 
 // One step of a walk: what the name leads to, looked for in the inode of an id.
-pub fn enter(
-    image: &[u8],
-    ids: &[u32],
-    spots: &[u32],
-    directory: u32,
-    name: &[u8],
-) -> Result<u32, Refusal>
-    requires { InodeTable image.now ids.now spots.now }
-    ensures { (v : Volume ℕ) → InodesOf image.now ids.now spots.now v → meaning result ≡ step_of (by_place image.now) v directory name.now }
+pub fn enter(rows: &TakenRows<'_>, directory: u32, name: &[u8]) -> Result<u32, Refusal>
+    requires { InodeTable rows.now.image.now rows.now.ids.now rows.now.spots.now }
+    ensures { (v : Volume ℕ) → InodesOf rows.now.image.now rows.now.ids.now rows.now.spots.now v → meaning result ≡ step_of (by_place rows.now.image.now) v directory name.now }
 {
     if !is_directory_id(directory) {
         return Err(Refusal::WrongKind);
     }
-    match find_child(image, ids, spots, directory, name) {
+    match find_child(rows, directory, name) {
         Child::Nobody => Err(Refusal::NotFound),
         Child::Several => Err(Refusal::Ambiguous),
         Child::One(id) => Ok(id),
@@ -124,21 +105,15 @@ pub fn enter(
 }
 
 // What a good path leads to: the first step that fails decides.
-pub fn resolve<'a>(
-    image: &[u8],
-    ids: &[u32],
-    spots: &[u32],
-    base: &'a [u8],
-    path: &'a [u8],
-) -> Result<u32, Refusal>
-    requires inode_table { InodeTable image.now ids.now spots.now }
+pub fn resolve<'a>(rows: &TakenRows<'_>, base: &'a [u8], path: &'a [u8]) -> Result<u32, Refusal>
+    requires inode_table { InodeTable rows.now.image.now rows.now.ids.now rows.now.spots.now }
     requires path_value { good_path base.now path.now ≡ true }
-    ensures { (v : Volume ℕ) → InodesOf image.now ids.now spots.now v → meaning result ≡ lookup_names (by_place image.now) v (path_names base.now path.now) }
+    ensures { (v : Volume ℕ) → InodesOf rows.now.image.now rows.now.ids.now rows.now.spots.now v → meaning result ≡ lookup_names (by_place rows.now.image.now) v (path_names base.now path.now) }
 {
     let mut w = start(base, path);
     let mut at = ROOT;
     while has_name(base, path, w) {
-        at = enter(image, ids, spots, at, name_at(base, path, w))?;
+        at = enter(rows, at, name_at(base, path, w))?;
         w = after(base, path, w);
     }
     Ok(at)

@@ -6,7 +6,7 @@ ghost use Rattle.std.specs.Prelude.{◌≡◌, length};
 ghost use Rattle.record_places.specs.Place.{Lies};
 ghost use Rattle.table_rows.specs.Answer.{meant};
 ghost use Rattle.table_rows.specs.Table.{found};
-ghost use Rattle.table_rows.specs.Rows.{GoodPart, IndexedPart, UpdatesPart};
+ghost use Rattle.table_rows.specs.Rows.{GoodPart, IndexedPart, UpdatesPart, Usable};
 
 use record_places::{id_at, sequence_at};
 use table_index::{put, row_of, slot_of};
@@ -64,4 +64,22 @@ pub fn find(ids: &[u32], spots: &[u32], id: u32) -> Option<u32>
     ensures { meant result ≡ found (length ids.now) ids.now spots.now id }
 {
     spots.get(position(ids, id)).copied()
+}
+
+// The taken rows of a table: their ids, and where in the image the records lie that count for them.
+#[derive(Clone, Copy)]
+pub struct TakenRows<'a> {
+    pub image: &'a [u8],
+    pub ids: &'a [u32],
+    pub spots: &'a [u32],
+    ghost usable: { Usable image.now ids.now spots.now },
+}
+
+impl<'a> TakenRows<'a> {
+    // The place of the record that counts for `id`.
+    pub fn find(&self, id: u32) -> Option<u32>
+        ensures { meant result ≡ found (length self.now.ids.now) self.now.ids.now self.now.spots.now id }
+    {
+        find(self.ids, self.spots, id)
+    }
 }

@@ -21,6 +21,7 @@ use file_blocks::file_size;
 use inode_order::name_size;
 use record_places::{id_at, link_at};
 use record_read::{InodeHeader, ROOT, is_directory_id};
+use table_rows::TakenRows;
 use text_write::{indent, print, print_number, push};
 
 // The greatest depth that is shown.
@@ -41,69 +42,54 @@ pub struct Cursor {
 }
 
 // Writes a file's size, or that it is broken.
-fn show_size(
-    image: &[u8],
-    ids: &[u32],
-    spots: &[u32],
-    text: &mut [u8],
-    at: usize,
-    file: u32,
-) -> usize
-    requires block_table { BlockTable image.now ids.now spots.now }
-    requires ids_len_bound { length ids.now ≤ most_blocks }
+fn show_size(rows: &TakenRows<'_>, text: &mut [u8], at: usize, file: u32) -> usize
+    requires block_table { BlockTable rows.now.image.now rows.now.ids.now rows.now.spots.now }
+    requires ids_len_bound { length rows.now.ids.now ≤ most_blocks }
     requires at_bound { at + 11 ≤ longest_text }
     ensures within { result ≤ at + 11 }
-    ensures told { (v : Volume ℕ) → BlocksOf image.now ids.now spots.now v → Wrote text.old at (32 ∷ size_word (by_place image.now) (file_blocks (by_place image.now) v file)) text.new result }
+    ensures told { (v : Volume ℕ) → BlocksOf rows.now.image.now rows.now.ids.now rows.now.spots.now v → Wrote text.old at (32 ∷ size_word (by_place rows.now.image.now) (file_blocks (by_place rows.now.image.now) v file)) text.new result }
 {
     let next = push(text, at, SPACE);
-    let Some(size) = file_size(image, ids, spots, file) else {
+    let Some(size) = file_size(rows, file) else {
         return print(text, next, b"broken");
     };
     print_number(text, next, size as u32)
 }
 
 // Writes the name of the inode at `p`, and a file's size; the root is a slash.
-fn show_words(image: &[u8], ids: &[u32], spots: &[u32], text: &mut [u8], at: usize, p: u32) -> usize
-    requires block_table { BlockTable image.now ids.now spots.now }
-    requires ids_len_bound { length ids.now ≤ most_blocks }
-    requires inode_at { InodeAt image.now p }
+fn show_words(rows: &TakenRows<'_>, text: &mut [u8], at: usize, p: u32) -> usize
+    requires block_table { BlockTable rows.now.image.now rows.now.ids.now rows.now.spots.now }
+    requires ids_len_bound { length rows.now.ids.now ≤ most_blocks }
+    requires inode_at { InodeAt rows.now.image.now p }
     requires at_bound { at + 266 ≤ longest_text }
     ensures within { result ≤ at + 266 }
-    ensures told { (v : Volume ℕ) → BlocksOf image.now ids.now spots.now v → inode_of (by_place image.now) v ((by_place image.now).id p) ≡ some p → Wrote text.old at (words_of (by_place image.now) v ((by_place image.now).id p)) text.new result }
+    ensures told { (v : Volume ℕ) → BlocksOf rows.now.image.now rows.now.ids.now rows.now.spots.now v → inode_of (by_place rows.now.image.now) v ((by_place rows.now.image.now).id p) ≡ some p → Wrote text.old at (words_of (by_place rows.now.image.now) v ((by_place rows.now.image.now).id p)) text.new result }
 {
-    let id = id_at(image, p);
+    let id = id_at(rows.image, p);
     if id == ROOT {
         return push(text, at, SLASH);
     }
     let start = p as usize + InodeHeader::SIZE;
-    let end = start + name_size(image, p);
-    let next = print(text, at, &image[start..end]);
+    let end = start + name_size(rows.image, p);
+    let next = print(text, at, &rows.image[start..end]);
     if is_directory_id(id) {
         return next;
     }
-    show_size(image, ids, spots, text, next, id)
+    show_size(rows, text, next, id)
 }
 
 // Writes the line of the inode at `p`.
-fn show_line(
-    image: &[u8],
-    ids: &[u32],
-    spots: &[u32],
-    text: &mut [u8],
-    at: usize,
-    p: u32,
-    depth: usize,
-) -> usize
-    requires block_table { BlockTable image.now ids.now spots.now }
-    requires ids_len_bound { length ids.now ≤ most_blocks }
-    requires inode_at { InodeAt image.now p }
+fn show_line(rows: &TakenRows<'_>, text: &mut [u8], at: usize, p: u32, depth: usize) -> usize
+    requires block_table { BlockTable rows.now.image.now rows.now.ids.now rows.now.spots.now }
+    requires ids_len_bound { length rows.now.ids.now ≤ most_blocks }
+    requires inode_at { InodeAt rows.now.image.now p }
     requires depth_le_most_depth { depth ≤ most_depth }
     requires at_bound { at + 331 ≤ longest_text }
     ensures within { result ≤ at + 331 }
-    ensures told { (v : Volume ℕ) → BlocksOf image.now ids.now spots.now v → inode_of (by_place image.now) v ((by_place image.now).id p) ≡ some p → Wrote text.old at (line_of depth (words_of (by_place image.now) v ((by_place image.now).id p))) text.new result }
+    ensures told { (v : Volume ℕ) → BlocksOf rows.now.image.now rows.now.ids.now rows.now.spots.now v → inode_of (by_place rows.now.image.now) v ((by_place rows.now.image.now).id p) ≡ some p → Wrote text.old at (line_of depth (words_of (by_place rows.now.image.now) v ((by_place rows.now.image.now).id p))) text.new result }
 {
     let start = indent(text, at, depth);
-    let end = show_words(image, ids, spots, text, start, p);
+    let end = show_words(rows, text, start, p);
     push(text, end, NEWLINE)
 }
 
@@ -134,29 +120,27 @@ fn show_deeper(image: &[u8], order: &[u32], text: &mut [u8], at: usize, director
 // Shows the entries of a directory, of at most `levels` more levels. Showing an entry shows what lies below it, and the levels fall: so this ends.
 #[cycle(show_directory_show_entry)]
 fn show_directory(
-    image: &[u8],
-    ids: &[u32],
-    spots: &[u32],
+    rows: &TakenRows<'_>,
     order: &[u32],
     text: &mut [u8],
     cursor: Cursor,
     directory: u32,
     levels: usize,
 ) -> Cursor
-    requires showable { Showable image.now ids.now spots.now order.now }
+    requires showable { Showable rows.now.image.now rows.now.ids.now rows.now.spots.now order.now }
     requires levels_le_most_depth { levels ≤ most_depth }
     requires deeper_room_bound { reach cursor + deeper_room ≤ longest_text }
     ensures within { reach result ≤ reach cursor + deeper_room }
-    ensures told { DirectoryShown image.now ids.now spots.now order.now directory levels text.old cursor text.new result }
+    ensures told { DirectoryShown rows.now.image.now rows.now.ids.now rows.now.spots.now order.now directory levels text.old cursor text.new result }
 {
     if levels == 0 {
-        let at = show_deeper(image, order, text, cursor.at, directory);
+        let at = show_deeper(rows.image, order, text, cursor.at, directory);
         return Cursor { at, ..cursor };
     }
     let mut c = cursor;
     for p in order {
-        if link_at(image, *p) == directory {
-            c = show_entry(image, ids, spots, order, text, c, *p, levels - 1);
+        if link_at(rows.image, *p) == directory {
+            c = show_entry(rows, order, text, c, *p, levels - 1);
         }
     }
     c
@@ -165,57 +149,48 @@ fn show_directory(
 // Shows an entry: its line, and, where it is a directory, that directory. The entries that may still be shown fall.
 #[cycle(show_directory_show_entry)]
 fn show_entry(
-    image: &[u8],
-    ids: &[u32],
-    spots: &[u32],
+    rows: &TakenRows<'_>,
     order: &[u32],
     text: &mut [u8],
     cursor: Cursor,
     p: u32,
     levels: usize,
 ) -> Cursor
-    requires showable { Showable image.now ids.now spots.now order.now }
-    requires inode_at { InodeAt image.now p }
+    requires showable { Showable rows.now.image.now rows.now.ids.now rows.now.spots.now order.now }
+    requires inode_at { InodeAt rows.now.image.now p }
     requires levels_le_most_depth { levels ≤ most_depth }
     requires cursor_bound { reach cursor ≤ longest_text }
     ensures within { reach result ≤ reach cursor }
-    ensures told { EntryShown image.now ids.now spots.now order.now p levels text.old cursor text.new result }
+    ensures told { EntryShown rows.now.image.now rows.now.ids.now rows.now.spots.now order.now p levels text.old cursor text.new result }
 {
     if cursor.left == 0 {
         return cursor;
     }
-    let at = show_line(image, ids, spots, text, cursor.at, p, MOST_DEPTH - levels);
+    let at = show_line(rows, text, cursor.at, p, MOST_DEPTH - levels);
     let next = Cursor {
         at,
         left: cursor.left - 1,
     };
-    let entry = id_at(image, p);
+    let entry = id_at(rows.image, p);
     if is_directory_id(entry) {
-        return show_directory(image, ids, spots, order, text, next, entry, levels);
+        return show_directory(rows, order, text, next, entry, levels);
     }
     next
 }
 
 // Shows the whole tree, of which the root is at `root`, and answers the length of its text.
-pub fn show_tree(
-    image: &[u8],
-    ids: &[u32],
-    spots: &[u32],
-    order: &[u32],
-    text: &mut [u8],
-    root: u32,
-) -> usize
-    requires showable { Showable image.now ids.now spots.now order.now }
-    requires inode_at { InodeAt image.now root }
+pub fn show_tree(rows: &TakenRows<'_>, order: &[u32], text: &mut [u8], root: u32) -> usize
+    requires showable { Showable rows.now.image.now rows.now.ids.now rows.now.spots.now order.now }
+    requires inode_at { InodeAt rows.now.image.now root }
     requires order_len_bound { length order.now ≤ most_inodes }
     ensures within { result ≤ longest_text }
-    ensures told { (v : Volume ℕ) → Lists image.now ids.now spots.now order.now v → inode_of (by_place image.now) v root_id ≡ some root → length (ids_shown (show_directory (by_place image.now) v most_depth root_id)) ≤ length order.now → Wrote text.old 0 (tree_text (by_place image.now) v) text.new result }
+    ensures told { (v : Volume ℕ) → Lists rows.now.image.now rows.now.ids.now rows.now.spots.now order.now v → inode_of (by_place rows.now.image.now) v root_id ≡ some root → length (ids_shown (show_directory (by_place rows.now.image.now) v most_depth root_id)) ≤ length order.now → Wrote text.old 0 (tree_text (by_place rows.now.image.now) v) text.new result }
 {
-    let at = show_line(image, ids, spots, text, 0, root, 0);
+    let at = show_line(rows, text, 0, root, 0);
     let cursor = Cursor {
         at,
         left: order.len(),
     };
-    let end = show_directory(image, ids, spots, order, text, cursor, ROOT, MOST_DEPTH);
+    let end = show_directory(rows, order, text, cursor, ROOT, MOST_DEPTH);
     end.at
 }

@@ -1,16 +1,9 @@
 use Rattle.std.proofs.Common.{List, ℕ, sym, ap₂, ◌∙◌}
-use Rattle.table_rows.specs.Parts.{lent, both}
-use Rattle.table_rows.specs.Rows.{Usable}
+use Rattle.table_rows.specs.Parts.{lent}
 use Rattle.mount_state.specs.State.{inode_ids_at, inode_spots_at, block_ids_at, block_spots_at}
 use Rattle.collect_copies.specs.Copied.{tables_of, counts_in}
 use Rattle.collect_copies.specs.Steps.{kind_block, kind_inode}
 use Rattle.collect_copies.proofs.counts.Goals as goal
-
-pub counts_in-requires-clause-usable : goal.counts_in-requires-clause-usable
-counts_in-requires-clause-usable c =
-    let k = c.args.blocks in
-    let t = c.args.tables.now in
-    both (Usable c.args.image.now) (lent block_ids_at k t) (lent block_spots_at k t) c.requires.rowed.blocks
 
 pub returns-then-is_block_at : goal.returns-then-is_block_at
 returns-then-is_block_at c =
@@ -19,12 +12,6 @@ returns-then-is_block_at c =
     c.counts_in.ensures
     ∙ ap₂ (λ (a b : List ℕ). counts_in c.args.image.now (record { ids = a; spots = b }) c.args.p) (lent block_ids_at k t) (lent block_spots_at k t)
     ∙ kind_block c.args.image.now (tables_of c.args.inodes k t) c.args.p (sym c.is_block_at.ensures ∙ c.if-is_block_at.true)
-
-pub counts_in-requires-2-clause-usable : goal.counts_in-requires-2-clause-usable
-counts_in-requires-2-clause-usable c =
-    let n = c.args.inodes in
-    let t = c.args.tables.now in
-    both (Usable c.args.image.now) (lent inode_ids_at n t) (lent inode_spots_at n t) c.requires.rowed.inodes
 
 pub returns : goal.returns
 returns c =

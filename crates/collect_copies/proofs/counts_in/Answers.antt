@@ -7,12 +7,12 @@ use Rattle.collect_copies.proofs.counts_in.Goals as goal
 pub returns-in_default : goal.returns-in_default
 returns-in_default c =
     let a = c.args in
-    let there = c.find.ensures ∙ ap (found (length a.ids.now) a.ids.now a.spots.now) c.id_at.ensures in
-    counts_none a.image.now (record { ids = a.ids.now; spots = a.spots.now }) a.p (sym there ∙ ap meant c.in_default.is)
+    let there = c.find.ensures ∙ ap (found (length a.rows.now.ids.now) a.rows.now.ids.now a.rows.now.spots.now) c.id_at.ensures in
+    counts_none a.rows.now.image.now (record { ids = a.rows.now.ids.now; spots = a.rows.now.spots.now }) a.p (sym there ∙ ap meant c.in_default.is)
 
 pub returns : goal.returns
 returns c =
     let a = c.args in
-    let there = c.find.ensures ∙ ap (found (length a.ids.now) a.ids.now a.spots.now) c.id_at.ensures in
+    let there = c.find.ensures ∙ ap (found (length a.rows.now.ids.now) a.rows.now.ids.now a.rows.now.spots.now) c.id_at.ensures in
     c.same_bytes.ensures
-    ∙ counts_one a.image.now (record { ids = a.ids.now; spots = a.spots.now }) a.p c.in-Some.q (sym there ∙ ap meant c.in-Some.is)
+    ∙ counts_one a.rows.now.image.now (record { ids = a.rows.now.ids.now; spots = a.rows.now.spots.now }) a.p c.in-Some.q (sym there ∙ ap meant c.in-Some.is)

@@ -7,11 +7,11 @@ use Rattle.collect_copies.specs.Steps.{copied_elsewhere, copied_older, copied_co
 use Rattle.collect_copies.proofs.is_copied.Goals as goal
 use Rattle.collect_copies.proofs.is_copied.Goals.{then-is_inside, else-is_inside}
 
-pub is_dropped-requires-clause-usable : goal.is_dropped-requires-clause-usable
-is_dropped-requires-clause-usable c =
+pub invariant_of-rows : goal.invariant_of-rows
+invariant_of-rows c =
     let n = c.args.inodes in
     let t = c.args.tables.now in
-    both (Usable c.args.image.now) (lent inode_ids_at n t) (lent inode_spots_at n t) c.requires.rowed.inodes
+    record { usable = both (Usable c.args.image.now) (lent inode_ids_at n t) (lent inode_spots_at n t) c.requires.rowed.inodes }
 
 pub returns-then-counts : goal.returns-then-counts
 returns-then-counts c = elim c.if-is_inside.branch [

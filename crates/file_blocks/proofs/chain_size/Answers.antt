@@ -14,7 +14,7 @@ returns-in_err-p-clause-told c =
     let a = c.args in
     rw c.from_residual.ensures
     (sym (c.loop.invariant.chain
-    ∙ size_broken (by_place a.image.now) a.file (found (length a.ids.now) a.ids.now a.spots.now) c.loop.size (a.count - c.loop.counter) c.loop.id
+    ∙ size_broken (by_place a.rows.now.image.now) a.file (found (length a.rows.now.ids.now) a.rows.now.ids.now a.rows.now.spots.now) c.loop.size (a.count - c.loop.counter) c.loop.id
     (omega arith) c.in_err-p.ensures))
 
 pub data_length-size-requires-clause-lies_2 : goal.data_length-size-requires-clause-lies_2
@@ -33,7 +33,7 @@ loop-preserved c =
     record {
       small = omega (arith, c.data_length-size.ensures.small);
       chain = rw z (c.loop.invariant.chain
-          ∙ size_step (by_place a.image.now) a.file (found (length a.ids.now) a.ids.now a.spots.now) c.loop.size (a.count - c.loop.counter) c.loop.id
+          ∙ size_step (by_place a.rows.now.image.now) a.file (found (length a.rows.now.ids.now) a.rows.now.ids.now a.rows.now.spots.now) c.loop.size (a.count - c.loop.counter) c.loop.id
           c.in_ok-p.p c.data_length-size.result c.previous_at-id.result
           (omega arith) c.in_ok-p.ensures c.data_length-size.ensures.told c.previous_at-id.ensures);
     }
@@ -42,5 +42,5 @@ pub returns-clause-told : goal.returns-clause-told
 returns-clause-told c =
     let a = c.args in
     rw c.then_some.ensures
-    (size_ended (by_place a.image.now) a.file (found (length a.ids.now) a.ids.now a.spots.now) c.loop.size (a.count - c.loop.counter) c.loop.id (omega arith)
+    (size_ended (by_place a.rows.now.image.now) a.file (found (length a.rows.now.ids.now) a.rows.now.ids.now a.rows.now.spots.now) c.loop.size (a.count - c.loop.counter) c.loop.id (omega arith)
     ∙ sym c.loop.invariant.chain)

@@ -9,6 +9,6 @@ use Rattle.file_blocks.proofs.chain_size.Given as goal
 abbrev pub invariant-loop : goal.invariant-loop
 invariant-loop l = record {
   small : l.size ≤ l.counter * 65535;
-  chain : text_size (by_place l.image) (chain_back (by_place l.image) (found (length l.ids) l.ids l.spots) l.file l.count l.start)
-      ≡ size_with (by_place l.image) l.size (chain_back (by_place l.image) (found (length l.ids) l.ids l.spots) l.file (l.count - l.counter) l.id);
+  chain : text_size (by_place l.rows.image.now) (chain_back (by_place l.rows.image.now) (found (length l.rows.ids.now) l.rows.ids.now l.rows.spots.now) l.file l.count l.start)
+      ≡ size_with (by_place l.rows.image.now) l.size (chain_back (by_place l.rows.image.now) (found (length l.rows.ids.now) l.rows.ids.now l.rows.spots.now) l.file (l.count - l.counter) l.id);
 }

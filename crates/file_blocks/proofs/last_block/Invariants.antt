@@ -7,4 +7,4 @@ use Rattle.file_blocks.specs.Rows.{OneEnd}
 use Rattle.file_blocks.proofs.last_block.Given as goal
 
 abbrev pub invariant-loop-p : goal.invariant-loop-p
-invariant-loop-p l = OneEnd (by_place l.image) l.end (keep (is_end (by_place l.image) l.file l.spots) (take l.p-index l.spots))
+invariant-loop-p l = OneEnd (by_place l.rows.image.now) l.end (keep (is_end (by_place l.rows.image.now) l.file l.rows.spots.now) (take l.p-index l.rows.spots.now))

@@ -12,17 +12,17 @@ pub count-requires-clause-can : goal.count-requires-clause-can
 count-requires-clause-can c = (
   tt,
   tt,
-  serves_from_places (YieldsList-at c.filter.ensures.source (YieldsList-from_slice c.args.spots.now cc)) (λ x q k. search (rules, tests))
-      (λ x k h e. let l : Lies c.args.image.now x.now = each_lies c.args.image.now c.args.spots.now (λ i h. c.requires.lie i (omega arith)) x.now k h e in search rules),
+  serves_from_places (YieldsList-at c.filter.ensures.source (YieldsList-from_slice c.args.rows.now.spots.now cc)) (λ x q k. search (rules, tests))
+      (λ x k h e. let l : Lies c.args.rows.now.image.now x.now = each_lies c.args.rows.now.image.now c.args.rows.now.spots.now (λ i h. c.args.rows.now.usable.lie i (omega arith)) x.now k h e in search rules),
 )
 
-counted : (c : goal.After-count) → c.count.result ≡ length (mine (by_place c.args.image.now) c.args.file c.args.spots.now)
+counted : (c : goal.After-count) → c.count.result ≡ length (mine (by_place c.args.rows.now.image.now) c.args.file c.args.rows.now.spots.now)
 counted c =
     count_from_yields_List c.filter.result c.count.result c.count.ensures.ran
-    (YieldsList-from_filter _ (λ p. eqb ((by_place c.args.image.now).owner p) c.args.file) (YieldsList-at c.filter.ensures.source (YieldsList-from_slice c.args.spots.now cc))
+    (YieldsList-from_filter _ (λ p. eqb ((by_place c.args.rows.now.image.now).owner p) c.args.file) (YieldsList-at c.filter.ensures.source (YieldsList-from_slice c.args.rows.now.spots.now cc))
     c.filter.ensures.closure (λ x b q k. search (rules, tests)))
-    ∙ mine_rows (by_place c.args.image.now) c.args.file c.args.spots.now
+    ∙ mine_rows (by_place c.args.rows.now.image.now) c.args.file c.args.rows.now.spots.now
 
 pub returns-clause-counted : goal.returns-clause-counted
 returns-clause-counted c = λ v rows. counted c
-    ∙ sym (owned_counts (by_place c.args.image.now) v c.args.ids.now c.args.spots.now rows c.requires.pairs c.args.file)
+    ∙ sym (owned_counts (by_place c.args.rows.now.image.now) v c.args.rows.now.ids.now c.args.rows.now.spots.now rows c.args.rows.now.usable.pairs c.args.file)

@@ -40,7 +40,7 @@ loop-end-preserved c =
     let block = own_block t c.args.chain.file c.loop-end.id c.in-Some.p is in
     λ bs e. going_on (c.loop-end.invariant bs e) c.loop-end-test.true c.in-Some.p is
     c.previous_at-id.result c.data_length-n.result _ c.lay.new.buffer c.previous_at-id.ensures c.data_length-n.ensures.told
-    (data_part c.args.image.now c.in-Some.p lies block c.data_length-n.result c.data_length-n.ensures.told) c.lay.ensures
+    (data_part c.args.rows.now.image.now c.in-Some.p lies block c.data_length-n.result c.data_length-n.ensures.told) c.lay.ensures
 
 pub overflow_sub-result : goal.overflow_sub-result
 overflow_sub-result c = (of_blocks _ _ _ _ c.requires.whole c.loop-end.invariant).within

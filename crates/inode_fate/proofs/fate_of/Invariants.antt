@@ -8,5 +8,5 @@ use Rattle.inode_fate.proofs.fate_of.Given as goal
 
 abbrev pub invariant-loop : goal.invariant-loop
 invariant-loop l =
-    fate_within (by_place l.image) (found (length l.ids) l.ids l.spots) (length l.ids - l.counter) l.at
-    ≡ fate_by (by_place l.image) (length l.ids) l.ids l.spots l.id
+    fate_within (by_place l.rows.image.now) (found (length l.rows.ids.now) l.rows.ids.now l.rows.spots.now) (length l.rows.ids.now - l.counter) l.at
+    ≡ fate_by (by_place l.rows.image.now) (length l.rows.ids.now) l.rows.ids.now l.rows.spots.now l.id

@@ -10,8 +10,8 @@ use Rattle.inode_fate.proofs.live_count.Goals as goal
 pub returns : goal.returns
 unfolding live_rows
 returns c =
-    let ids = c.args.ids.now in
-    let live = live_by (by_place c.args.image.now) (length ids) ids c.args.spots.now in
+    let ids = c.args.rows.now.ids.now in
+    let live = live_by (by_place c.args.rows.now.image.now) (length ids) ids c.args.rows.now.spots.now in
     count_from_yields_List c.filter.result c.count.result c.count.ensures.ran
     (YieldsList-from_filter _ live (YieldsList-at c.filter.ensures.source (YieldsList-from_slice ids cc))
     c.filter.ensures.closure (λ x r q k. search (rules, tests)))

@@ -9,5 +9,5 @@ use Rattle.inode_lineage.proofs.in_lineage.Given as goal
 
 abbrev pub invariant-loop : goal.invariant-loop
 invariant-loop l =
-    is_among l.sought (chain_within (by_place l.image) (found (length l.ids) l.ids l.spots) (length l.ids - l.counter) l.at)
-    ≡ is_among l.sought (lineage_by (by_place l.image) (length l.ids) l.ids l.spots l.id)
+    is_among l.sought (chain_within (by_place l.rows.image.now) (found (length l.rows.ids.now) l.rows.ids.now l.rows.spots.now) (length l.rows.ids.now - l.counter) l.at)
+    ≡ is_among l.sought (lineage_by (by_place l.rows.image.now) (length l.rows.ids.now) l.rows.ids.now l.rows.spots.now l.id)

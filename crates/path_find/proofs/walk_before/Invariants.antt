@@ -9,7 +9,7 @@ use Rattle.path_find.proofs.walk_before.Given as goal
 
 abbrev pub invariant-loop-w : goal.invariant-loop-w
 invariant-loop-w l =
-    Toward l.base l.path l.w × ((v : Volume ℕ) → InodesOf l.image l.ids l.spots v → Along (by_place l.image) v l.base l.path l.w l.at)
+    Toward l.base l.path l.w × ((v : Volume ℕ) → InodesOf l.rows.image.now l.rows.ids.now l.rows.spots.now v → Along (by_place l.rows.image.now) v l.base l.path l.w l.at)
 
 abbrev pub decreases-loop-w : goal.decreases-loop-w
 decreases-loop-w l = length (names_from l.base l.path l.w)

@@ -9,6 +9,6 @@ use Rattle.path_walk.proofs.next_child.Given as goal
 
 abbrev pub invariant-loop-row : goal.invariant-loop-row
 invariant-loop-row l =
-    (v : Volume _) → InodesOf l.image l.ids l.spots v
-    → l.from + first_of (is_child (by_place l.image) v l.directory l.name) (drop l.from l.ids)
-    ≡ l.row + first_of (is_child (by_place l.image) v l.directory l.name) (drop l.row l.ids)
+    (v : Volume _) → InodesOf l.rows.image.now l.rows.ids.now l.rows.spots.now v
+    → l.from + first_of (is_child (by_place l.rows.image.now) v l.directory l.name) (drop l.from l.rows.ids.now)
+    ≡ l.row + first_of (is_child (by_place l.rows.image.now) v l.directory l.name) (drop l.row l.rows.ids.now)

@@ -11,8 +11,8 @@ use Rattle.path_walk.proofs.resolve.Given as goal
 abbrev pub invariant-loop-w : goal.invariant-loop-w
 invariant-loop-w l =
     Reached l.base l.path l.w
-    × ((v : Volume _) → InodesOf l.image l.ids l.spots v
-    → walk (by_place l.image) v l.at (names_from l.base l.path l.w) ≡ lookup_names (by_place l.image) v (path_names l.base l.path))
+    × ((v : Volume _) → InodesOf l.rows.image.now l.rows.ids.now l.rows.spots.now v
+    → walk (by_place l.rows.image.now) v l.at (names_from l.base l.path l.w) ≡ lookup_names (by_place l.rows.image.now) v (path_names l.base l.path))
 
 abbrev pub decreases-loop-w : goal.decreases-loop-w
 decreases-loop-w l = length (names_from l.base l.path l.w)

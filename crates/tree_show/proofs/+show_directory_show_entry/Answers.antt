@@ -17,12 +17,12 @@ down n t e h = let p = pos_of_ne-zero h in omega arith
 pub show_directory-returns-then-levels-eq0-clause-told : goal.show_directory-returns-then-levels-eq0-clause-told
 show_directory-returns-then-levels-eq0-clause-told t c =
     let a = c.args in
-    deeper_shown a.image.now a.ids.now a.spots.now a.order.now a.directory a.levels c.if-levels-eq0.true a.text.now a.cursor _ _ c.show_deeper-at.ensures.told
+    deeper_shown a.rows.now.image.now a.rows.now.ids.now a.rows.now.spots.now a.order.now a.directory a.levels c.if-levels-eq0.true a.text.now a.cursor _ _ c.show_deeper-at.ensures.told
 
 pub show_directory-loop-p-init : goal.show_directory-loop-p-init
 show_directory-loop-p-init t c =
     let a = c.args in
-    walking_begins a.image.now a.ids.now a.spots.now a.order.now a.directory a.levels c.if-levels-eq0.false a.text.now a.cursor
+    walking_begins a.rows.now.image.now a.rows.now.ids.now a.rows.now.spots.now a.order.now a.directory a.levels c.if-levels-eq0.false a.text.now a.cursor
 
 pub show_directory-link_at-requires : goal.show_directory-link_at-requires
 show_directory-link_at-requires t c = (c.requires.showable.inodes _ (get_or_mem c.args.order.now c.loop-p.p-index 0 c.loop-p-test.true)).0
@@ -57,17 +57,17 @@ show_directory-returns-clause-told t c = walking_ends c.loop-p.invariant c.loop-
 pub show_entry-returns-then-cursor-eq0-clause-told : goal.show_entry-returns-then-cursor-eq0-clause-told
 show_entry-returns-then-cursor-eq0-clause-told t c =
     let a = c.args in
-    entry_none a.image.now a.ids.now a.spots.now a.order.now a.p a.levels a.text.now a.cursor c.if-cursor-eq0.true
+    entry_none a.rows.now.image.now a.rows.now.ids.now a.rows.now.spots.now a.order.now a.p a.levels a.text.now a.cursor c.if-cursor-eq0.true
 
 pub show_entry-returns-then-is_directory_id-clause-told : goal.show_entry-returns-then-is_directory_id-clause-told
 show_entry-returns-then-is_directory_id-clause-told t c =
     let a = c.args in
     let e = c.id_at-entry.ensures in
-    entry_directory a.image.now a.p a.levels (pos_of_ne-zero c.if-cursor-eq0.false) refl (λ v l counts. c.show_line-at.ensures.told v l.blocks counts)
+    entry_directory a.rows.now.image.now a.p a.levels (pos_of_ne-zero c.if-cursor-eq0.false) refl (λ v l counts. c.show_line-at.ensures.told v l.blocks counts)
     (ap is_directory_id (sym e) ∙ sym c.is_directory_id.ensures ∙ c.if-is_directory_id.true) _ _ (rw e at c.show_directory.ensures.told)
 
 pub show_entry-returns-clause-told : goal.show_entry-returns-clause-told
 show_entry-returns-clause-told t c =
     let a = c.args in
-    entry_file a.image.now a.p a.levels (pos_of_ne-zero c.if-cursor-eq0.false) refl (λ v l counts. c.show_line-at.ensures.told v l.blocks counts)
+    entry_file a.rows.now.image.now a.p a.levels (pos_of_ne-zero c.if-cursor-eq0.false) refl (λ v l counts. c.show_line-at.ensures.told v l.blocks counts)
     (ap is_directory_id (sym c.id_at-entry.ensures) ∙ sym c.is_directory_id.ensures ∙ c.if-is_directory_id.false)

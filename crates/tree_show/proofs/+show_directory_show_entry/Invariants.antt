@@ -11,4 +11,4 @@ abbrev pub decreases-show_entry : goal.decreases-show_entry
 decreases-show_entry l = l.levels + l.levels + 1
 
 abbrev pub invariant-show_directory-loop-p : goal.invariant-show_directory-loop-p
-invariant-show_directory-loop-p l = Walking l.image l.ids l.spots l.order l.directory l.levels l.initial.text l.initial.c l.text l.c l.p-index
+invariant-show_directory-loop-p l = Walking l.rows.image.now l.rows.ids.now l.rows.spots.now l.order l.directory l.levels l.initial.text l.initial.c l.text l.c l.p-index
