@@ -8,7 +8,7 @@ use calls::{Created, Descriptor, FILE, Handle, ReadAnswer, number};
 // Prints the answer of a call.
 fn show(call: &[u8], number: u32) {
     io::write_all(1, call);
-    io::print_decimal(1, number as u64);
+    io::print_decimal(1, u64::from(number));
     io::write_all(1, b"\n");
 }
 

@@ -14,7 +14,7 @@ const MOST_FILLS: u64 = 0xffff_ffff;
 // Prints a word and a number.
 fn show(word: &[u8], n: u32) {
     io::write_all(1, word);
-    io::print_decimal(1, n as u64);
+    io::print_decimal(1, u64::from(n));
 }
 
 // Reads standard input up to its end, or until the buffer is full, and answers how many bytes came.
