@@ -49,6 +49,10 @@ def step(name, operands):
     by = re.match(r"\$(-?0x[0-9a-f]+),%rsp$", operands)
     if name in ("sub", "add") and by:
         return int(by.group(1), 16) * (1 if name == "sub" else -1)
+    # an `add` that leaves the flags as they are
+    by = re.match(r"(-?0x[0-9a-f]+)\(%rsp\),%rsp$", operands)
+    if name == "lea" and by:
+        return -int(by.group(1), 16)
     if operands.endswith(",%rsp") and name not in ("cmp", "test"):
         sys.exit(f"the stack pointer is set in a way that is not known: {name} {operands}")
     return 0

@@ -58,7 +58,9 @@ pub fn print(text: &mut [u8], at: usize, name: &[u8]) -> usize
     at + name.len()
 }
 
-// Spells a number from its last digit on, and answers where its first one stands.
+// Spells a number from its last digit on, and answers where its first one stands. It is never inlined: what calls nothing would keep the digits below
+// the stack pointer, where the handler of an interrupt may write.
+#[inline(never)]
 fn spell(n: u32, digits: &mut [u8; DIGITS]) -> usize
     ensures within { result ≤ 10 }
     ensures spelt { drop result digits.new ≡ decimal n }
