@@ -44,7 +44,7 @@ fn show_ordered(
     ensures told { (v : Volume ℕ) → Lists blocks.now.image.now blocks.now.ids.now blocks.now.spots.now (sort (place_before blocks.now.image.now) inodes.now) v → inode_of (by_place blocks.now.image.now) v root_id ≡ some root → length (ids_shown (show_directory (by_place blocks.now.image.now) v most_depth root_id)) ≤ length inodes.now → Wrote text.old 0 (tree_text (by_place blocks.now.image.now) v) text.new result }
 {
     let n = inodes.len();
-    order_inodes(blocks.image, inodes, &mut *order);
+    order_inodes(blocks.image, inodes, order);
     show_tree(blocks, &order[..n], text, root)
 }
 

@@ -37,7 +37,7 @@ fn lay(text: &[u8], begin: usize, from: usize, buffer: &mut [u8])
     if to < buffer.len() {
         let skip = from.saturating_sub(begin);
         let end = skip + (text.len() - skip).min(buffer.len() - to);
-        put(&mut *buffer, to, &text[skip..end]);
+        put(buffer, to, &text[skip..end]);
     }
 }
 
@@ -61,7 +61,7 @@ fn follow(rows: &TakenRows<'_>, chain: Chain, from: usize, buffer: &mut [u8]) ->
         let start = p as usize + BlockHeader::SIZE;
         let stop = start + n;
         end -= n;
-        lay(&rows.image[start..stop], end, from, &mut *buffer);
+        lay(&rows.image[start..stop], end, from, buffer);
         id = previous_at(rows.image, p);
         left -= 1;
     }
@@ -111,7 +111,7 @@ pub fn read_file(
             headers: 0,
         });
     }
-    let headers = follow(rows, chain, from, &mut *buffer);
+    let headers = follow(rows, chain, from, buffer);
     Ok(BytesRead {
         given: given as u32,
         headers: headers as u32,

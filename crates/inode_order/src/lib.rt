@@ -79,6 +79,6 @@ pub fn order_inodes(image: &[u8], spots: &[u32], order: &mut [u32])
     for count in 0..n {
         let p = spots[n - 1 - count];
         let at = place_for(image, &order[..count], p);
-        insert_at(&mut *order, count, at, p);
+        insert_at(order, count, at, p);
     }
 }

@@ -92,7 +92,7 @@ fn tabulate(
     if is_block_at(image, p) {
         return update(
             image,
-            &mut *bwords,
+            bwords,
             &mut ids[INODE_INDEX..ID_INDEX],
             &mut rows[INODE_ROWS..ALL_ROWS],
             MOST_BLOCKS,
@@ -101,7 +101,7 @@ fn tabulate(
     }
     update(
         image,
-        &mut *iwords,
+        iwords,
         &mut ids[0..INODE_INDEX],
         &mut rows[0..INODE_ROWS],
         MOST_INODES,
@@ -131,12 +131,12 @@ pub fn gather(
     let mut agreed = true;
     for i in 0..n {
         let p = u32::from(places[i]);
-        match tabulate(image, &mut *iwords, &mut *bwords, &mut *ids, &mut *rows, p) {
+        match tabulate(image, iwords, bwords, ids, rows, p) {
             Updated::Full => return Err(Refusal::TooManyIds),
             Updated::Newer => {}
-            Updated::Older => agreed = still_agree(image, places, &*twins, i, p, agreed),
+            Updated::Older => agreed = still_agree(image, places, twins, i, p, agreed),
         }
-        put(&mut *twins, twin_slot(image, p), i + 1);
+        put(twins, twin_slot(image, p), i + 1);
     }
     if agreed {
         Ok(())

@@ -39,8 +39,8 @@ pub fn update(
     ensures indexed { IndexedPart most words.new index.new rows.new }
 {
     let id = id_at(image, p);
-    let n = first_free(&*words);
-    let k = row_of(&*index, &*rows, n, id);
+    let n = first_free(words);
+    let k = row_of(index, rows, n, id);
     if k < n {
         if sequence_at(image, rows[most + k]) < sequence_at(image, p) {
             rows[most + k] = p;
@@ -51,8 +51,8 @@ pub fn update(
     if n < most {
         rows[n] = id;
         rows[most + n] = p;
-        occupy(&mut *words, n);
-        put(&mut *index, slot_of(id as usize), n + 1);
+        occupy(words, n);
+        put(index, slot_of(id as usize), n + 1);
         return Updated::Newer;
     }
     Updated::Full
