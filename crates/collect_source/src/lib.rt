@@ -18,7 +18,7 @@ use table_words::position;
 fn precedes(a: u8, b: u8) -> bool
     ensures { result ≡ precedes a b }
 {
-    let n = b.wrapping_sub(a);
+    let n = (u32::from(b) + 256 - u32::from(a)) % 256;
     1 <= n && n <= 127
 }
 

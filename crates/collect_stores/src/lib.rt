@@ -28,7 +28,7 @@ use record_places::size_at;
 fn next_count(count: u8) -> u8
     ensures { result ≡ next_count count }
 {
-    count.wrapping_add(1)
+    if count == u8::MAX { 0 } else { count + 1 }
 }
 
 // Whether the records at some places can be stored behind an area's header, one behind the other: the area has room for them, and none of
