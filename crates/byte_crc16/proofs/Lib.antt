@@ -1,2 +1,3 @@
 -- The laws that only this crate's functions cite.
 pub mod Chunks
+pub mod Rules

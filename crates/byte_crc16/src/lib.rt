@@ -5,6 +5,7 @@ mod tables;
 
 ghost use Rattle.std.specs.Prelude.{◌≡◌};
 ghost use Rattle.format.specs.Crc.{crc_over, check};
+ghost use Rattle.crc_laws.specs.Table.{TableOf, high_later, low_later};
 
 use crc16_register::{four, one, two};
 use tables::{HIGH, LOW};
@@ -25,9 +26,25 @@ fn two_a_turn(start: u16, s: &[u8]) -> u16
     r
 }
 
-// The register after the bytes of `s`, four a turn; who checks a body in parts goes on from one to the next. The proof tests each entry of the tables,
-// which are statics, since no compiled code copies those.
-#[tactic(auto, using(crate::proofs::Chunks::four_chunk))]
+// The table of the register's high byte, as a copy.
+#[tactic(auto, using(crate::proofs::Rules::high_rule))]
+pub fn high_table() -> [u16; 256]
+    ensures { TableOf high_later result }
+{
+    HIGH
+}
+
+// The table of its low byte, as a copy.
+#[tactic(auto, using(crate::proofs::Rules::low_rule))]
+pub fn low_table() -> [u16; 256]
+    ensures { TableOf low_later result }
+{
+    LOW
+}
+
+// The register after the bytes of `s`, four a turn; who checks a body in parts goes on from one to the next. The tables are statics, since no compiled
+// code copies those.
+#[tactic(auto, using(crate::proofs::Chunks::four_chunk, crate::proofs::Rules::high_rule, crate::proofs::Rules::low_rule))]
 pub fn over(start: u16, s: &[u8]) -> u16
     ensures { result ≡ crc_over start s.now }
 {

@@ -25,7 +25,7 @@ fn remainder(x: u16) -> u16
 
 // The register `x` four bytes later, by the tables of its high byte and of its low one.
 #[tactic(auto, using(crc_laws::proofs::Table::four_later))]
-fn later(high: &[u16; 256], low: &[u16; 256], x: u16) -> u16
+fn later(high: &[u16], low: &[u16], x: u16) -> u16
     requires { Tables high.now low.now }
     ensures { result ≡ crc_bits 32 x }
 {
@@ -50,7 +50,7 @@ pub fn two(r: u16, b: u8, c: u8) -> u16
 
 // The register after four bytes.
 #[tactic(auto, using(crc_laws::specs::Bytes::four_bytes))]
-pub fn four(high: &[u16; 256], low: &[u16; 256], r: u16, b: u8, c: u8, d: u8, e: u8) -> u16
+pub fn four(high: &[u16], low: &[u16], r: u16, b: u8, c: u8, d: u8, e: u8) -> u16
     requires { Tables high.now low.now }
     ensures { result ≡ crc_byte (crc_byte (crc_byte (crc_byte r b) c) d) e }
 {
