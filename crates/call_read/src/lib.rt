@@ -5,11 +5,11 @@ ghost use Rattle.std.specs.Prelude.{◌≡◌, List};
 ghost use Rattle.calls.specs.Answers.{read_seen};
 ghost use Rattle.calls.specs.Lookup.{kind_of, lookup_answer, file_only, open_answer};
 ghost use Rattle.calls.specs.declared.Descriptor.{Descriptor};
-ghost use Rattle.path_walk.specs.Resolved.{meaning};
+ghost use Rattle.path_walk.specs.Resolved.{meaning_by};
 ghost use Rattle.mount_state.specs.State.{Safe, Holds};
 ghost use Rattle.call_read.specs.Reads.{Reads};
 
-use calls::{BytesRead, DIRECTORY, FILE, Lookup, Opened, Refusal};
+use calls::{BytesRead, DIRECTORY, FILE, Lookup, Numbered, Opened, Refusal};
 use file_read::read_file;
 use mount_state::Mounted;
 use path_walk::is_live;
@@ -35,8 +35,8 @@ fn looked_up(id: u32) -> Lookup
 }
 
 // The answer of a lookup: id and kind of what was found.
-pub fn lookup_answer(found: Result<u32, Refusal>) -> Lookup
-    ensures { result ≡ lookup_answer (meaning found) }
+pub fn lookup_answer<R: Numbered>(found: Result<u32, R>) -> Lookup
+    ensures { result ≡ lookup_answer (meaning_by R.code found) }
 {
     match found {
         Ok(id) => looked_up(id),
@@ -44,16 +44,6 @@ pub fn lookup_answer(found: Result<u32, Refusal>) -> Lookup
             number: refusal.number(),
             ..Lookup::default()
         },
-    }
-}
-
-// The file that was found: a directory cannot be opened.
-fn file_only(found: Result<u32, Refusal>) -> Result<u32, Refusal>
-    ensures { meaning result ≡ file_only (meaning found) }
-{
-    match found {
-        Ok(id) if is_directory_id(id) => Err(Refusal::WrongKind),
-        _ => found,
     }
 }
 
@@ -68,16 +58,24 @@ fn opened(id: u32) -> Opened
     }
 }
 
-// The answer of an open: a handle at the start of the file that was found.
-pub fn open_answer(found: Result<u32, Refusal>) -> Opened
-    ensures { result ≡ open_answer (file_only (meaning found)) }
+// The answer of a refused open.
+fn not_opened<R: Numbered>(refusal: R) -> Opened
+    ensures { result ≡ record { number = R.code refusal; id = 0; position = 0 } }
 {
-    match file_only(found) {
+    Opened {
+        number: refusal.number(),
+        ..Opened::default()
+    }
+}
+
+// The answer of an open: a handle at the start of the file that was found. A directory cannot be opened.
+pub fn open_answer<R: Numbered>(found: Result<u32, R>) -> Opened
+    ensures { result ≡ open_answer (file_only (meaning_by R.code found)) }
+{
+    match found {
+        Ok(id) if is_directory_id(id) => not_opened(Refusal::WrongKind),
         Ok(id) => opened(id),
-        Err(refusal) => Opened {
-            number: refusal.number(),
-            ..Opened::default()
-        },
+        Err(refusal) => not_opened(refusal),
     }
 }
 

@@ -1,9 +1,10 @@
 // The limits, the numbers of refusal and the answers of the calls, as constants and types; what each call answers is defined in specs/.
 #![tactic(auto)]
 
-ghost use Rattle.std.specs.Prelude.{◌≡◌};
+ghost use Rattle.std.specs.Prelude.{ℕ, ◌≡◌};
 ghost use Rattle.calls.specs.Attempt.{number_of};
 ghost use Rattle.calls.specs.Outcome.{code, outcome_of};
+ghost use Rattle.calls.specs.Report.{refused_report};
 ghost use Rattle.calls.specs.Answers.{report_seen, area_report_seen, read_seen, tree_seen, created_seen};
 
 // The limits, of document 01 and by T-06: areas of a list, places of the tables, the shortest area, the largest image.
@@ -164,6 +165,30 @@ impl Refusal {
     }
 }
 
+// What a call is refused by: one of the refusals, or a number itself.
+pub trait Numbered {
+    ghost code: { Self → ℕ };
+
+    fn number(self) -> u32
+        ensures { result ≡ code self };
+}
+
+impl Numbered for Refusal {
+    ghost code = { code };
+
+    fn number(self) -> u32 {
+        Refusal::number(self)
+    }
+}
+
+impl Numbered for u32 {
+    ghost code = { λ number. number };
+
+    fn number(self) -> u32 {
+        self
+    }
+}
+
 // The number of a call that answers nothing else.
 pub fn number(outcome: Result<(), Refusal>) -> u32
     ensures { result ≡ number_of (outcome_of outcome) }
@@ -174,16 +199,48 @@ pub fn number(outcome: Result<(), Refusal>) -> u32
     }
 }
 
+// A refused report.
+pub fn refused_report(number: u32) -> Report
+    ensures { result ≡ refused_report number }
+{
+    Report {
+        number,
+        ..Report::default()
+    }
+}
+
+// The answer of a refused read.
+pub fn not_read(number: u32) -> ReadAnswer
+    ensures { result ≡ record { number = number; given = 0; headers = 0 } }
+{
+    ReadAnswer {
+        number,
+        given: 0,
+        headers: 0,
+    }
+}
+
+// A refused listing.
+pub fn not_listed(number: u32) -> TreeAnswer
+    ensures { result ≡ record { number = number; length = 0 } }
+{
+    TreeAnswer { number, length: 0 }
+}
+
+// The answer of a refused create.
+pub fn not_created(number: u32) -> Created
+    ensures { result ≡ record { number = number; id = 0 } }
+{
+    Created { number, id: 0 }
+}
+
 impl From<Result<Report, Refusal>> for Report {
     ghost from_gives = { λ outcome answer. answer ≡ report_seen outcome };
 
     fn from(outcome: Result<Report, Refusal>) -> Report {
         match outcome {
             Ok(report) => report,
-            Err(refusal) => Report {
-                number: refusal.number(),
-                ..Report::default()
-            },
+            Err(refusal) => refused_report(refusal.number()),
         }
     }
 }
@@ -212,10 +269,7 @@ impl From<Result<BytesRead, Refusal>> for ReadAnswer {
                 given,
                 headers,
             },
-            Err(refusal) => ReadAnswer {
-                number: refusal.number(),
-                ..ReadAnswer::default()
-            },
+            Err(refusal) => not_read(refusal.number()),
         }
     }
 }
@@ -226,10 +280,7 @@ impl From<Result<u32, Refusal>> for TreeAnswer {
     fn from(outcome: Result<u32, Refusal>) -> TreeAnswer {
         match outcome {
             Ok(length) => TreeAnswer { number: 0, length },
-            Err(refusal) => TreeAnswer {
-                number: refusal.number(),
-                ..TreeAnswer::default()
-            },
+            Err(refusal) => not_listed(refusal.number()),
         }
     }
 }
@@ -240,10 +291,7 @@ impl From<Result<u32, Refusal>> for Created {
     fn from(outcome: Result<u32, Refusal>) -> Created {
         match outcome {
             Ok(id) => Created { number: 0, id },
-            Err(refusal) => Created {
-                number: refusal.number(),
-                ..Created::default()
-            },
+            Err(refusal) => not_created(refusal.number()),
         }
     }
 }

@@ -23,10 +23,13 @@ only_of Nobody = nobody
 only_of Several = several
 only_of (One i) = one i
 
--- what an answer of `resolve` says: the id of an inode
+-- what an answer of `resolve` says: the id of an inode, or why there is none, by the numbers of what it is refused by
+abbrev pub meaning_by : {R : Type 0} → (R → ℕ) → Result ℕ R → Found
+meaning_by number (Ok i) = found i
+meaning_by number (Err r) = absent (number r)
+
 abbrev pub meaning : Result ℕ Refusal → Found
-meaning (Ok i) = found i
-meaning (Err r) = absent (code r)
+meaning = meaning_by code
 
 -- one step of a walk: where a name leads from d
 abbrev pub step_of : View ℕ → Volume ℕ → ℕ → Bytes → Found
