@@ -100,10 +100,10 @@ module _ (area : Bytes) (k at : ℕ) (d : Damage) (g : Read area k at d) where
     unfolding next_record
     seen = found (drop at area) at f e
 
-    next_after : at ≤ f.at
+    pub next_after : at ≤ f.at
     next_after = omega (arith, seen.at_gap)
 
-    next_within : f.at + f.size ≤ length area
+    pub next_within : f.at + f.size ≤ length area
     next_within = omega (arith, seen.at_gap, seen.within, length-drop at area, g.within)
 
     gap_long : length (take seen.gap (drop at area)) ≡ seen.gap

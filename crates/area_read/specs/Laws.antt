@@ -72,7 +72,7 @@ abbrev pub Searched : Bytes → ℕ → Option Next → Type 0
 Searched t p None = parts record_size t 0 ≡ passed t []
 Searched t p (Some f) = Found t p f
 
-searched : (t : Bytes) (p : ℕ) → Searched t p (search t p)
+pub searched : (t : Bytes) (p : ℕ) → Searched t p (search t p)
 unfolding search passed
 searched [] p = parts_none record_size
 searched (b ∷ t) p = go (record_size (b ∷ t)) refl (searched t (suc p))
