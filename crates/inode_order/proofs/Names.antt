@@ -1,5 +1,5 @@
 -- Names in the image, and two of them compared byte by byte.
-use Rattle.std.specs.Prelude.{Some, ℕ, ◌+◌, ◌-◌, ◌≤◌, ◌<◌, ◌≡◌, refl, ◌&&◌, ◌||◌, List, [], ◌∷◌, length, take, drop, ltb}
+use Rattle.std.specs.Prelude.{ℕ, ◌+◌, ◌-◌, ◌≤◌, ◌<◌, ◌≡◌, refl, ◌&&◌, ◌||◌, List, [], ◌∷◌, length, take, drop, ltb}
 use Rattle.std.proofs.Common.{arith, length-take, length-drop}
 use Rattle.std.proofs.lemmas.Bool.Decides.{nat_tests}
 use Rattle.format.specs.Bytes.{Bytes, byte_at}
@@ -10,8 +10,8 @@ use Rattle.volume_laws.specs.Sort.{Order, bytes_then_number}
 use Rattle.record_places.specs.Place.{by_place, size_at, Lies}
 use Rattle.record_places.specs.Laws.{size_inode, size_least}
 use Rattle.table_rows.specs.Rows.{InodeTable}
-use Rattle.std.specs.Ordering.{nat_cmp, is_lt, is_some_and, partial_ordering_then}
-use Rattle.std.specs.Cmp.Lexicographic.{slice_partial_cmp}
+use Rattle.std.specs.Ordering.{nat_cmp, is_lt, ordering_then}
+use Rattle.std.specs.Cmp.Lexicographic.{slice_cmp}
 use Rattle.inode_order.specs.Order.{place_before, InodeAt, Inodes}
 
 -- ---- one name
@@ -36,8 +36,7 @@ name_lent image p h n e =
 
 -- ---- two names, and then two numbers, as the library compares them
 
-names_less : (l m : Bytes) (x y : ℕ) → is_some_and is_lt (partial_ordering_then (slice_partial_cmp (λ u v. Some (nat_cmp u v)) l m) (Some (nat_cmp x y)))
-    ≡ (bytes_before l m || (same l m && ltb x y))
+names_less : (l m : Bytes) (x y : ℕ) → is_lt (ordering_then (slice_cmp nat_cmp l m) (nat_cmp x y)) ≡ (bytes_before l m || (same l m && ltb x y))
 unfolding bytes_before same
 names_less [] [] x y = grind (arith, nat_tests)
 names_less [] (v ∷ m) x y = refl
@@ -46,9 +45,8 @@ names_less (u ∷ l) (v ∷ m) x y = grind (arith, nat_tests, names_less l m x y
 
 -- ---- two inodes
 
-pub place_less : (image : Bytes) (p q : ℕ) → is_some_and is_lt (partial_ordering_then
-    (slice_partial_cmp (λ u v. Some (nat_cmp u v)) ((by_place image).name p) ((by_place image).name q))
-    (Some (nat_cmp ((by_place image).id p) ((by_place image).id q)))) ≡ place_before image p q
+pub place_less : (image : Bytes) (p q : ℕ) → is_lt (ordering_then (slice_cmp nat_cmp ((by_place image).name p) ((by_place image).name q))
+    (nat_cmp ((by_place image).id p) ((by_place image).id q))) ≡ place_before image p q
 unfolding place_before
 place_less image p q = names_less ((by_place image).name p) ((by_place image).name q) ((by_place image).id p) ((by_place image).id q)
 

@@ -36,7 +36,9 @@ fn comes_before(image: &[u8], p: u32, q: u32) -> bool
     requires inode_at_2 { InodeAt image.now q }
     ensures { result ≡ place_before image.now p q }
 {
-    (name_at(image, p), id_at(image, p)) < (name_at(image, q), id_at(image, q))
+    (name_at(image, p), id_at(image, p))
+        .cmp(&(name_at(image, q), id_at(image, q)))
+        .is_lt()
 }
 
 // Where the inode at `p` goes among those in order: before the first that it comes before, found by halves.
