@@ -74,7 +74,7 @@ fn by_four(r: u16, bytes: &[u8]) -> u16 {
     by_table(r, rest)
 }
 
-/// Without a table, as the proved check takes short slices: two zero bytes behind `x`, divided by the polynomial, and what is left.
+/// Without a table, as the proved check takes what its turns of four bytes leave: two zero bytes behind `x`, divided by the polynomial, and what is left.
 fn remainder(x: u16) -> u16 {
     let sum = x ^ x >> 8;
     let quotient = sum ^ sum >> 4 ^ x >> 11;
@@ -132,7 +132,7 @@ fn checks() -> Vec<(&'static str, Check)> {
 }
 
 /// Bytes in front of the check field and in the body. 18 in front: an inode's record with a name of 2 bytes; else a block's, of which the longest
-/// that there is has 2,070 covered bytes. With 24 bytes the proved check begins to use its tables.
+/// that there is has 2,070 covered bytes. The proved check uses its tables for each four bytes of a part, so for every front here.
 const PARTS: [(usize, usize); 7] = [(18, 2), (22, 22), (22, 24), (22, 40), (22, 106), (22, 1002), (22, 2050)];
 const ROUNDS: usize = 400;
 /// So many bytes are checked between two looks at the clock.
