@@ -88,8 +88,13 @@ root_found image ds e z =
     omega (arith, c)
 
 -- a refused mount is passed on, and nothing is written
-pub tree_refused : (image : Bytes) (ds : List Descriptor) (r : Refusal) → code r ≡ mount_number image ds → (x : Bytes) → Answers image ds x x (tree_seen (Err r))
+pub tree_refused : {image : Bytes} {ds : List Descriptor} {n : ℕ} → n ≡ mount_number image ds → n ≢ 0 → (x : Bytes)
+    → Answers image ds x x (record { number = n; length = 0 })
 unfolding attempt_tree tree_answer buffer_with
-tree_refused image ds r e x =
-    let z : eqb (mount_number image ds) 0 ≡ false = ne_eqb (mount_number image ds) 0 (λ q. code_nonzero r (e ∙ q)) in
+tree_refused {image} {ds} {n} e h x =
+    let z : eqb (mount_number image ds) 0 ≡ false = ne_eqb (mount_number image ds) 0 (λ q. h (e ∙ q)) in
     record { answer = rw (attempt_tree, z, ← e); buffer = rw (attempt_tree, z) }
+
+-- and so is a refusal by its name
+pub refusal_passed : (image : Bytes) (ds : List Descriptor) (r : Refusal) → code r ≡ mount_number image ds → (x : Bytes) → Answers image ds x x (tree_seen (Err r))
+refusal_passed image ds r e x = tree_refused e (code_nonzero r) x

@@ -35,7 +35,9 @@ fn holds(image: &[u8], id: u32, block: bool, near: bool, q: u32) -> bool
     !block && link_at(image, q) == id
 }
 
-// Whether no record keeps the dead record of an id.
+// Whether no record keeps the dead record of an id. It is never inlined: a loop over every record for each dead one, it keeps its bounds in registers
+// only by itself.
+#[inline(never)]
 fn is_unheld(image: &[u8], offset: u32, span: u32, places: &[u16], id: u32, block: bool) -> bool
     requires { AllLie image.now places.now (length places.now) }
     ensures { result ≡ unheld image.now offset span places.now id block }
