@@ -30,7 +30,9 @@ fn name_at(image: &[u8], p: u32) -> &[u8]
     &image[start..end]
 }
 
-// Whether the inode at `p` comes before the one at `q`.
+// Whether the inode at `p` comes before the one at `q`. It is never inlined: `place_for` then branches by its answer, and goes on reading before it
+// has it.
+#[inline(never)]
 fn comes_before(image: &[u8], p: u32, q: u32) -> bool
     requires inode_at { InodeAt image.now p }
     requires inode_at_2 { InodeAt image.now q }
